@@ -1,0 +1,12 @@
+//! Plain types that all crates share: bytes, texts, places, limits, and the kinds of refusals and errors.
+#![tactic(auto)]
+
+mod bytes;
+mod kinds;
+mod places;
+mod text;
+
+pub use bytes::{ByteList, NoMemory};
+pub use kinds::{BKind, MKind, PKind};
+pub use places::{Diag, Limits, ParseError, Place, Span};
+pub use text::Text;
