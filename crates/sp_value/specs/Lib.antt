@@ -1,0 +1,5 @@
+pub mod Number
+pub mod Tree
+pub mod TreeFalls
+pub mod TreeView
+pub mod Value

@@ -1,0 +1,12 @@
+//! Values, their numbers, and the events that a run tells.
+#![tactic(auto)]
+
+mod event;
+mod number;
+mod tree;
+mod value;
+
+pub use event::{Event, Events, Path, What};
+pub use number::read_int;
+pub use tree::{Node, Tree};
+pub use value::Value;
