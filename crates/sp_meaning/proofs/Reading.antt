@@ -1,0 +1,107 @@
+-- How the reading of fields goes on when bytes are there, and how it continues on more bytes.
+use Rattle.std.proofs.Common.{◌≡◌, ◌≢◌, ◌≤◌, ◌<◌, ◌+◌, ◌-◌, ℕ, List, [], ◌∷◌, ◌++◌, length, take, drop, Bool, true, false, cond, leb, sym, ap, subst, ◌∙◌, refl, append_assoc, arith, ⊎_elim, lit<}
+use Rattle.std.proofs.lemmas.List.{append-nil, take-append-le, drop-append-le, length-append, length-drop}
+use Rattle.std.proofs.lemmas.Bool.{le-leb, lt-leb, cases_lt}
+use Rattle.sp_base.specs.Input.{Close, held_open, ended}
+use Rattle.sp_value.specs.Number.{integer_of}
+use Rattle.sp_value.specs.declared.event.Event.{Event}
+use Rattle.sp_meaning.specs.declared.grammar.Field.{Field}
+use Rattle.sp_meaning.specs.declared.grammar.IntType.{IntType}
+use Rattle.sp_meaning.specs.declared.grammar.IntType.TheVariants.{Uint8, Uint16, Uint32, Uint64}
+use Rattle.sp_meaning.specs.declared.stand.Stand.{Stand}
+use Rattle.sp_meaning.specs.declared.stand.Stand.TheVariants as Stand
+use Rattle.sp_meaning.specs.Width.{width_of}
+use Rattle.sp_meaning.specs.Leaf.{Leaf, got, lacking, integer_leaf}
+use Rattle.sp_meaning.specs.Result.{State, End, fine, failed, need, Result, ends, behind, on_end, if_fine, then_do}
+use Rattle.sp_meaning.specs.Meaning.{stored, field_by, field_means, fields_mean, begun, meaning_by, mean}
+use Rattle.sp_meaning.specs.Steady.{IsSteady}
+
+pub behind-nil : (r : Result) → behind [] r ≡ r
+behind-nil (ends how es st) = refl
+
+pub width_some : (kind : IntType) → 0 < width_of kind
+width_some Uint8 = lit< tt
+width_some Uint16 = lit< tt
+width_some Uint32 = lit< tt
+width_some Uint64 = lit< tt
+
+-- an integer whose bytes are there
+pub leaf_got : (kind : IntType) (xs : List ℕ) (close : Close) → width_of kind ≤ length xs → integer_leaf kind xs close ≡ got (integer_of false false (take (width_of kind) xs))
+leaf_got kind xs close le = ap (λ b. cond b (got (integer_of false false (take (width_of kind) xs))) (lacking close)) (le-leb _ _ le)
+
+-- one whose bytes are not all there
+pub leaf_lacks : (kind : IntType) (xs : List ℕ) (close : Close) → length xs < width_of kind → integer_leaf kind xs close ≡ lacking close
+leaf_lacks kind xs close lt = ap (λ b. cond b (got (integer_of false false (take (width_of kind) xs))) (lacking close)) (lt-leb _ _ lt)
+
+-- the state behind a field whose bytes are there
+abbrev pub after : List ℕ → Field → State → State
+after s f st = stored f (integer_of false false (take (width_of f.kind) (drop st.place s))) st
+
+pub fields_go : (s : List ℕ) (close : Close) (f : Field) (fs : List Field) (st : State) → width_of f.kind ≤ length (drop st.place s)
+    → fields_mean s close (f ∷ fs) st ≡ fields_mean s close fs (after s f st)
+fields_go s close f fs st le =
+    ap (λ leaf. then_do (field_by f leaf st) (fields_mean s close fs)) (leaf_got f.kind (drop st.place s) close le) ∙ behind-nil _
+
+pub fields_lack : (s : List ℕ) (close : Close) (f : Field) (fs : List Field) (st : State) → length (drop st.place s) < width_of f.kind
+    → fields_mean s close (f ∷ fs) st ≡ then_do (field_by f (lacking close) st) (fields_mean s close fs)
+fields_lack s close f fs st lt =
+    ap (λ leaf. then_do (field_by f leaf st) (fields_mean s close fs)) (leaf_lacks f.kind (drop st.place s) close lt)
+
+-- bytes that are there stay when more come
+pub there : (s t : List ℕ) (place w : ℕ) → 0 < w → w ≤ length (drop place s) → take w (drop place (s ++ t)) ≡ take w (drop place s)
+there s t place w some le =
+    let within : place ≤ length s = omega (arith, length-drop place s) in
+    ap (λ xs. take w xs) (drop-append-le place s t within) ∙ take-append-le w (drop place s) t le
+
+pub there_more : (s t : List ℕ) (place w : ℕ) → 0 < w → w ≤ length (drop place s) → w ≤ length (drop place (s ++ t))
+there_more s t place w some le = omega (arith, length-drop place s, length-drop place (s ++ t), length-append s t)
+
+-- what a reading of some bytes, held open, says of the reading of more: where it needed bytes its events
+-- stand at the front, and else it is the same
+abbrev pub Continues : Result → Result → Type 0
+Continues (ends (need mark) es st) r = (more : Result) × (r ≡ behind es more)
+Continues (ends how es st) r = r ≡ ends how es st
+
+pub fields_continue : (s t : List ℕ) (close : Close) (fs : List Field) (st : State) → Continues (fields_mean s held_open fs st) (fields_mean (s ++ t) close fs st)
+fields_continue s t close [] st = refl
+fields_continue s t close (f ∷ fs) st =
+    let whole = fields_mean (s ++ t) close (f ∷ fs) st in
+    ⊎_elim
+    (λ lt. subst (λ r. Continues r whole) (sym (fields_lack s held_open f fs st lt)) (whole, sym (behind-nil whole)))
+    (λ le.
+    let w = width_of f.kind in
+    let some = width_some f.kind in
+    let more : w ≤ length (drop st.place (s ++ t)) = there_more s t st.place w some le in
+    let same : fields_mean (s ++ t) close (f ∷ fs) st ≡ fields_mean (s ++ t) close fs (after s f st) =
+    fields_go (s ++ t) close f fs st more ∙ ap (λ bytes. fields_mean (s ++ t) close fs (stored f (integer_of false false bytes) st)) (there s t st.place w some le)
+    in
+    subst (λ r. Continues r whole) (sym (fields_go s held_open f fs st le))
+    (subst (λ r. Continues (fields_mean s held_open fs (after s f st)) r) (sym same) (fields_continue s t close fs (after s f st))))
+    (cases_lt (length (drop st.place s)) (width_of f.kind))
+
+events_behind : (es : List Event) (r : Result) → (more : List Event) × ((meaning_by (behind es r)).events ≡ es ++ more)
+events_behind es (ends fine fs st) = (_, append_assoc es fs _)
+events_behind es (ends (failed e) fs st) = (_, append_assoc es fs _)
+events_behind es (ends (need mark) fs st) = (fs, refl)
+
+continued_events : (r next : Result) → Continues r next → (more : List Event) × ((meaning_by next).events ≡ (meaning_by r).events ++ more)
+continued_events (ends fine es st) next is = ([], ap (λ r. (meaning_by r).events) is ∙ sym (append-nil _))
+continued_events (ends (failed e) es st) next is = ([], ap (λ r. (meaning_by r).events) is ∙ sym (append-nil _))
+continued_events (ends (need mark) es st) next is =
+    let more = events_behind es is.0 in (more.0, ap (λ r. (meaning_by r).events) is.1 ∙ more.1)
+
+pub is_steady : IsSteady
+is_steady fields s t close = continued_events (fields_mean s held_open fields begun) (fields_mean (s ++ t) close fields begun) (fields_continue s t close fields begun)
+
+continued_final : (r next : Result) → Continues r next → (meaning_by r).stand ≢ Stand.Waiting → meaning_by next ≡ meaning_by r
+continued_final (ends fine es st) next is final = ap meaning_by is
+continued_final (ends (failed e) es st) next is final = ap meaning_by is
+continued_final (ends (need mark) es st) next is final = absurd (final refl)
+
+-- a unit that doesn't wait has the same meaning on all that may follow
+pub is_final : (fields : List Field) (s t : List ℕ) (close : Close) → (mean fields s held_open).stand ≢ Stand.Waiting → mean fields (s ++ t) close ≡ mean fields s held_open
+is_final fields s t close final = continued_final (fields_mean s held_open fields begun) (fields_mean (s ++ t) close fields begun) (fields_continue s t close fields begun) final
+
+-- and at the end of its input
+pub is_final_ended : (fields : List Field) (s : List ℕ) → (mean fields s held_open).stand ≢ Stand.Waiting → mean fields s ended ≡ mean fields s held_open
+is_final_ended fields s final = ap (λ bytes. mean fields bytes ended) (sym (append-nil s)) ∙ is_final fields s [] ended final

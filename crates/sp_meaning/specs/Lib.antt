@@ -1,0 +1,5 @@
+pub mod Leaf
+pub mod Meaning
+pub mod Result
+pub mod Steady
+pub mod Width

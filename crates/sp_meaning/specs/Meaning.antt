@@ -1,0 +1,73 @@
+-- The meaning of a unit on a list of bytes that is held open or ended. It reads the grammar on the whole
+-- list; pieces don't occur in it.
+use Rattle.std.specs.Prelude.{ℕ, ◌+◌, ◌-◌, List, [], ◌∷◌, ◌++◌, length, drop, min, None}
+use Rattle.sp_base.specs.Input.{Close}
+use Rattle.sp_base.specs.declared.kinds.PKind.TheVariants.{Short}
+use Rattle.sp_base.specs.declared.places.ParseError.{ParseError}
+use Rattle.sp_value.specs.Tree.{TreeData, unit, fields_of}
+use Rattle.sp_value.specs.Value.{told_value}
+use Rattle.sp_value.specs.declared.event.Event.{Event}
+use Rattle.sp_value.specs.declared.event.What.{What}
+use Rattle.sp_value.specs.declared.event.What.TheVariants as What
+use Rattle.sp_value.specs.declared.value.Value.{Value}
+use Rattle.sp_meaning.specs.declared.grammar.Field.{Field}
+use Rattle.sp_meaning.specs.declared.stand.Stand.{Stand}
+use Rattle.sp_meaning.specs.declared.stand.Stand.TheVariants as Stand
+use Rattle.sp_meaning.specs.Leaf.{Leaf, got, short, needs, integer_leaf}
+use Rattle.sp_meaning.specs.Result.{State, End, fine, failed, need, Result, ends, then_do}
+use Rattle.sp_meaning.specs.Width.{width_of}
+
+-- the data end too early for what begins at a place
+abbrev pub short_at : ℕ → ParseError
+short_at place = record { kind = Short; offset = place; text = None }
+
+-- the field has this value; the next one begins behind its bytes
+abbrev pub stored : Field → Value → State → State
+stored f v st = record { place = st.place + width_of f.kind; fields = st.fields ++ (f.name, told_value v) ∷ [] }
+
+-- what a field's leaf leads to: the errors and the mark of a field are at its first byte
+abbrev pub field_by : Field → Leaf → State → Result
+field_by f (got v) st = ends fine [] (stored f v st)
+field_by f short st = ends (failed (short_at st.place)) [] st
+field_by f needs st = ends (need st.place) [] st
+
+abbrev pub field_means : List ℕ → Close → Field → State → Result
+field_means s close f st = field_by f (integer_leaf f.kind (drop st.place s) close) st
+
+-- fields are read in order
+abbrev pub fields_mean : List ℕ → Close → List Field → State → Result
+fields_mean s close [] st = ends fine [] st
+fields_mean s close (f ∷ fs) st = then_do (field_means s close f st) (fields_mean s close fs)
+
+-- a unit that has just begun, at the start of the input
+abbrev pub begun : State
+begun = record { place = 0; fields = [] }
+
+-- what a reading tells: its events in order, how the unit stands, and where it waits the places from
+-- which on it must see the bytes again
+pub record Meaning : Type 0 where
+  pub events : List Event
+  pub stand : Stand
+  pub marks : List ℕ
+
+-- the unit that reads the flow's own bytes tells its end by a last event
+abbrev pub told : What → List Event
+told what = record { at = []; what = what } ∷ []
+
+abbrev pub meaning_by : Result → Meaning
+meaning_by (ends fine es st) = record { events = es ++ told (What.Done (unit (fields_of st.fields))); stand = Stand.Done; marks = [] }
+meaning_by (ends (failed e) es st) = record { events = es ++ told (What.Failed e); stand = Stand.Failed e; marks = [] }
+meaning_by (ends (need mark) es st) = record { events = es; stand = Stand.Waiting; marks = mark ∷ [] }
+
+-- the meaning of a unit with these fields on these bytes
+abbrev pub mean : List Field → List ℕ → Close → Meaning
+mean fields s close = meaning_by (fields_mean s close fields begun)
+
+-- the least mark, or the length of the input where nothing waits
+abbrev pub least : ℕ → List ℕ → ℕ
+least end [] = end
+least end (mark ∷ marks) = min mark (least end marks)
+
+-- the place from which on a reader must keep the bytes
+abbrev pub low : List Field → List ℕ → Close → ℕ
+low fields s close = least (length s) (mean fields s close).marks

@@ -1,0 +1,10 @@
+//! What a unit of unsigned integers means: the events, the stand and the marks of its reading of some bytes.
+#![tactic(auto)]
+
+mod grammar;
+mod laws;
+mod stand;
+
+pub use grammar::{Field, IntType, Program};
+pub use laws::steady;
+pub use stand::Stand;
