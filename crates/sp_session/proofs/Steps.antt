@@ -1,0 +1,99 @@
+-- How a session's state moves with the meaning.
+use Rattle.std.proofs.Common.{◌≡◌, ◌≢◌, ◌≤◌, ◌<◌, ◌+◌, ◌-◌, ℕ, List, [], ◌∷◌, ◌++◌, length, take, drop, get_or, false, sym, ap, subst, ◌∙◌, refl, arith, append_assoc}
+use Rattle.std.proofs.lemmas.List.{append-nil, drop_more, drop_all, drop-drop, drop-append-le, length-append, length-drop}
+use Rattle.sp_base.specs.Input.{Close, held_open, ended}
+use Rattle.sp_value.specs.Number.{integer_of}
+use Rattle.sp_value.specs.Value.{told_value}
+use Rattle.sp_value.specs.Tree.{TreeData, unit, fields_of}
+use Rattle.sp_value.specs.declared.event.Event.{Event}
+use Rattle.sp_value.specs.declared.event.What.TheVariants as What
+use Rattle.sp_meaning.specs.declared.grammar.Field.{Field}
+use Rattle.sp_meaning.specs.declared.stand.Stand.TheVariants as Stand
+use Rattle.sp_meaning.specs.Width.{width_of}
+use Rattle.sp_meaning.specs.Result.{State, Result, ends, fine, failed, need}
+use Rattle.sp_meaning.specs.Meaning.{stored, short_at, fields_mean, begun, told, meaning_by, mean, Meaning}
+use Rattle.sp_meaning.proofs.Reading.{width_some, fields_go, fields_lack, after, there, there_more}
+use Rattle.sp_value.specs.declared.event.What.{What}
+use Rattle.sp_meaning.specs.declared.stand.Stand.{Stand}
+use Rattle.sp_session.specs.declared.progress.Progress.{Progress}
+use Rattle.sp_session.specs.Reading.{Leads, Lacks, Ends}
+
+at_next : (fields : List Field) (next : ℕ) (f : Field) → next < length fields → f ≡ get_or fields next f → drop next fields ≡ f ∷ drop (next + 1) fields
+at_next fields next f lt is = drop_more fields next f lt ∙ ap (λ g. g ∷ drop (next + 1) fields) (sym is)
+
+-- one more field, whose bytes are at the front of the window
+pub leads_next : (fields : List Field) (next : ℕ) (st : State) (window s : List ℕ) (f : Field) (w : ℕ)
+    → next < length fields → f ≡ get_or fields next f → w ≡ width_of f.kind → w ≤ length window
+    → Leads fields next st window s
+    → Leads fields (next + 1) (record { place = st.place + w; fields = st.fields ++ (f.name, told_value (integer_of false false (take w window))) ∷ [] }) (drop w window) s
+leads_next fields next st window s f w lt is wide le leads =
+    let some = width_some f.kind in
+    let here : width_of f.kind ≤ length (drop st.place s) = omega (arith, ap length leads.is_window) in
+    record {
+      goes_on = λ t close.
+          leads.goes_on t close
+          ∙ ap (λ fs. fields_mean (s ++ t) close fs st) (at_next fields next f lt is)
+          ∙ fields_go (s ++ t) close f (drop (next + 1) fields) st (there_more s t st.place (width_of f.kind) some here)
+          ∙ ap (λ bytes. fields_mean (s ++ t) close (drop (next + 1) fields) (stored f (integer_of false false bytes) st)) (there s t st.place (width_of f.kind) some here ∙ ap (λ b. take (width_of f.kind) b) (sym leads.is_window))
+          ∙ ap (λ n. fields_mean (s ++ t) close (drop (next + 1) fields) (record { place = st.place + n; fields = st.fields ++ (f.name, told_value (integer_of false false (take n window))) ∷ [] })) (sym wide);
+      is_window = ap (λ b. drop w b) leads.is_window ∙ drop-drop w st.place s;
+      within = omega (arith, length-drop st.place s, ap length leads.is_window);
+    }
+
+-- a further piece
+pub leads_more : (fields : List Field) (next : ℕ) (st : State) (window s piece : List ℕ) → Leads fields next st window s → Leads fields next st (window ++ piece) (s ++ piece)
+leads_more fields next st window s piece leads = record {
+  goes_on = λ t close. subst (λ bytes. fields_mean bytes close fields begun ≡ fields_mean bytes close (drop next fields) st) (sym (append_assoc s piece t)) (leads.goes_on (piece ++ t) close);
+  is_window = ap (λ b. b ++ piece) leads.is_window ∙ sym (drop-append-le st.place s piece leads.within);
+  within = omega (arith, length-append s piece, leads.within);
+}
+
+leads_here : (fields : List Field) (next : ℕ) (st : State) (window s : List ℕ) (close : Close) → Leads fields next st window s → fields_mean s close fields begun ≡ fields_mean s close (drop next fields) st
+leads_here fields next st window s close leads =
+    subst (λ bytes. fields_mean bytes close fields begun ≡ fields_mean bytes close (drop next fields) st) (append-nil s) (leads.goes_on [] close)
+
+-- the meaning where no field is left
+pub mean_whole : (fields : List Field) (next : ℕ) (st : State) (window s : List ℕ) (close : Close) → Leads fields next st window s → length fields ≤ next
+    → mean fields s close ≡ record { events = told (What.Done (unit (fields_of st.fields))); stand = Stand.Done; marks = [] }
+mean_whole fields next st window s close leads le =
+    ap meaning_by (leads_here fields next st window s close leads ∙ ap (λ fs. fields_mean s close fs st) (drop_all next fields le))
+
+lacking_result : (fields : List Field) (st : State) (window s : List ℕ) → 0 < length fields → Lacks fields window → window ≡ drop st.place s
+    → fields_mean s held_open fields st ≡ ends (need st.place) [] st
+lacking_result [] st window s some lacks is = absurd (omega arith)
+lacking_result (f ∷ fs) st window s some lacks is = fields_lack s held_open f fs st (omega (arith, ap length is))
+
+lacking_ended : (fields : List Field) (st : State) (window s : List ℕ) → 0 < length fields → Lacks fields window → window ≡ drop st.place s
+    → fields_mean s ended fields st ≡ ends (failed (short_at st.place)) [] st
+lacking_ended [] st window s some lacks is = absurd (omega arith)
+lacking_ended (f ∷ fs) st window s some lacks is = fields_lack s ended f fs st (omega (arith, ap length is))
+
+-- the meaning where the bytes of the next field lack
+pub mean_waits : (fields : List Field) (next : ℕ) (st : State) (window s : List ℕ) → Leads fields next st window s → Lacks (drop next fields) window → next < length fields
+    → mean fields s held_open ≡ record { events = []; stand = Stand.Waiting; marks = st.place ∷ [] }
+mean_waits fields next st window s leads lacks lt =
+    ap meaning_by (leads_here fields next st window s held_open leads ∙ lacking_result (drop next fields) st window s (omega (arith, length-drop next fields)) lacks leads.is_window)
+
+pub mean_short : (fields : List Field) (next : ℕ) (st : State) (window s : List ℕ) → Leads fields next st window s → Lacks (drop next fields) window → next < length fields
+    → mean fields s ended ≡ record { events = told (What.Failed (short_at st.place)); stand = Stand.Failed (short_at st.place); marks = [] }
+mean_short fields next st window s leads lacks lt =
+    ap meaning_by (leads_here fields next st window s ended leads ∙ lacking_ended (drop next fields) st window s (omega (arith, length-drop next fields)) lacks leads.is_window)
+
+-- the next field isn't whole in the window
+pub lacks_next : (fields : List Field) (next : ℕ) (window : List ℕ) (f : Field) (w : ℕ) → next < length fields → f ≡ get_or fields next f → w ≡ width_of f.kind → length window < w → Lacks (drop next fields) window
+lacks_next fields next window f w lt is wide less =
+    let less' : length window < width_of f.kind = omega (arith, wide) in
+    subst (λ fs. Lacks fs window) (sym (at_next fields next f lt is)) less'
+
+pub lacks_none : (fields : List Field) (next : ℕ) (window : List ℕ) → length fields ≤ next → Lacks (drop next fields) window
+lacks_none fields next window le = subst (λ fs. Lacks fs window) (sym (drop_all next fields le)) tt
+
+-- the unit told its last event, which is that of its meaning
+pub ends_by : (fields : List Field) (p : Progress) (s : List ℕ) (close : Close) (before after : List Event) (stand : Stand) (what : What) (e : Event)
+    → mean fields s close ≡ record { events = told what; stand = stand; marks = [] } → after ≡ before ++ e ∷ [] → e ≡ record { at = []; what = what } → p.window ≡ []
+    → Ends fields p s close before after stand
+ends_by fields p s close before after stand what e is pushed last cleared = record {
+  is_stand = sym (ap (λ (m : Meaning). m.stand) is);
+  events = pushed ∙ ap (λ (e : Event). before ++ e ∷ []) last ∙ sym (ap (λ (m : Meaning). before ++ m.events) is);
+  window = cleared;
+}
