@@ -1,0 +1,3 @@
+pub mod Causes
+pub mod Moved
+pub mod Held
