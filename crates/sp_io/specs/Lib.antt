@@ -1,3 +1,4 @@
 pub mod Causes
-pub mod Moved
 pub mod Held
+pub mod Moved
+pub mod Stored

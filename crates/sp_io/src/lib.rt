@@ -2,8 +2,13 @@
 //! Beside the traits stand objects in memory and adapters over the real thing.
 #![tactic(auto)]
 
-mod memory;
+mod calls;
+mod files;
+mod outs;
+mod pieces;
+mod real;
 mod traits;
 
-pub use memory::MemOut;
+pub use files::{MemModules, SureModules};
+pub use outs::{MemOut, SureOut};
 pub use traits::{Modules, ModulesFault, Out, OutFault, Source, SourceFault, Took, put_all};
