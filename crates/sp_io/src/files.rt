@@ -45,10 +45,7 @@ impl MemModules {
 }
 
 /// Equal files.
-fn copies_of(
-    alloc: Global,
-    files: &[(Text, ByteList)],
-) -> Result<Vec<(Text, ByteList)>, NoMemory>
+fn copies_of(alloc: Global, files: &[(Text, ByteList)]) -> Result<Vec<(Text, ByteList)>, NoMemory>
     ensures { IfOk result (λ copies. copies.items ≡ files.now) }
 {
     let mut copies = Vec::new(alloc);

@@ -4,11 +4,16 @@
 
 mod calls;
 mod files;
+mod folders;
 mod outs;
 mod pieces;
-mod real;
+mod sources;
+mod streams;
 mod traits;
 
 pub use files::{MemModules, SureModules};
+pub use folders::DirModules;
 pub use outs::{MemOut, SureOut};
+pub use sources::{MemSource, SureSource};
+pub use streams::{FileSource, StdOut, StdSource};
 pub use traits::{Modules, ModulesFault, Out, OutFault, Source, SourceFault, Took, put_all};

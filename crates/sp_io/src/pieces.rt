@@ -1,9 +1,10 @@
 // Pieces of bytes in memory that are taken from the front.
-ghost use Rattle.std.specs.Prelude.{◌≡◌, ◌≤◌, ◌<◌, ◌↔◌, [], ◌++◌, length, drop, take, Ok, IfOk, OnOk, OnErr};
+ghost use Rattle.std.specs.Prelude.{◌≡◌, ◌≤◌, ◌<◌, ◌↔◌, [], ◌++◌, length, drop, take, Ok, IfOk, IfErr, OnOk, OnErr};
 ghost use Rattle.sp_io.specs.Held.{unused, passed, first_piece, IsUsedWithin};
 ghost use Rattle.sp_io.specs.declared.traits.Took.TheVariants as took;
+ghost use Rattle.sp_io.specs.declared.traits.SourceFault.TheVariants as source_fault;
 
-use crate::traits::Took;
+use crate::traits::{SourceFault, Took};
 use sp_base::{ByteList, NoMemory};
 use std::alloc::Global;
 use std::marker::Model;
@@ -44,13 +45,15 @@ impl Pieces {
         })
     }
 
-    /// Appends what is left of the first piece that isn't used up, at most `most` bytes, or answers that all are used up.
-    pub fn take(&mut self, most: u64, into: &mut ByteList) -> Result<Took, NoMemory>
+    /// Appends what is left of the first piece that isn't used up, at most `most` bytes, or answers `End` where all
+    /// are used up.
+    pub fn take(&mut self, most: u64, into: &mut ByteList) -> Result<Took, SourceFault>
         requires { 1 ≤ most }
-        ensures into { OnOk result (into.new ≡ into.old ++ take most (first_piece (passed self.old))) }
+        ensures bytes { OnOk result (into.new ≡ into.old ++ take most (first_piece (passed self.old))) }
         ensures pieces { OnOk result (self.new ≡ unused most (passed self.old)) }
         ensures end { (result ≡ Ok took.End) ↔ (passed self.old ≡ []) }
         ensures err { OnErr result ((self.new ≡ self.old) × (into.new ≡ into.old)) }
+        ensures cause { IfErr result (λ fault. fault ≡ source_fault.NoMemory) }
     {
         let (index, used) = first_unused(self.pieces.as_slice(), self.index, self.used);
         let Some(piece) = self.pieces.get(index) else {
@@ -60,7 +63,8 @@ impl Pieces {
         };
         let rest = &piece.as_slice()[used..];
         let count = (most as usize).min(rest.len());
-        into.append(&rest[..count])?;
+        into.append(&rest[..count])
+            .map_err(|_| SourceFault::NoMemory)?;
         self.index = index;
         self.used = used + count;
         Ok(Took::Some)

@@ -1,8 +1,8 @@
-// The real outside. These objects tell no content; each error raises their count of faults.
+// A real file and the standard streams. They tell no content; each error raises the count of faults.
 ghost use Rattle.std.specs.Prelude.{◌≡◌, ◌≤◌, None, length, IfOk};
 ghost use Rattle.sp_io.specs.Moved.{Takes};
 
-use crate::traits::{Modules, ModulesFault, Out, OutFault, Source, SourceFault, Took};
+use crate::traits::{Out, OutFault, Source, SourceFault, Took};
 use sp_base::{ByteList, NoMemory};
 use std::alloc::Global;
 use std::fs::File;
@@ -13,79 +13,6 @@ use std::rt::Files;
 
 /// How many bytes are read at once.
 const CHUNK: usize = 65_536;
-
-/// How many bytes of a module are read at most: one more than a module may have.
-const LONGEST: u64 = 1_048_577;
-
-/// Modules in the real folders.
-#[derive(Drop)]
-pub struct DirModules<'r, R> {
-    rt: &'r R,
-    alloc: Global,
-    faults: u64,
-}
-
-impl<'r, R> Model for DirModules<'r, R> {
-    ghost use Rattle.sp_io.specs.Held.{RealState};
-
-    ghost Value = { RealState };
-
-    ghost view = { λ m. record { faults = m.faults } };
-}
-
-impl<'r, R> DirModules<'r, R> {
-    /// Reads files by their paths through this runtime.
-    pub fn new(alloc: Global, rt: &'r R) -> DirModules<'r, R>
-        ensures { result.faults ≡ 0 }
-    {
-        DirModules {
-            rt,
-            alloc,
-            faults: 0,
-        }
-    }
-}
-
-impl<'r, R: Files> Modules for DirModules<'r, R> {
-    ghost files = { λ _. None };
-
-    ghost faults = { λ m. m.faults };
-
-    fn read(&mut self, path: &str) -> Result<Option<ByteList>, ModulesFault> {
-        match front_of_file(self.alloc, self.rt, path) {
-            Err(ModulesFault::Failed) => {
-                self.faults = self.faults.saturating_add(1);
-                Err(ModulesFault::Failed)
-            }
-            answer => answer,
-        }
-    }
-}
-
-/// The first `LONGEST` bytes of this file, or `None` where there is no such file.
-fn front_of_file<R: Files>(
-    alloc: Global,
-    rt: &R,
-    path: &str,
-) -> Result<Option<ByteList>, ModulesFault> {
-    match File::open(rt, path) {
-        Ok(file) => {
-            let mut bytes = Vec::new(alloc);
-            file.take(LONGEST).read_to_end(&mut bytes).map_err(modules_fault)?;
-            let text = ByteList::from_slice(alloc, bytes.as_slice()).map_err(|_| ModulesFault::NoMemory)?;
-            Ok(Some(text))
-        }
-        Err(error) if error.kind() == ErrorKind::NotFound => Ok(None),
-        Err(error) => Err(modules_fault(error)),
-    }
-}
-
-fn modules_fault(error: io::Error) -> ModulesFault {
-    match error.kind() {
-        ErrorKind::OutOfMemory => ModulesFault::NoMemory,
-        _ => ModulesFault::Failed,
-    }
-}
 
 /// Reads again where a signal interrupted a read.
 #[derive(Drop)]
@@ -105,6 +32,11 @@ impl<R: Read> Read for Retrying<R> {
     }
 }
 
+/// Reads in chunks, and again where a signal interrupted a read.
+fn reader_of<R: Read + Drop>(alloc: Global, inner: R) -> Result<BufReader<Retrying<R>>, NoMemory> {
+    BufReader::with_capacity(alloc, CHUNK, Retrying { inner }).map_err(|_| NoMemory)
+}
+
 /// Appends up to `most` bytes of what the reader has at hand, after a read where it has none.
 fn take_from<R: BufRead>(
     reader: &mut R,
@@ -119,7 +51,8 @@ fn take_from<R: BufRead>(
         return Ok(Took::End);
     }
     let count = bytes.len().min(most as usize);
-    into.append(&bytes[..count]).map_err(|_| SourceFault::NoMemory)?;
+    into.append(&bytes[..count])
+        .map_err(|_| SourceFault::NoMemory)?;
     reader.consume(count);
     Ok(Took::Some)
 }
@@ -144,8 +77,7 @@ impl StdSource {
     pub fn new(alloc: Global, stdin: Stdin) -> Result<StdSource, NoMemory>
         ensures { IfOk result (λ source. source.faults ≡ 0) }
     {
-        let inner = Retrying { inner: stdin };
-        let reader = BufReader::with_capacity(alloc, CHUNK, inner).map_err(|_| NoMemory)?;
+        let reader = reader_of(alloc, stdin)?;
         Ok(StdSource { reader, faults: 0 })
     }
 }
@@ -157,6 +89,55 @@ impl Source for StdSource {
 
     fn take(&mut self, most: u64, into: &mut ByteList) -> Result<Took, SourceFault> {
         let answer = take_from(&mut self.reader, most, into);
+        if let Err(SourceFault::Failed) = answer {
+            self.faults = self.faults.saturating_add(1);
+        }
+        answer
+    }
+}
+
+/// A file. Where it couldn't be opened, each take fails.
+#[derive(Drop)]
+pub struct FileSource<F> {
+    reader: Option<BufReader<Retrying<F>>>,
+    faults: u64,
+}
+
+impl<F> Model for FileSource<F> {
+    ghost use Rattle.sp_io.specs.Held.{RealState};
+
+    ghost Value = { RealState };
+
+    ghost view = { λ s. record { faults = s.faults } };
+}
+
+impl<F: Read + Drop> FileSource<F> {
+    /// Opens the file at this path, which is read 65,536 bytes at a time.
+    pub fn new<R: Files<File = F>>(
+        alloc: Global,
+        rt: &R,
+        path: &str,
+    ) -> Result<FileSource<F>, NoMemory>
+        ensures { IfOk result (λ source. source.faults ≡ 0) }
+    {
+        let reader = match File::open(rt, path) {
+            Ok(file) => Some(reader_of(alloc, file)?),
+            Err(_) => None,
+        };
+        Ok(FileSource { reader, faults: 0 })
+    }
+}
+
+impl<F: Read + Drop> Source for FileSource<F> {
+    ghost left = { λ _. None };
+
+    ghost faults = { λ s. s.faults };
+
+    fn take(&mut self, most: u64, into: &mut ByteList) -> Result<Took, SourceFault> {
+        let answer = match &mut self.reader {
+            Some(reader) => take_from(reader, most, into),
+            None => Err(SourceFault::Failed),
+        };
         if let Err(SourceFault::Failed) = answer {
             self.faults = self.faults.saturating_add(1);
         }
