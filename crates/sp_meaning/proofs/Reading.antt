@@ -14,7 +14,7 @@ use Rattle.sp_meaning.specs.Width.{width_of}
 use Rattle.sp_meaning.specs.Leaf.{Leaf, got, lacking, integer_leaf}
 use Rattle.sp_meaning.specs.Result.{State, End, fine, failed, need, Result, ends, behind, on_end, if_fine, then_do}
 use Rattle.sp_meaning.specs.Meaning.{stored, field_by, field_means, fields_mean, begun, meaning_by, mean}
-use Rattle.sp_meaning.specs.Steady.{IsSteady}
+use Rattle.sp_meaning.specs.Steady.{IsDecided, IsSteady}
 
 pub behind-nil : (r : Result) → behind [] r ≡ r
 behind-nil (ends how es st) = refl
@@ -105,3 +105,23 @@ is_final fields s t close final = continued_final (fields_mean s held_open field
 -- and at the end of its input
 pub is_final_ended : (fields : List Field) (s : List ℕ) → (mean fields s held_open).stand ≢ Stand.Waiting → mean fields s ended ≡ mean fields s held_open
 is_final_ended fields s final = ap (λ bytes. mean fields bytes ended) (sym (append-nil s)) ∙ is_final fields s [] ended final
+
+abbrev NeedsNothing : Result → Type 0
+NeedsNothing (ends (need mark) es st) = ⊥
+NeedsNothing r = Unit {0}
+
+ended_needs_nothing : (s : List ℕ) (fs : List Field) (st : State) → NeedsNothing (fields_mean s ended fs st)
+ended_needs_nothing s [] st = tt
+ended_needs_nothing s (f ∷ fs) st =
+    ⊎_elim
+    (λ lt. subst NeedsNothing (sym (fields_lack s ended f fs st lt)) tt)
+    (λ le. subst NeedsNothing (sym (fields_go s ended f fs st le)) (ended_needs_nothing s fs (after s f st)))
+    (cases_lt (length (drop st.place s)) (width_of f.kind))
+
+decided_by : (r : Result) → NeedsNothing r → (meaning_by r).stand ≢ Stand.Waiting
+decided_by (ends fine es st) nothing e = cc
+decided_by (ends (failed error) es st) nothing e = cc
+decided_by (ends (need mark) es st) nothing e = nothing
+
+pub is_decided : IsDecided
+is_decided fields s = decided_by (fields_mean s ended fields begun) (ended_needs_nothing s fields begun)

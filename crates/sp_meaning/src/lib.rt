@@ -6,5 +6,5 @@ mod laws;
 mod stand;
 
 pub use grammar::{Field, IntType, Program};
-pub use laws::steady;
+pub use laws::{decided, steady};
 pub use stand::Stand;

@@ -1,0 +1,5 @@
+pub mod Fed
+pub mod Parts
+pub mod Run
+pub mod Shown
+pub mod Words

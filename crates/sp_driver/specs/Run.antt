@@ -1,0 +1,51 @@
+-- What each exit of a run says.
+use Rattle.std.specs.Prelude.{◌≡◌, ◌≤◌, ◌<◌, ◌*◌, ◌/◌, ◌⊎◌, ℕ, List, [], ◌++◌, length, Option, Some, MatchOption}
+use Rattle.sp_base.specs.Input.{ended}
+use Rattle.sp_base.specs.declared.places.ParseError.{ParseError}
+use Rattle.sp_io.specs.Moved.{appended, prepended}
+use Rattle.sp_meaning.specs.declared.grammar.Field.{Field}
+use Rattle.sp_meaning.specs.declared.stand.Stand.TheVariants as Stand
+use Rattle.sp_meaning.specs.Meaning.{mean}
+use Rattle.sp_driver.specs.declared.exits.RunExit.{RunExit}
+use Rattle.sp_driver.specs.declared.exits.RunExit.TheVariants as RunExit
+use Rattle.sp_driver.specs.Parts.{IsFront}
+use Rattle.sp_driver.specs.Shown.{most_taken, shown, whole, run_lines}
+
+-- the lines of each piece were put before a byte of a later piece was taken
+abbrev pub IsPrompt : List Field → ℕ → List ℕ → List ℕ → Type 0
+IsPrompt fields n taken written = (j : ℕ) → j * n < length taken → IsFront (shown fields n taken j) written
+
+-- the input was taken to its end, where it tells what is left
+abbrev pub IsTakenWhole : Option (List ℕ) → Type 0
+IsTakenWhole left = MatchOption left (Unit {0}) (λ rest. rest ≡ [])
+
+-- what was written is a front of what the run of the whole input writes, where the input tells what is left
+abbrev pub IsRunPart : List Field → ℕ → List ℕ → List ℕ → Option (List ℕ) → Type 0
+IsRunPart fields n taken written left = (rest : List ℕ) → left ≡ Some rest → IsFront written (run_lines fields n (taken ++ rest))
+
+-- what was written of the bytes that were taken, and what of the input is left
+abbrev pub AtExit : List Field → ℕ → List ℕ → List ℕ → Option (List ℕ) → RunExit → Type 0
+AtExit fields n taken written left RunExit.Done =
+    (written ≡ whole fields n taken) × IsTakenWhole left × ((mean fields taken ended).stand ≡ Stand.Done)
+AtExit fields n taken written left RunExit.Failed =
+    (written ≡ whole fields n taken) × IsTakenWhole left × ((error : ParseError) × ((mean fields taken ended).stand ≡ Stand.Failed error))
+AtExit fields n taken written left RunExit.InputFault = written ≡ shown fields n taken (length taken / n)
+AtExit fields n taken written left RunExit.OutFault = IsRunPart fields n taken written left
+AtExit fields n taken written left RunExit.TooLong = (most_taken < length taken) × (written ≡ shown fields n taken (most_taken / n))
+AtExit fields n taken written left RunExit.NoMemory = IsRunPart fields n taken written left
+
+-- a run of the unit with these fields over an input in pieces of n bytes, by its exit; left is what the
+-- input has left, and held what the output holds, where they tell it
+pub record Runs (fields : List Field) (n : ℕ) (left_before left_after held_before held_after : Option (List ℕ)) (exit : RunExit) : Type 0 where
+  pub taken : List ℕ
+  pub written : List ℕ
+  pub took : left_before ≡ prepended taken left_after
+  pub put : held_after ≡ appended held_before written
+  pub prompt : IsPrompt fields n taken written
+  pub at_exit : AtExit fields n taken written left_after exit
+
+-- which counts of faults rose at an exit of a run
+abbrev pub RunCause : ℕ → ℕ → ℕ → ℕ → RunExit → Type 0
+RunCause input_before input_after out_before out_after RunExit.InputFault = (input_before < input_after) × (out_after ≡ out_before)
+RunCause input_before input_after out_before out_after RunExit.OutFault = (input_after ≡ input_before) × (out_before < out_after)
+RunCause input_before input_after out_before out_after exit = (input_after ≡ input_before) × (out_after ≡ out_before)

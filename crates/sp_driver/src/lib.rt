@@ -1,0 +1,9 @@
+//! The driver: reads a module, runs its unit over an input in pieces, and writes the lines that it tells.
+#![tactic(auto)]
+
+mod exits;
+mod pieces;
+mod run;
+mod words;
+
+pub use sp_session as session;

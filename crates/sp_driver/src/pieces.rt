@@ -1,0 +1,58 @@
+// Pieces come in, and lines go out.
+ghost use Rattle.std.specs.Prelude.{◌≡◌, ◌≤◌, ◌<◌, ◌-◌, ◌^◌, ℕ, List, [], ◌∷◌, ◌++◌, Ok, Err, length, take, drop, true, false, IfOk, OnOk, OnErr, MatchResult, MatchOption};
+ghost use Rattle.sp_io.specs.Causes.{SourceCause};
+ghost use Rattle.sp_io.specs.Moved.{appended, prepended};
+ghost use Rattle.sp_json.specs.Lines.{lines_of};
+ghost use Rattle.sp_driver.specs.Parts.{IsPartPut, StopCause};
+
+use crate::exits::Stop;
+use sp_base::ByteList;
+use sp_io::{Out, OutFault, Source, SourceFault, Took, put_all};
+use sp_json::line;
+use sp_value::Event;
+use std::alloc::Global;
+
+/// Puts the lines of events of the flow. Where that stops, a front of them was put.
+pub fn put_lines<O: Out>(
+    alloc: Global,
+    flow: &str,
+    events: &[Event],
+    out: &mut O,
+) -> Result<(), Stop>
+    requires { O.faults out.old < 2 ^ 64 - 1 }
+    ensures held { OnOk result (O.held out.new ≡ appended (O.held out.old) (lines_of flow.now events.now)) }
+    ensures part { OnErr result (IsPartPut (O.held out.old) (O.held out.new) (lines_of flow.now events.now)) }
+    ensures cause { MatchResult result (λ _. O.faults out.new ≡ O.faults out.old) (StopCause (O.faults out.old) (O.faults out.new)) }
+{
+    for event in events {
+        let text = line(alloc, flow, event)?;
+        match put_all(out, text.as_slice()) {
+            Ok(()) => {}
+            Err(OutFault::Failed) => return Err(Stop::Failed),
+            Err(OutFault::NoMemory) => return Err(Stop::NoMemory),
+        }
+    }
+    Ok(())
+}
+
+/// Takes a piece of `n` bytes, or all that is left where that is less: then it answers false.
+pub fn fill<S: Source>(n: u64, input: &mut S, piece: &mut ByteList) -> Result<bool, SourceFault>
+    requires some { 1 ≤ n }
+    requires small { n ≤ 65536 }
+    requires empty { piece.old ≡ [] }
+    ensures took { S.left input.old ≡ prepended piece.new (S.left input.new) }
+    ensures bound { length piece.new ≤ n }
+    ensures full { result ≡ Ok true → length piece.new ≡ n }
+    ensures short { OnErr result (length piece.new < n) }
+    ensures end { result ≡ Ok false → (length piece.new < n) × MatchOption (S.left input.new) (Unit {0}) (λ left. left ≡ []) }
+    ensures cause { MatchResult result (λ _. S.faults input.new ≡ S.faults input.old) (SourceCause (S.faults input.old) (S.faults input.new)) }
+{
+    while (piece.len() as u64) < n {
+        let most = n - piece.len() as u64;
+        match input.take(most, piece)? {
+            Took::Some => {}
+            Took::End => return Ok(false),
+        }
+    }
+    Ok(true)
+}
