@@ -35,16 +35,26 @@ closing_tokens = codes "}" ∷ codes ";" ∷ []
 abbrev pub names : List Field → List (List ℕ)
 names fields = map (λ f. f.name) fields
 
--- the text is a module with one unit, which has these fields: their names differ, and they are at most 256
-pub record Reads (text : List ℕ) (fields : List Field) : Type 0 where
+-- tokens begin a module and its unit under names of their own, and these follow
+pub record Opens (tokens rest : List (List ℕ)) : Type 0 where
   pub module_name : List ℕ
   pub unit_name : List ℕ
-  pub tokens : tokens_of text ≡ module_tokens module_name ++ (unit_tokens unit_name ++ (flat_map field_tokens fields ++ closing_tokens))
+  pub opening : tokens ≡ module_tokens module_name ++ (unit_tokens unit_name ++ rest)
   pub module_named : IsName module_name
   pub unit_named : IsName unit_name
-  pub fields_named : All IsName (names fields)
-  pub fields_differ : IsDistinct bytes_eq (names fields)
+
+-- the tokens are these fields and the unit's end: their names differ, and they are at most 256
+pub record IsUnit (tokens : List (List ℕ)) (fields : List Field) : Type 0 where
+  pub written : tokens ≡ flat_map field_tokens fields ++ closing_tokens
+  pub named : All IsName (names fields)
+  pub differ : IsDistinct bytes_eq (names fields)
   pub few : length fields ≤ 256
+
+-- the text is a module with one unit, which has these fields
+pub record Reads (text : List ℕ) (fields : List Field) : Type 0 where
+  pub rest : List (List ℕ)
+  pub opens : Opens (tokens_of text) rest
+  pub unit : IsUnit rest fields
 
 -- the text is a module with one unit of unsigned integers
 abbrev pub IsIntegerUnit : List ℕ → Type 0

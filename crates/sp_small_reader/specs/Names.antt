@@ -28,8 +28,8 @@ words_kept =
     codes "skip" ∷ codes "try" ∷ codes "catch" ∷ codes "unset" ∷
     []
 
-abbrev pub is_keyword : List ℕ → Bool
-is_keyword word = list_any (bytes_eq word) (words_in_use ++ words_kept)
+unfoldable pub is_keyword : List ℕ → Bool
+is_keyword word = list_any (λ keyword. bytes_eq keyword word) (words_in_use ++ words_kept)
 
 -- the first byte may stand at the front of a name: it is a letter or `_`
 abbrev pub begins_name : List ℕ → Bool

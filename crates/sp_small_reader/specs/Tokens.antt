@@ -1,6 +1,6 @@
 -- The tokens of a text. White space and comments stand between tokens; a token is a longest run of ASCII
 -- letters, digits and `_`, or any other single byte.
-use Rattle.std.specs.Prelude.{ℕ, Bool, false, ◌==◌, ◌||◌, ◌&&◌, List, [], ◌∷◌, if◌then◌else◌}
+use Rattle.std.specs.Prelude.{ℕ, Bool, false, ◌==◌, ◌||◌, ◌&&◌, not, List, [], ◌∷◌, if◌then◌else◌}
 use Rattle.std.specs.Char.{is_ascii_alphanumeric}
 
 -- space, tab, carriage return or line feed
@@ -44,3 +44,11 @@ tokens_in code (c ∷ s) = with_byte c s (tokens_in (stretch_after code c) s)
 -- the tokens of a text, in order
 abbrev pub tokens_of : List ℕ → List (List ℕ)
 tokens_of text = tokens_in code text
+
+-- what a text without blanks at its front is
+abbrev pub begins_blank : List ℕ → Bool
+begins_blank [] = false
+begins_blank (c ∷ s) = is_white c || c == 35
+
+abbrev pub is_not_line_end : ℕ → Bool
+is_not_line_end c = not (c == 10)
