@@ -36,9 +36,13 @@ abbrev pub begins_name : List ℕ → Bool
 begins_name [] = false
 begins_name (c ∷ s) = is_word_byte c && not (is_ascii_digit c)
 
--- a name is a run of letters, digits and `_` that doesn't begin with a digit and isn't a keyword
+-- a letter or `_`, then letters, digits and `_`
+abbrev pub is_identifier : List ℕ → Bool
+is_identifier word = begins_name word && list_all is_word_byte word
+
+-- a name is an identifier that isn't a keyword
 abbrev pub is_name : List ℕ → Bool
-is_name word = begins_name word && list_all is_word_byte word && not (is_keyword word)
+is_name word = is_identifier word && not (is_keyword word)
 
 abbrev pub IsName : List ℕ → Type 0
 IsName word = IsTrue (is_name word)

@@ -1,8 +1,9 @@
 // The words of the language, and names.
 ghost use Rattle.std.specs.Prelude.{◌≡◌, IfOk, Err};
-ghost use Rattle.std.specs.List.{list_any};
+ghost use Rattle.std.specs.List.{list_all, list_any};
 ghost use Rattle.std.specs.Str.{bytes_eq};
-ghost use Rattle.sp_small_reader.specs.Names.{begins_name, is_keyword, is_name, IsName};
+ghost use Rattle.sp_small_reader.specs.Tokens.{is_word_byte};
+ghost use Rattle.sp_small_reader.specs.Names.{begins_name, is_identifier, is_keyword, is_name, IsName};
 
 use crate::fault::ReadFault;
 use crate::tokens::is_word_byte;
@@ -32,10 +33,22 @@ fn begins_name(word: &[u8]) -> bool
     }
 }
 
+fn is_word(word: &[u8]) -> bool
+    ensures { result ≡ list_all is_word_byte word.now }
+{
+    word.iter().all(|byte| is_word_byte(*byte))
+}
+
+fn is_identifier(word: &[u8]) -> bool
+    ensures { result ≡ is_identifier word.now }
+{
+    begins_name(word) && is_word(word)
+}
+
 pub fn is_name(word: &[u8]) -> bool
     ensures { result ≡ is_name word.now }
 {
-    begins_name(word) && word.iter().all(|byte| is_word_byte(*byte)) && !is_keyword(word)
+    is_identifier(word) && !is_keyword(word)
 }
 
 /// The name that a token is.
