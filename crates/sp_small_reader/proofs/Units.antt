@@ -3,6 +3,7 @@ use Rattle.std.proofs.Common.{◌≡◌, ◌≢◌, ◌≤◌, ◌<◌, ◌+◌,
 use Rattle.std.proofs.lemmas.List.{append-nil, length-append}
 use Rattle.std.proofs.lemmas.List.Elements.{All-push}
 use Rattle.std.specs.List.{AllByRecursion, IsDistinct, list_any}
+use Rattle.std.specs.Result.{IsErrAnd}
 use Rattle.sp_meaning.specs.declared.grammar.Field.{Field}
 use Rattle.sp_meaning.specs.declared.grammar.IntType.{IntType}
 use Rattle.sp_meaning.specs.declared.grammar.IntType.TheVariants.{Uint8, Uint16, Uint32, Uint64}
@@ -183,3 +184,11 @@ twice tokens now after done f d next again fields unit =
 pub on_err : {T E P : Type 0} (r : Result T E) → P → OnErr r P
 on_err (Ok x) p = tt
 on_err (Err e) p = p
+
+pub asked : (items xs : List Field) (name bs : List ℕ) (r b : Bool) → r ≡ list_any (λ g. bytes_eq g.name bs) xs → xs ≡ items → bs ≡ name → r ≡ b → list_any (λ g. bytes_eq g.name name) items ≡ b
+asked items xs name bs r b answer same_items same_name is =
+    ap (λ fs. list_any (λ g. bytes_eq g.name name) fs) (sym same_items) ∙ (ap (λ n. list_any (λ g. bytes_eq g.name n) xs) (sym same_name) ∙ (sym answer ∙ is))
+
+pub same_error : {T E : Type 0} (r : Result T E) (x y : E) → IsErrAnd r (λ e. e ≡ x) → r ≡ Err y → x ≡ y
+same_error (Ok v) x y told is = absurd told
+same_error (Err e) x y told is = sym told ∙ cc
