@@ -1,10 +1,9 @@
 -- How the tokens of a text follow from its front.
-use Rattle.std.proofs.Common.{◌≡◌, ◌≤◌, ◌<◌, ◌+◌, ℕ, suc, Bool, true, false, cond, not, ◌||◌, ◌&&◌, eqb, List, [], ◌∷◌, length, take, drop, max, refl, sym, ap, subst, ◌∙◌, arith}
+use Rattle.std.proofs.Common.{◌≡◌, ◌<◌, ◌+◌, ℕ, suc, Bool, true, false, cond, ◌||◌, eqb, List, [], ◌∷◌, length, take, drop, max, refl, sym, ap, subst, ◌∙◌, arith}
 use Rattle.std.proofs.lemmas.Bool.Decides.{nat_tests}
 use Rattle.std.proofs.lemmas.Bool.{eqb-true}
-use Rattle.std.specs.Char.{is_ascii_alphanumeric}
 use Rattle.std.specs.List.{prefix_len}
-use Rattle.sp_small_reader.specs.Tokens.{Stretch, code, comment, stretch_after, is_white, is_word_byte, is_not_line_end, begins_blank, runs_on, joined, with_byte, tokens_in, tokens_of}
+use Rattle.sp_small_reader.specs.Tokens.{comment, is_white, is_word_byte, is_not_line_end, begins_blank, runs_on, joined, tokens_in, tokens_of}
 
 pub word_not_white : (c : ℕ) → is_word_byte c ≡ true → is_white c ≡ false
 word_not_white c h = grind (arith, nat_tests)

@@ -1,5 +1,5 @@
 -- The fields of a unit, one after the other.
-use Rattle.std.proofs.Common.{◌≡◌, ◌≢◌, ◌≤◌, ◌<◌, ◌+◌, ◌||◌, ℕ, zero, suc, Bool, true, false, List, [], ◌∷◌, ◌++◌, All, Result, Ok, Err, OnErr, bytes_eq, codes, flat_map, get_or, length, map, refl, sym, ap, subst, ◌∙◌, append_assoc, arith}
+use Rattle.std.proofs.Common.{◌≡◌, ◌≢◌, ◌≤◌, ◌+◌, ◌||◌, ℕ, suc, Bool, true, false, List, [], ◌∷◌, ◌++◌, All, Result, Ok, Err, OnErr, bytes_eq, codes, flat_map, get_or, length, refl, sym, ap, subst, ◌∙◌, arith}
 use Rattle.std.proofs.lemmas.List.{append-nil, length-append}
 use Rattle.std.proofs.lemmas.List.Elements.{All-push}
 use Rattle.std.specs.List.{AllByRecursion, IsDistinct, list_any}
@@ -7,7 +7,7 @@ use Rattle.std.specs.Result.{IsErrAnd}
 use Rattle.sp_meaning.specs.declared.grammar.Field.{Field}
 use Rattle.sp_meaning.specs.declared.grammar.IntType.{IntType}
 use Rattle.sp_meaning.specs.declared.grammar.IntType.TheVariants.{Uint8, Uint16, Uint32, Uint64}
-use Rattle.sp_small_reader.specs.IntegerUnit.{IsUnambiguous, IsUnit, Opens, Reads, closing_tokens, field_tokens, module_tokens, names, type_word, unit_tokens}
+use Rattle.sp_small_reader.specs.IntegerUnit.{IsUnambiguous, IsUnit, Opens, closing_tokens, field_tokens, names, type_word, unit_tokens}
 use Rattle.sp_small_reader.specs.Names.{IsName}
 
 -- the first token of an opening is `module`, the second a name
@@ -142,6 +142,7 @@ stuck tokens now done d no_end no_field fields unit = by_rest l.rest l.whole l.t
   where
     l : Left now done fields
     l = left_done tokens now done fields d unit
+
     by_rest : (rest : List Field) → fields ≡ done ++ rest → now ≡ flat_map field_tokens rest ++ closing_tokens → ⊥
     by_rest [] whole is = no_end is
     by_rest (f ∷ rest) whole is = no_field f (flat_map field_tokens rest ++ closing_tokens) (named_at done rest f (subst (λ fs. All IsName (names fs)) whole unit.named)) is
@@ -152,6 +153,7 @@ next_field tokens now after done fields f d next unit = by_rest l.rest l.whole l
   where
     l : Left now done fields
     l = left_done tokens now done fields d unit
+
     by_rest : (rest : List Field) → fields ≡ done ++ rest → now ≡ flat_map field_tokens rest ++ closing_tokens → (rest' : List Field) × (fields ≡ done ++ f ∷ rest')
     by_rest [] whole is = absurd (cc (next, is))
     by_rest (g ∷ rest) whole is =

@@ -5,7 +5,7 @@ use Rattle.std.specs.List.{list_any, list_all}
 use Rattle.std.specs.Str.{bytes_eq}
 use Rattle.sp_small_reader.specs.Tokens.{is_word_byte}
 
--- the words that the language uses
+-- the words that the compiler uses
 abbrev pub words_in_use : List (List ℕ)
 words_in_use =
     codes "module" ∷ codes "import" ∷ codes "public" ∷ codes "type" ∷ codes "const" ∷ codes "function" ∷
@@ -20,7 +20,7 @@ words_in_use =
     codes "False" ∷
     []
 
--- the words that it keeps for itself
+-- the words of the language that this compiler has no use for
 abbrev pub words_kept : List (List ℕ)
 words_kept =
     codes "global" ∷ codes "struct" ∷ codes "optional" ∷ codes "result" ∷ codes "real" ∷ codes "time" ∷

@@ -36,6 +36,7 @@ abbrev pub with_byte : ℕ → List ℕ → List (List ℕ) → List (List ℕ)
 with_byte c s tokens =
     if is_white c || c == 35 then tokens else if runs_on c s then joined c tokens else (c ∷ []) ∷ tokens
 
+-- the tokens of a text whose front is code, or the rest of a comment
 abbrev pub tokens_in : Stretch → List ℕ → List (List ℕ)
 tokens_in stretch [] = []
 tokens_in comment (c ∷ s) = tokens_in (stretch_after comment c) s
@@ -45,10 +46,11 @@ tokens_in code (c ∷ s) = with_byte c s (tokens_in (stretch_after code c) s)
 abbrev pub tokens_of : List ℕ → List (List ℕ)
 tokens_of text = tokens_in code text
 
--- what a text without blanks at its front is
+-- the text begins with white space or a comment
 abbrev pub begins_blank : List ℕ → Bool
 begins_blank [] = false
 begins_blank (c ∷ s) = is_white c || c == 35
 
+-- a byte that may stand inside a comment, behind its `#`
 abbrev pub is_not_line_end : ℕ → Bool
 is_not_line_end c = not (c == 10)

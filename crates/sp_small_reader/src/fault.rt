@@ -3,7 +3,7 @@ ghost use Rattle.std.specs.Prelude.{◌≡◌};
 ghost use Rattle.sp_small_reader.specs.declared.fault.ReadFault.TheVariants as fault;
 
 use sp_base::NoMemory;
-use std::alloc::{AllocError, AllocFailed};
+use std::alloc::AllocFailed;
 use thiserror::Error;
 
 /// Why a text isn't read.
@@ -12,6 +12,7 @@ pub enum ReadFault {
     /// The text isn't a module with one unit of unsigned integers.
     #[error("the text is not a module with one unit of unsigned integers")]
     OutOfProfile,
+    /// There was no memory.
     #[error("out of memory")]
     NoMemory,
 }

@@ -5,6 +5,8 @@ mod fault;
 mod laws;
 mod names;
 mod reader;
+#[cfg(test)]
+mod tests;
 mod tokens;
 
 pub use fault::ReadFault;

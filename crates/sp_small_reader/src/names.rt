@@ -10,7 +10,16 @@ use crate::tokens::is_word_byte;
 use sp_base::Text;
 use std::alloc::Global;
 
-const KEYWORDS: [&str; 71] = ["module", "import", "public", "type", "const", "function", "on", "inout", "unit", "enum", "bitfield", "tuple", "vector", "map", "set", "bool", "bytes", "string", "void", "uint8", "uint16", "uint32", "uint64", "int8", "int16", "int32", "int64", "var", "sink", "switch", "case", "default", "if", "else", "while", "for", "in", "foreach", "local", "return", "break", "continue", "print", "assert", "throw", "add", "delete", "stop", "confirm", "reject", "new", "cast", "self", "True", "False", "global", "struct", "optional", "result", "real", "time", "interval", "addr", "port", "network", "iterator", "stream", "skip", "try", "catch", "unset"];
+/// The words that are no names: those that the compiler uses, and the rest of the language's.
+const KEYWORDS: [&str; 71] = [
+    "module", "import", "public", "type", "const", "function", "on", "inout", "unit", "enum",
+    "bitfield", "tuple", "vector", "map", "set", "bool", "bytes", "string", "void", "uint8",
+    "uint16", "uint32", "uint64", "int8", "int16", "int32", "int64", "var", "sink", "switch",
+    "case", "default", "if", "else", "while", "for", "in", "foreach", "local", "return", "break",
+    "continue", "print", "assert", "throw", "add", "delete", "stop", "confirm", "reject", "new",
+    "cast", "self", "True", "False", "global", "struct", "optional", "result", "real", "time",
+    "interval", "addr", "port", "network", "iterator", "stream", "skip", "try", "catch", "unset",
+];
 
 fn is_one_of(words: &[&str], word: &[u8]) -> bool
     ensures { result ≡ list_any (λ one. bytes_eq one.now word.now) words.now }
@@ -45,6 +54,7 @@ fn is_identifier(word: &[u8]) -> bool
     begins_name(word) && is_word(word)
 }
 
+/// Whether a token is a name.
 pub fn is_name(word: &[u8]) -> bool
     ensures { result ≡ is_name word.now }
 {

@@ -16,11 +16,11 @@ pub returns-then-len-eq-MAX_FIELDS-clause-err : goal.returns-then-len-eq-MAX_FIE
 returns-then-len-eq-MAX_FIELDS-clause-err c is fields unit =
     let next = rw c.in-Some.is at c.in_ok-field.ensures.ok in
     elim c.then-len-eq-MAX_FIELDS.branch [
-      then-len-eq-MAX_FIELDS-via-then-len-eq-MAX_FIELDS w ↦
-        let full : length c.loop-fields.fields.items ≡ 256 = omega arith in
-        too_many c.args.tokens.now c.loop-fields.tokens c.field_or_end.new.tokens c.loop-fields.fields.items c.in-Some.field c.loop-fields.invariant next.1 full fields unit
-    | then-len-eq-MAX_FIELDS-via-else-len-eq-MAX_FIELDS+then-has_name w ↦
-        twice c.args.tokens.now c.loop-fields.tokens c.field_or_end.new.tokens c.loop-fields.fields.items c.in-Some.field c.loop-fields.invariant next.1
+      | then-len-eq-MAX_FIELDS-via-then-len-eq-MAX_FIELDS w ↦
+          let full : length c.loop-fields.fields.items ≡ 256 = omega arith in
+          too_many c.args.tokens.now c.loop-fields.tokens c.field_or_end.new.tokens c.loop-fields.fields.items c.in-Some.field c.loop-fields.invariant next.1 full fields unit
+      | then-len-eq-MAX_FIELDS-via-else-len-eq-MAX_FIELDS+then-has_name w ↦
+          twice c.args.tokens.now c.loop-fields.tokens c.field_or_end.new.tokens c.loop-fields.fields.items c.in-Some.field c.loop-fields.invariant next.1
           (asked c.loop-fields.fields.items w.as_slice.result.now c.in-Some.field.name w.as_str.result.now w.has_name.result _ w.has_name.ensures w.as_slice.ensures.value w.as_str.ensures w.if-has_name.true)
           fields unit
     ]
@@ -30,5 +30,5 @@ loop-fields-preserved c =
     let next = rw c.in-Some.is at c.in_ok-field.ensures.ok in
     let room : length c.loop-fields.fields.items ≢ 256 = λ full. absurd (omega arith) in
     one_done c.args.tokens.now c.loop-fields.tokens c.field_or_end.new.tokens c.loop-fields.fields.items c.push.new.self.items c.in-Some.field c.loop-fields.invariant next.1 next.0 room
-      (asked c.loop-fields.fields.items c.as_slice.result.now c.in-Some.field.name c.as_str.result.now c.has_name.result _ c.has_name.ensures c.as_slice.ensures.value c.as_str.ensures c.if-has_name.false)
-      c.in_ok-push.ensures.items
+    (asked c.loop-fields.fields.items c.as_slice.result.now c.in-Some.field.name c.as_str.result.now c.has_name.result _ c.has_name.ensures c.as_slice.ensures.value c.as_str.ensures c.if-has_name.false)
+    c.in_ok-push.ensures.items
