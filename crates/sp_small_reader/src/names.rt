@@ -11,7 +11,7 @@ use sp_base::Text;
 use std::alloc::Global;
 
 /// The words that are no names: those that the compiler uses, and the rest of the language's.
-const KEYWORDS: [&str; 71] = [
+static KEYWORDS: [&str; 71] = [
     "module", "import", "public", "type", "const", "function", "on", "inout", "unit", "enum",
     "bitfield", "tuple", "vector", "map", "set", "bool", "bytes", "string", "void", "uint8",
     "uint16", "uint32", "uint64", "int8", "int16", "int32", "int64", "var", "sink", "switch",
