@@ -1,3 +1,4 @@
+pub mod Endings
 pub mod Numbers
 pub mod Puts
 pub mod Runs

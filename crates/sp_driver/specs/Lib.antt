@@ -1,4 +1,6 @@
+pub mod Driver
 pub mod Fed
+pub mod Loads
 pub mod Parts
 pub mod Run
 pub mod Shown

@@ -1,0 +1,118 @@
+-- What the program does, by its exit.
+use Rattle.std.specs.Prelude.{◌≡◌, ◌≤◌, ◌<◌, ◌⊎◌, ℕ, List, [], ◌∷◌, ◌++◌, length, Option, Some, None, codes, decimal}
+use Rattle.sp_base.specs.Kinds.{module_kind_name, module_kind_number}
+use Rattle.sp_base.specs.declared.kinds.MKind.{MKind}
+use Rattle.sp_base.specs.declared.kinds.MKind.TheVariants.{ModuleNotFound, TooLarge, OutOfProfile}
+use Rattle.sp_io.specs.Moved.{appended}
+use Rattle.sp_meaning.specs.declared.grammar.Field.{Field}
+use Rattle.sp_small_reader.specs.IntegerUnit.{IsIntegerUnit, Reads}
+use Rattle.sp_driver.specs.declared.exits.Exit.{Exit}
+use Rattle.sp_driver.specs.declared.exits.Exit.TheVariants as Exit
+use Rattle.sp_driver.specs.declared.exits.Refusal.{Refusal}
+use Rattle.sp_driver.specs.declared.exits.RunExit.{RunExit}
+use Rattle.sp_driver.specs.declared.exits.RunExit.TheVariants as RunExit
+use Rattle.sp_driver.specs.Parts.{IsPartPut}
+use Rattle.sp_driver.specs.Run.{Runs, RunCause}
+use Rattle.sp_driver.specs.Words.{Words, words_of}
+
+-- the content of the file at a path, or none where there is no such file; where the files are told
+abbrev pub Holds : Option (List ℕ → Option (List ℕ)) → List ℕ → Option (List ℕ) → Type 0
+Holds None path content = Unit {0}
+Holds (Some files) path content = content ≡ files path
+
+-- the most bytes of a module's text
+abbrev pub most_text : ℕ
+most_text = 1048576
+
+abbrev pub refused_at : List ℕ → ℕ → ℕ → MKind → Refusal
+refused_at path line col kind = record { path = path; place = record { line = line; col = col }; kind = kind }
+
+-- the file is not there, has too many bytes, or is not the text of a unit of unsigned integers
+abbrev pub IsRefused : List ℕ → Option (List ℕ) → Refusal → Type 0
+IsRefused path None refusal = refusal ≡ refused_at path 0 0 ModuleNotFound
+IsRefused path (Some text) refusal =
+    ((most_text < length text) × (refusal ≡ refused_at path 1 1 TooLarge))
+    ⊎ ((length text ≤ most_text) × (¬ IsIntegerUnit text) × (refusal ≡ refused_at path 1 1 OutOfProfile))
+
+-- the file is the text of a unit with these fields
+abbrev pub IsLoaded : Option (List ℕ) → List Field → Type 0
+IsLoaded None fields = ⊥
+IsLoaded (Some text) fields = (length text ≤ most_text) × Reads text fields
+
+-- nothing of the input was taken, and nothing was put out
+pub record IsUntouched (left_before left_after held_before held_after : Option (List ℕ)) : Type 0 where
+  pub left : left_after ≡ left_before
+  pub held : held_after ≡ held_before
+
+-- what the words, the files, the input and the output have to do with an exit; left is what the input has
+-- left, and held what the output holds, where they tell it
+abbrev pub Says : List (List ℕ) → Option (List ℕ → Option (List ℕ)) → Option (List ℕ) → Option (List ℕ) → Option (List ℕ) → Option (List ℕ) → Exit → Type 0
+Says words files left_before left_after held_before held_after Exit.Usage =
+    (words_of words ≡ None) × IsUntouched left_before left_after held_before held_after
+Says words files left_before left_after held_before held_after (Exit.Refused refusal) =
+    (wanted : Words) × (content : Option (List ℕ))
+    × (words_of words ≡ Some wanted) × Holds files wanted.file content × IsRefused wanted.file content refusal
+    × IsUntouched left_before left_after held_before held_after
+Says words files left_before left_after held_before held_after Exit.ModulesFault =
+    (wanted : Words) × (words_of words ≡ Some wanted) × IsUntouched left_before left_after held_before held_after
+Says words files left_before left_after held_before held_after Exit.NoMemory =
+    (wanted : Words) × (words_of words ≡ Some wanted) × IsUntouched left_before left_after held_before held_after
+Says words files left_before left_after held_before held_after (Exit.Ran exit) =
+    (wanted : Words) × (content : Option (List ℕ)) × (fields : List Field)
+    × (words_of words ≡ Some wanted) × Holds files wanted.file content × IsLoaded content fields
+    × Runs fields wanted.increment left_before left_after held_before held_after exit
+
+-- how often the modules, the input, the output and the output for messages failed
+pub record Counts : Type 0 where
+  pub modules : ℕ
+  pub input : ℕ
+  pub out : ℕ
+  pub err : ℕ
+
+-- which counts of faults rose at an exit, the messages aside
+abbrev pub ExitCause : Counts → Counts → Exit → Type 0
+ExitCause before after Exit.ModulesFault = (before.modules < after.modules) × (after.input ≡ before.input) × (after.out ≡ before.out)
+ExitCause before after (Exit.Ran exit) = (after.modules ≡ before.modules) × RunCause before.input after.input before.out after.out exit
+ExitCause before after exit = (after.modules ≡ before.modules) × (after.input ≡ before.input) × (after.out ≡ before.out)
+
+abbrev pub run_status : RunExit → ℕ
+run_status RunExit.Done = 0
+run_status RunExit.Failed = 1
+run_status RunExit.InputFault = 4
+run_status RunExit.OutFault = 5
+run_status RunExit.TooLong = 6
+run_status RunExit.NoMemory = 7
+
+-- the status that an exit stands for
+abbrev pub status_of : Exit → ℕ
+status_of Exit.Usage = 2
+status_of (Exit.Refused refusal) = 3
+status_of Exit.ModulesFault = 4
+status_of Exit.NoMemory = 7
+status_of (Exit.Ran exit) = run_status exit
+
+-- `PATH:LINE:COL: M9 TypeMismatch`
+abbrev pub refusal_text : Refusal → List ℕ
+refusal_text r =
+    r.path ++ codes ":" ++ decimal r.place.line ++ codes ":" ++ decimal r.place.col ++ codes ": M" ++ decimal (module_kind_number r.kind) ++ codes " " ++ module_kind_name r.kind ++ codes "\n"
+
+abbrev pub run_message : RunExit → List ℕ
+run_message RunExit.InputFault = codes "spicy-driver: read fault\n"
+run_message RunExit.TooLong = codes "spicy-driver: input too long\n"
+run_message exit = []
+
+-- the message of an exit
+abbrev pub message_of : Exit → List ℕ
+message_of Exit.Usage = codes "spicy-driver: usage\n"
+message_of (Exit.Refused refusal) = refusal_text refusal
+message_of Exit.ModulesFault = codes "spicy-driver: read fault\n"
+message_of Exit.NoMemory = []
+message_of (Exit.Ran exit) = run_message exit
+
+-- the message of an exit was put whole and the status is that of the exit; or it was put in part, if at
+-- all, since the output for messages failed or there was no memory
+abbrev pub Reported : Exit → Option (List ℕ) → Option (List ℕ) → ℕ → ℕ → ℕ → Type 0
+Reported exit held_before held_after faults_before faults_after status =
+    ((status ≡ status_of exit) × (held_after ≡ appended held_before (message_of exit)) × (faults_after ≡ faults_before))
+    ⊎ (((status ≡ 5) × IsPartPut held_before held_after (message_of exit) × (faults_before < faults_after))
+    ⊎ ((status ≡ 7) × IsPartPut held_before held_after (message_of exit) × (faults_after ≡ faults_before)))
