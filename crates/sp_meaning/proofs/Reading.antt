@@ -1,5 +1,5 @@
 -- How the reading of fields goes on when bytes are there, and how it continues on more bytes.
-use Rattle.std.proofs.Common.{◌≡◌, ◌≢◌, ◌≤◌, ◌<◌, ◌+◌, ◌-◌, ℕ, List, [], ◌∷◌, ◌++◌, length, take, drop, Bool, true, false, cond, leb, sym, ap, subst, ◌∙◌, refl, append_assoc, arith, ⊎_elim, lit<}
+use Rattle.std.proofs.Common.{◌≡◌, ◌≢◌, ◌≤◌, ◌<◌, ℕ, List, [], ◌∷◌, ◌++◌, length, take, drop, false, cond, sym, ap, subst, ◌∙◌, refl, append_assoc, arith, ⊎_elim, lit<}
 use Rattle.std.proofs.lemmas.List.{append-nil, take-append-le, drop-append-le, length-append, length-drop}
 use Rattle.std.proofs.lemmas.Bool.{le-leb, lt-leb, cases_lt}
 use Rattle.sp_base.specs.Input.{Close, held_open, ended}
@@ -9,11 +9,10 @@ use Rattle.sp_meaning.specs.declared.grammar.Field.{Field}
 use Rattle.sp_meaning.specs.declared.grammar.IntType.{IntType}
 use Rattle.sp_meaning.specs.declared.grammar.IntType.TheVariants.{Uint8, Uint16, Uint32, Uint64}
 use Rattle.sp_meaning.specs.declared.stand.Stand.{Stand}
-use Rattle.sp_meaning.specs.declared.stand.Stand.TheVariants as Stand
 use Rattle.sp_meaning.specs.Width.{width_of}
-use Rattle.sp_meaning.specs.Leaf.{Leaf, got, lacking, integer_leaf}
-use Rattle.sp_meaning.specs.Result.{State, End, fine, failed, need, Result, ends, behind, on_end, if_fine, then_do}
-use Rattle.sp_meaning.specs.Meaning.{stored, field_by, field_means, fields_mean, begun, meaning_by, mean}
+use Rattle.sp_meaning.specs.Leaf.{got, lacking, integer_leaf}
+use Rattle.sp_meaning.specs.Result.{State, fine, failed, need, Result, ends, behind, then_do}
+use Rattle.sp_meaning.specs.Meaning.{stored, field_by, fields_mean, begun, meaning_by, mean}
 use Rattle.sp_meaning.specs.Steady.{IsDecided, IsSteady}
 
 pub behind-nil : (r : Result) → behind [] r ≡ r

@@ -1,20 +1,18 @@
 -- The meaning of a unit on a list of bytes that is held open or ended. It reads the grammar on the whole
 -- list; pieces don't occur in it.
-use Rattle.std.specs.Prelude.{ℕ, ◌+◌, ◌-◌, List, [], ◌∷◌, ◌++◌, length, drop, min, None}
+use Rattle.std.specs.Prelude.{ℕ, ◌+◌, List, [], ◌∷◌, ◌++◌, length, drop, min, None}
 use Rattle.sp_base.specs.Input.{Close}
 use Rattle.sp_base.specs.declared.kinds.PKind.TheVariants.{Short}
 use Rattle.sp_base.specs.declared.places.ParseError.{ParseError}
-use Rattle.sp_value.specs.Tree.{TreeData, unit, fields_of}
+use Rattle.sp_value.specs.Tree.{unit, fields_of}
 use Rattle.sp_value.specs.Value.{told_value}
 use Rattle.sp_value.specs.declared.event.Event.{Event}
 use Rattle.sp_value.specs.declared.event.What.{What}
-use Rattle.sp_value.specs.declared.event.What.TheVariants as What
 use Rattle.sp_value.specs.declared.value.Value.{Value}
 use Rattle.sp_meaning.specs.declared.grammar.Field.{Field}
 use Rattle.sp_meaning.specs.declared.stand.Stand.{Stand}
-use Rattle.sp_meaning.specs.declared.stand.Stand.TheVariants as Stand
 use Rattle.sp_meaning.specs.Leaf.{Leaf, got, short, needs, integer_leaf}
-use Rattle.sp_meaning.specs.Result.{State, End, fine, failed, need, Result, ends, then_do}
+use Rattle.sp_meaning.specs.Result.{State, fine, failed, need, Result, ends, then_do}
 use Rattle.sp_meaning.specs.Width.{width_of}
 
 -- the data end too early for what begins at a place

@@ -1,19 +1,17 @@
 -- What a session stands for, from call to call.
 use Rattle.std.specs.Prelude.{Result, Ok, Err, OnOk, IfOk}
-use Rattle.std.proofs.Common.{Bool, true, false, ◌≡◌, ◌≢◌, ◌≤◌, ◌<◌, ◌+◌, ◌-◌, ℕ, List, [], ◌∷◌, ◌++◌, length, drop, min, sym, ap, subst, ◌∙◌, refl, arith}
+use Rattle.std.proofs.Common.{Bool, true, false, ◌≡◌, ◌≢◌, ◌+◌, ◌-◌, ℕ, List, [], ◌∷◌, ◌++◌, length, drop, sym, ap, subst, ◌∙◌, refl, arith}
 use Rattle.std.proofs.lemmas.List.{append-nil, drop_all, length-append, length-drop}
 use Rattle.sp_base.specs.Input.{held_open, ended}
 use Rattle.sp_value.specs.declared.event.Event.{Event}
 use Rattle.sp_meaning.specs.declared.grammar.Field.{Field}
 use Rattle.sp_meaning.specs.declared.stand.Stand.{Stand}
-use Rattle.sp_meaning.specs.declared.stand.Stand.TheVariants as Stand
 use Rattle.sp_meaning.specs.Result.{Result as Reading, ends, fine, failed, need}
 use Rattle.sp_meaning.specs.Meaning.{Meaning, fields_mean, begun, meaning_by, mean, least, low}
 use Rattle.sp_meaning.proofs.Reading.{width_some, is_final, is_final_ended}
 use Rattle.sp_session.specs.declared.progress.Progress.{Progress}
 use Rattle.sp_session.specs.declared.session.Phase.{Phase}
-use Rattle.sp_session.specs.declared.session.Phase.TheVariants as Phase
-use Rattle.sp_session.specs.Reading.{Leads, Lacks, Waits, Ends, Advanced, state_of}
+use Rattle.sp_session.specs.Reading.{Leads, Lacks, Waits, Advanced, state_of}
 use Rattle.sp_session.specs.Session.{IsAt, IsLive, Stores, told_in}
 use Rattle.sp_session.proofs.Steps.{mean_waits}
 

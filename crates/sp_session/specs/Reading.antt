@@ -4,7 +4,6 @@ use Rattle.sp_base.specs.Input.{Close, held_open, ended}
 use Rattle.sp_value.specs.declared.event.Event.{Event}
 use Rattle.sp_meaning.specs.declared.grammar.Field.{Field}
 use Rattle.sp_meaning.specs.declared.stand.Stand.{Stand}
-use Rattle.sp_meaning.specs.declared.stand.Stand.TheVariants as Stand
 use Rattle.sp_meaning.specs.Width.{width_of}
 use Rattle.sp_meaning.specs.Result.{State}
 use Rattle.sp_meaning.specs.Meaning.{fields_mean, begun, mean, short_at}

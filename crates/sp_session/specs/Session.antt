@@ -1,14 +1,13 @@
 -- What a session stands for.
-use Rattle.std.specs.Prelude.{◌≡◌, ◌≤◌, ◌<◌, ◌+◌, ℕ, List, [], length}
+use Rattle.std.specs.Prelude.{◌≡◌, ℕ, List, [], length}
 use Rattle.sp_base.specs.Input.{held_open, ended}
 use Rattle.sp_value.specs.declared.event.Event.{Event}
 use Rattle.sp_meaning.specs.declared.grammar.Field.{Field}
 use Rattle.sp_meaning.specs.declared.stand.Stand.{Stand}
 use Rattle.sp_meaning.specs.declared.stand.Stand.TheVariants.{Waiting, Done, Failed}
-use Rattle.sp_meaning.specs.Meaning.{mean, begun}
+use Rattle.sp_meaning.specs.Meaning.{mean}
 use Rattle.sp_session.specs.declared.progress.Progress.{Progress}
 use Rattle.sp_session.specs.declared.session.Phase.{Phase}
-use Rattle.sp_session.specs.declared.session.Phase.TheVariants as Phase
 use Rattle.sp_session.specs.declared.session.Session.{Session}
 use Rattle.sp_session.specs.Reading.{Leads, Waits, state_of}
 

@@ -1,4 +1,4 @@
-use Rattle.std.proofs.Common.{ℕ, ◌<◌, arith, refl, ap, sym, ◌∙◌, ◌*◌, ◌+◌, slice_index_or}
+use Rattle.std.proofs.Common.{◌<◌, arith, refl, ap, sym, ◌∙◌, ◌*◌, ◌+◌, slice_index_or}
 use Rattle.sp_value.proofs.Numbers.{big_endian-take, number_more, number_fits}
 use Rattle.sp_value.proofs.number.read_big.Goals as goal
 

@@ -1,4 +1,4 @@
-use Rattle.std.proofs.Common.{ℕ, ◌<◌, ◌-◌, length, arith, slice_index_or}
+use Rattle.std.proofs.Common.{◌<◌, ◌-◌, length, arith, slice_index_or}
 use Rattle.sp_value.proofs.Numbers.{number_fits, number_before, little_endian-before}
 use Rattle.sp_value.proofs.number.read_little.Goals as goal
 

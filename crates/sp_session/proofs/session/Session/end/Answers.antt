@@ -1,5 +1,4 @@
-use Rattle.std.specs.Prelude.{OnOk, IfOk}
-use Rattle.std.proofs.Common.{◌≡◌, refl, ap, sym, ◌∙◌, subst, rules}
+use Rattle.std.proofs.Common.{refl, sym, ◌∙◌, subst, rules}
 use Rattle.sp_meaning.specs.declared.stand.Stand.{Stand}
 use Rattle.sp_session.specs.declared.session.Session.{Session}
 use Rattle.sp_session.specs.Session.{EndedFor, IsLive, grammar}

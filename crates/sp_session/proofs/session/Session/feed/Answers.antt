@@ -1,9 +1,5 @@
-use Rattle.std.specs.Prelude.{OnOk, IfOk}
-use Rattle.std.proofs.Common.{◌≡◌, ◌≢◌, ◌+◌, ◌++◌, length, refl, ap, sym, ◌∙◌, subst, rules, arith}
-use Rattle.sp_value.specs.declared.event.Event.{Event}
+use Rattle.std.proofs.Common.{◌+◌, ◌++◌, length, ap, sym, ◌∙◌, subst, rules}
 use Rattle.sp_meaning.specs.declared.stand.Stand.{Stand}
-use Rattle.sp_meaning.specs.declared.stand.Stand.TheVariants as Stand
-use Rattle.sp_meaning.specs.Meaning.{mean}
 use Rattle.sp_session.specs.declared.session.Session.{Session}
 use Rattle.sp_session.specs.declared.session.Phase.TheVariants as Phase
 use Rattle.sp_session.specs.Session.{StandsFor, IsAt, IsLive, grammar}

@@ -1,4 +1,4 @@
-use Rattle.std.proofs.Common.{◌≡◌, ap, ◌∙◌, length}
+use Rattle.std.proofs.Common.{◌∙◌}
 use Rattle.sp_session.specs.Session.{grammar}
 use Rattle.sp_session.proofs.Stands.{kept_at}
 use Rattle.sp_session.proofs.session.Session.kept.Goals as goal
