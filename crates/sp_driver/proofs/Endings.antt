@@ -1,12 +1,11 @@
 -- What the exits of the program say.
-use Rattle.std.proofs.Common.{◌≡◌, ◌≤◌, ◌<◌, ◌++◌, ℕ, List, length, take, drop, Option, Some, None, sym, ap, ◌∙◌, refl, subst, inl, inr}
+use Rattle.std.proofs.Common.{◌≡◌, ◌≤◌, ℕ, List, length, take, drop, Option, Some, None, sym, refl, subst, inr}
 use Rattle.std.proofs.lemmas.List.{take-append-drop}
 use Rattle.sp_base.specs.declared.kinds.MKind.TheVariants.{OutOfProfile}
 use Rattle.sp_io.specs.Moved.{appended}
 use Rattle.sp_small_reader.specs.IntegerUnit.{IsIntegerUnit}
 use Rattle.sp_driver.specs.declared.exits.Exit.{Exit}
-use Rattle.sp_driver.specs.declared.exits.Exit.TheVariants as Exit
-use Rattle.sp_driver.specs.Driver.{Holds, IsRefused, most_text, refused_at}
+use Rattle.sp_driver.specs.Driver.{Holds, most_text}
 use Rattle.sp_driver.specs.Loads.{IsNotLoaded, IsRefusalOrNoMemory}
 use Rattle.sp_driver.specs.Parts.{IsPartPut}
 

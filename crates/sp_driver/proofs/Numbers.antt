@@ -1,6 +1,6 @@
 -- Numbers on the command line.
-use Rattle.std.proofs.Common.{◌≡◌, ◌≤◌, ◌<◌, ◌+◌, ◌-◌, ◌*◌, ℕ, Bool, true, false, ◌&&◌, List, [], ◌∷◌, length, drop, get_or, Option, Some, None, leb, cond, sym, ap, ◌∙◌, refl, arith}
-use Rattle.std.proofs.lemmas.Bool.{lt-leb, cond_both, cond-false, and_right, eqb-true}
+use Rattle.std.proofs.Common.{◌≡◌, ◌<◌, ◌+◌, ◌-◌, ◌*◌, ℕ, ◌&&◌, List, [], ◌∷◌, length, drop, get_or, Option, Some, None, leb, ap, ◌∙◌, refl, arith}
+use Rattle.std.proofs.lemmas.Bool.{lt-leb, cond_both, cond-false, eqb-true}
 use Rattle.std.proofs.lemmas.List.{drop_more}
 use Rattle.std.specs.Prelude.{◌==◌}
 use Rattle.sp_driver.specs.Words.{number_from, number_of}

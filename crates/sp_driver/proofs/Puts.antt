@@ -1,7 +1,7 @@
 -- Steps of the loops that put lines and take pieces.
 use Rattle.std.specs.Prelude.{Result, Ok, Err, OnErr}
-use Rattle.std.proofs.Common.{◌≡◌, ◌≤◌, ◌<◌, ◌+◌, ℕ, List, [], ◌∷◌, ◌++◌, length, take, drop, get_or, Option, sym, ap, ◌∙◌, refl, append_assoc}
-use Rattle.std.proofs.lemmas.List.{append-nil, take_more, drop_more, take-append-drop}
+use Rattle.std.proofs.Common.{◌≡◌, ◌<◌, ◌+◌, ℕ, List, [], ◌∷◌, ◌++◌, length, take, drop, get_or, Option, sym, ap, ◌∙◌, refl, append_assoc}
+use Rattle.std.proofs.lemmas.List.{append-nil, take_more, take-append-drop}
 use Rattle.sp_io.specs.Moved.{appended, prepended, Moves}
 use Rattle.sp_io.proofs.Moves.{appended-appended, appended-nil, prepended-prepended}
 use Rattle.sp_value.specs.declared.event.Event.{Event}

@@ -1,16 +1,15 @@
 -- A run, from piece to piece.
-use Rattle.std.specs.Prelude.{MatchOption, nat_lt, ◌⊎◌, ◌%◌}
-use Rattle.std.proofs.Common.{Bool, true, false, inl, inr, ◌≡◌, ◌≤◌, ◌<◌, ◌+◌, ◌*◌, ◌/◌, ◌-◌, ◌^◌, ℕ, zero, suc, List, [], ◌∷◌, ◌++◌, length, take, drop, Option, Some, None, sym, ap, ◌∙◌, refl, subst, arith, ⊎_elim, append_assoc, cond}
+use Rattle.std.specs.Prelude.{◌⊎◌, ◌%◌}
+use Rattle.std.proofs.Common.{Bool, true, false, inl, inr, ◌≡◌, ◌≤◌, ◌<◌, ◌+◌, ◌*◌, ◌/◌, ◌-◌, ℕ, zero, suc, List, [], ◌++◌, length, take, drop, Option, Some, None, sym, ap, ◌∙◌, refl, subst, arith, ⊎_elim, append_assoc, cond}
 use Rattle.std.proofs.lemmas.Bool.{cases_lt, lt-ltb, le-ltb}
-use Rattle.std.proofs.lemmas.List.{append-nil, length-append, take-append-le, take_at, take_all, drop_all}
+use Rattle.std.proofs.lemmas.List.{append-nil, length-append, take-append-le, take_at, take_all}
 use Rattle.std.proofs.lemmas.Nat.{div-mul-add}
 use Rattle.std.proofs.Math.Nat.{mul-le-mul_right}
-use Rattle.sp_base.specs.Input.{Close, held_open, ended}
+use Rattle.sp_base.specs.Input.{held_open, ended}
 use Rattle.sp_io.specs.Moved.{appended, prepended}
 use Rattle.sp_io.proofs.Moves.{appended-appended, appended-nil, prepended-prepended, prepended-nil}
 use Rattle.sp_meaning.specs.declared.grammar.Field.{Field}
 use Rattle.sp_meaning.specs.declared.stand.Stand.{Stand}
-use Rattle.sp_meaning.specs.declared.stand.Stand.TheVariants as Stand
 use Rattle.sp_meaning.specs.Meaning.{mean}
 use Rattle.sp_meaning.proofs.Reading.{is_decided}
 use Rattle.sp_session.specs.declared.session.Session.{Session}
@@ -18,12 +17,10 @@ use Rattle.sp_value.specs.declared.event.Event.{Event}
 use Rattle.sp_session.specs.Session.{StandsFor, IsFed, IsFresh, grammar, told_by, told_in}
 use Rattle.sp_json.specs.Lines.{lines_of}
 use Rattle.sp_driver.specs.declared.exits.RunExit.{RunExit}
-use Rattle.sp_driver.specs.declared.exits.RunExit.TheVariants as RunExit
 use Rattle.sp_driver.specs.Parts.{IsFront, IsPartPut}
 use Rattle.sp_driver.specs.Shown.{flow_name, most_taken, added, shown, whole, run_lines}
 use Rattle.sp_driver.specs.Run.{IsPrompt, IsRunPart, IsTakenWhole, AtExit, Runs}
 use Rattle.sp_driver.specs.declared.exits.Stop.{Stop}
-use Rattle.sp_driver.specs.declared.exits.Stop.TheVariants as Stop
 use Rattle.sp_driver.specs.Fed.{IsFedBy, exit_of_stop, exit_of_stand}
 
 -- what is shown of whole pieces doesn't hang on what follows

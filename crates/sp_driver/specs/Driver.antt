@@ -1,5 +1,5 @@
 -- What the program does, by its exit.
-use Rattle.std.specs.Prelude.{◌≡◌, ◌≤◌, ◌<◌, ◌⊎◌, ℕ, List, [], ◌∷◌, ◌++◌, length, Option, Some, None, codes, decimal}
+use Rattle.std.specs.Prelude.{◌≡◌, ◌≤◌, ◌<◌, ◌⊎◌, ℕ, List, [], ◌++◌, length, Option, Some, None, codes, decimal}
 use Rattle.sp_base.specs.Kinds.{module_kind_name, module_kind_number}
 use Rattle.sp_base.specs.declared.kinds.MKind.{MKind}
 use Rattle.sp_base.specs.declared.kinds.MKind.TheVariants.{ModuleNotFound, TooLarge, OutOfProfile}
@@ -7,10 +7,8 @@ use Rattle.sp_io.specs.Moved.{appended}
 use Rattle.sp_meaning.specs.declared.grammar.Field.{Field}
 use Rattle.sp_small_reader.specs.IntegerUnit.{IsIntegerUnit, Reads}
 use Rattle.sp_driver.specs.declared.exits.Exit.{Exit}
-use Rattle.sp_driver.specs.declared.exits.Exit.TheVariants as Exit
 use Rattle.sp_driver.specs.declared.exits.Refusal.{Refusal}
 use Rattle.sp_driver.specs.declared.exits.RunExit.{RunExit}
-use Rattle.sp_driver.specs.declared.exits.RunExit.TheVariants as RunExit
 use Rattle.sp_driver.specs.Parts.{IsPartPut}
 use Rattle.sp_driver.specs.Run.{Runs, RunCause}
 use Rattle.sp_driver.specs.Words.{Words, words_of}
@@ -62,18 +60,14 @@ Says words files left_before left_after held_before held_after (Exit.Ran exit) =
     × (words_of words ≡ Some wanted) × Holds files wanted.file content × IsLoaded content fields
     × Runs fields wanted.increment left_before left_after held_before held_after exit
 
--- how often the modules, the input, the output and the output for messages failed
-pub record Counts : Type 0 where
-  pub modules : ℕ
-  pub input : ℕ
-  pub out : ℕ
-  pub err : ℕ
-
 -- which counts of faults rose at an exit, the messages aside
-abbrev pub ExitCause : Counts → Counts → Exit → Type 0
-ExitCause before after Exit.ModulesFault = (before.modules < after.modules) × (after.input ≡ before.input) × (after.out ≡ before.out)
-ExitCause before after (Exit.Ran exit) = (after.modules ≡ before.modules) × RunCause before.input after.input before.out after.out exit
-ExitCause before after exit = (after.modules ≡ before.modules) × (after.input ≡ before.input) × (after.out ≡ before.out)
+abbrev pub ExitCause : ℕ → ℕ → ℕ → ℕ → ℕ → ℕ → Exit → Type 0
+ExitCause modules_before modules_after input_before input_after out_before out_after Exit.ModulesFault =
+    (modules_before < modules_after) × (input_after ≡ input_before) × (out_after ≡ out_before)
+ExitCause modules_before modules_after input_before input_after out_before out_after (Exit.Ran exit) =
+    (modules_after ≡ modules_before) × RunCause input_before input_after out_before out_after exit
+ExitCause modules_before modules_after input_before input_after out_before out_after exit =
+    (modules_after ≡ modules_before) × (input_after ≡ input_before) × (out_after ≡ out_before)
 
 abbrev pub run_status : RunExit → ℕ
 run_status RunExit.Done = 0

@@ -3,13 +3,10 @@ use Rattle.std.specs.Prelude.{◌≡◌, ◌*◌, ℕ, List, length, Option}
 use Rattle.sp_io.specs.Moved.{appended, prepended}
 use Rattle.sp_meaning.specs.declared.grammar.Field.{Field}
 use Rattle.sp_meaning.specs.declared.stand.Stand.{Stand}
-use Rattle.sp_meaning.specs.declared.stand.Stand.TheVariants as Stand
 use Rattle.sp_session.specs.declared.session.Session.{Session}
 use Rattle.sp_session.specs.Session.{StandsFor, IsFed, grammar}
 use Rattle.sp_driver.specs.declared.exits.RunExit.{RunExit}
-use Rattle.sp_driver.specs.declared.exits.RunExit.TheVariants as RunExit
 use Rattle.sp_driver.specs.declared.exits.Stop.{Stop}
-use Rattle.sp_driver.specs.declared.exits.Stop.TheVariants as Stop
 use Rattle.sp_driver.specs.declared.exits.Turn.{Turn}
 use Rattle.sp_driver.specs.declared.exits.Turn.TheVariants.{More, Ends}
 use Rattle.sp_driver.specs.Run.{Runs, RunCause}

@@ -1,3 +1,4 @@
+pub mod Causes
 pub mod Driver
 pub mod Fed
 pub mod Loads

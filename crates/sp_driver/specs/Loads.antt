@@ -2,7 +2,6 @@
 use Rattle.std.specs.Prelude.{◌≡◌, ◌<◌, ℕ, List, Option}
 use Rattle.sp_base.specs.declared.kinds.MKind.{MKind}
 use Rattle.sp_driver.specs.declared.exits.Exit.{Exit}
-use Rattle.sp_driver.specs.declared.exits.Exit.TheVariants as Exit
 use Rattle.sp_driver.specs.Driver.{Holds, IsRefused, refused_at}
 
 -- the module is refused, could not be read, or there was no memory for it

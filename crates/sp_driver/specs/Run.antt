@@ -1,5 +1,5 @@
 -- What each exit of a run says.
-use Rattle.std.specs.Prelude.{◌≡◌, ◌≤◌, ◌<◌, ◌*◌, ◌/◌, ◌⊎◌, ℕ, List, [], ◌++◌, length, Option, Some, MatchOption}
+use Rattle.std.specs.Prelude.{◌≡◌, ◌<◌, ◌*◌, ◌/◌, ℕ, List, [], ◌++◌, length, Option, Some, MatchOption}
 use Rattle.sp_base.specs.Input.{ended}
 use Rattle.sp_base.specs.declared.places.ParseError.{ParseError}
 use Rattle.sp_io.specs.Moved.{appended, prepended}
@@ -7,7 +7,6 @@ use Rattle.sp_meaning.specs.declared.grammar.Field.{Field}
 use Rattle.sp_meaning.specs.declared.stand.Stand.TheVariants as Stand
 use Rattle.sp_meaning.specs.Meaning.{mean}
 use Rattle.sp_driver.specs.declared.exits.RunExit.{RunExit}
-use Rattle.sp_driver.specs.declared.exits.RunExit.TheVariants as RunExit
 use Rattle.sp_driver.specs.Parts.{IsFront}
 use Rattle.sp_driver.specs.Shown.{most_taken, shown, whole, run_lines}
 

@@ -1,5 +1,5 @@
 -- The command line: `FILE` or `-i N FILE`.
-use Rattle.std.specs.Prelude.{ℕ, ◌+◌, ◌-◌, ◌*◌, List, [], ◌∷◌, Option, Some, None, Bool, true, false, ◌&&◌, not, nat_le, if◌then◌else◌, codes, ◌==◌}
+use Rattle.std.specs.Prelude.{ℕ, ◌+◌, ◌-◌, ◌*◌, List, [], ◌∷◌, Option, Some, None, Bool, false, ◌&&◌, not, nat_le, if◌then◌else◌, codes, ◌==◌}
 use Rattle.std.specs.Str.{bytes_eq}
 
 -- the size of pieces in bytes, and the file of the module

@@ -1,6 +1,7 @@
 // The program: it reads its words, the module and the input, and answers a status.
 ghost use Rattle.std.specs.Prelude.{◌≡◌, ◌<◌, ◌-◌, ◌^◌, ◌++◌, decimal, IfOk, OnOk};
 ghost use Rattle.sp_driver.specs.declared.exits.Exit.{Exit};
+ghost use Rattle.sp_driver.specs.Causes.{IsCausedBy};
 ghost use Rattle.sp_driver.specs.Driver.{Says, ExitCause, Reported, status_of, run_status, message_of, run_message, refusal_text};
 
 use crate::exits::{Exit, Refusal, RunExit};
@@ -24,8 +25,7 @@ fn drive<M: Modules, S: Source, O: Out>(
     requires input_faults { S.faults input.old < 2 ^ 64 - 1 }
     requires out_faults { O.faults out.old < 2 ^ 64 - 1 }
     ensures says { Says words.now (M.files modules.old) (S.left input.old) (S.left input.new) (O.held out.old) (O.held out.new) result }
-    ensures cause { ExitCause (record { modules = M.faults modules.old; input = S.faults input.old; out = O.faults out.old; err = 0 })
-        (record { modules = M.faults modules.new; input = S.faults input.new; out = O.faults out.new; err = 0 }) result }
+    ensures cause { ExitCause (M.faults modules.old) (M.faults modules.new) (S.faults input.old) (S.faults input.new) (O.faults out.old) (O.faults out.new) result }
 {
     let Some(wanted) = words_wanted(words) else {
         return Exit::Usage;
@@ -130,9 +130,9 @@ pub fn spicy_driver<M: Modules, S: Source, O: Out, E: Out>(
     requires err_faults { E.faults err.old < 2 ^ 64 - 1 }
     ensures exits { (exit : Exit)
         × Says words.now (M.files modules.old) (S.left input.old) (S.left input.new) (O.held out.old) (O.held out.new) exit
-        × ExitCause (record { modules = M.faults modules.old; input = S.faults input.old; out = O.faults out.old; err = E.faults err.old })
-        (record { modules = M.faults modules.new; input = S.faults input.new; out = O.faults out.new; err = E.faults err.new }) exit
         × Reported exit (E.held err.old) (E.held err.new) (E.faults err.old) (E.faults err.new) result }
+    ensures causes { IsCausedBy (record { modules = M.faults modules.old; input = S.faults input.old; out = O.faults out.old; err = E.faults err.old })
+        (record { modules = M.faults modules.new; input = S.faults input.new; out = O.faults out.new; err = E.faults err.new }) result }
 {
     let exit = drive(alloc, words, modules, input, out);
     report(alloc, &exit, err)

@@ -1,5 +1,4 @@
 use Rattle.std.proofs.Common.{Some, Err, ap, arith}
-use Rattle.sp_small_reader.specs.IntegerUnit.{IsIntegerUnit}
 use Rattle.sp_driver.proofs.Endings.{holds_by, out_of_profile}
 use Rattle.sp_driver.proofs.load.load.Goals as goal
 

@@ -1,8 +1,7 @@
-use Rattle.std.proofs.Common.{ℕ, List, [], refl, sym, ◌∙◌, subst}
+use Rattle.std.proofs.Common.{List, [], refl, sym, ◌∙◌, subst}
 use Rattle.sp_meaning.specs.declared.grammar.Field.{Field}
-use Rattle.sp_session.specs.Session.{grammar}
 use Rattle.sp_driver.specs.Run.{Runs}
-use Rattle.sp_driver.specs.Fed.{Turned, IsFedBy}
+use Rattle.sp_driver.specs.Fed.{IsFedBy}
 use Rattle.sp_driver.proofs.Runs.{runs_not, runs_stopped_first, told_first}
 use Rattle.sp_driver.proofs.run.run_unit.Goals as goal
 

@@ -1,5 +1,4 @@
-use Rattle.std.proofs.Common.{◌≡◌, ◌≤◌, ◌<◌, ◌+◌, ◌-◌, arith, sym, ap, ◌∙◌, subst, suc, ◌++◌, length, Ok}
-use Rattle.sp_io.specs.Moved.{appended, prepended}
+use Rattle.std.proofs.Common.{◌≤◌, ◌+◌, arith, sym, ap, subst, suc, ◌++◌, length, Ok}
 use Rattle.sp_session.specs.Session.{grammar}
 use Rattle.sp_driver.specs.Shown.{most_taken}
 use Rattle.sp_driver.specs.Run.{Runs}

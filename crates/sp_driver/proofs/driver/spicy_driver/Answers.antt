@@ -1,0 +1,9 @@
+use Rattle.sp_driver.proofs.Causing.{caused_by}
+use Rattle.sp_driver.proofs.driver.spicy_driver.Goals as goal
+
+pub returns-clause-causes : goal.returns-clause-causes
+returns-clause-causes g c =
+    caused_by
+    (record { modules = g.M.Modules.faults c.args.modules.now; input = g.S.Source.faults c.args.input.now; out = g.O.Out.faults c.args.out.now; err = g.E.Out.faults c.args.err.now })
+    (record { modules = g.M.Modules.faults c.drive-exit.new.modules; input = g.S.Source.faults c.drive-exit.new.input; out = g.O.Out.faults c.drive-exit.new.out; err = g.E.Out.faults c.report.new.err })
+    c.drive-exit.result (g.E.Out.held c.args.err.now) (g.E.Out.held c.report.new.err) c.report.result c.drive-exit.ensures.cause c.report.ensures
