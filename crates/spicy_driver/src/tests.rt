@@ -216,6 +216,8 @@ fn pieces(rt: HostRuntime) -> Result<(), Fail> {
         (b"\x03", 1),
         (b"\x04", 0),
     ] {
+        assert!(rt; session.received() < 9);
+        assert!(rt; piece.len() < 9);
         events.clear();
         session.feed(piece, &mut events)?;
         assert_eq!(rt; events.as_slice().len(), told);

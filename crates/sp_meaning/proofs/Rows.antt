@@ -1,0 +1,32 @@
+-- The meaning computed on a few units and inputs.
+use Rattle.std.specs.Prelude.{codes}
+use Rattle.std.proofs.Common.{◌≡◌, List, [], ◌∷◌, refl}
+use Rattle.sp_base.specs.Input.{held_open, ended}
+use Rattle.sp_value.specs.Tree.{uint, unit, no_fields, field}
+use Rattle.sp_value.specs.declared.event.What.TheVariants as What
+use Rattle.sp_meaning.specs.declared.grammar.Field.{Field}
+use Rattle.sp_meaning.specs.declared.grammar.IntType.TheVariants.{Uint8, Uint16}
+use Rattle.sp_meaning.specs.declared.stand.Stand.TheVariants as Stand
+use Rattle.sp_meaning.specs.Meaning.{mean, low, told, short_at}
+
+-- a byte, and then two bytes
+abbrev pair : List Field
+pair = record { name = codes "a"; kind = Uint8 } ∷ record { name = codes "b"; kind = Uint16 } ∷ []
+
+whole_pair : mean pair (1 ∷ 2 ∷ 3 ∷ []) held_open ≡ record { events = told (What.Done (unit (field (codes "a") (uint 1) (field (codes "b") (uint 515) no_fields)))); stand = Stand.Done; marks = [] }
+whole_pair = refl
+
+waiting_pair : mean pair (1 ∷ 2 ∷ []) held_open ≡ record { events = []; stand = Stand.Waiting; marks = 1 ∷ [] }
+waiting_pair = refl
+
+short_pair : mean pair (1 ∷ 2 ∷ []) ended ≡ record { events = told (What.Failed (short_at 1)); stand = Stand.Failed (short_at 1); marks = [] }
+short_pair = refl
+
+no_fields_at_once : mean [] [] held_open ≡ record { events = told (What.Done (unit no_fields)); stand = Stand.Done; marks = [] }
+no_fields_at_once = refl
+
+kept_from_1 : low pair (1 ∷ 2 ∷ []) held_open ≡ 1
+kept_from_1 = refl
+
+nothing_kept : low pair (1 ∷ 2 ∷ 3 ∷ 4 ∷ []) held_open ≡ 4
+nothing_kept = refl
