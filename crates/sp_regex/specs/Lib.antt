@@ -1,0 +1,9 @@
+pub mod Bounds
+pub mod Bytes
+pub mod Class
+pub mod Escapes
+pub mod Falls
+pub mod Language
+pub mod Room
+pub mod Trees
+pub mod Views

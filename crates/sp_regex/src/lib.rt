@@ -1,0 +1,11 @@
+//! Regular expressions of bytes: their syntax, read from a text.
+#![tactic(auto)]
+
+mod bounds;
+mod bytes;
+mod class;
+mod escape;
+mod tree;
+
+pub use bytes::ByteRange;
+pub use tree::{Count, Regex};
