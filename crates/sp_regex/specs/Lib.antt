@@ -4,6 +4,8 @@ pub mod Class
 pub mod Escapes
 pub mod Falls
 pub mod Language
+pub mod Levels
+pub mod Machine
 pub mod Room
 pub mod Trees
 pub mod Views

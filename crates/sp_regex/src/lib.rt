@@ -5,6 +5,8 @@ mod bounds;
 mod bytes;
 mod class;
 mod escape;
+mod level;
+mod reader;
 mod tree;
 
 pub use bytes::ByteRange;
