@@ -1,1 +1,4 @@
 pub mod Covers
+pub mod EscapeLaws
+pub mod BoundsLaws
+pub mod ClassLaws

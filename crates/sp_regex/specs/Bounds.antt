@@ -24,7 +24,7 @@ abbrev pub most_step : ℕ → Option ℕ → BoundsStep
 most_step n (Some m) = if nat_le n (greatest_from m) then Goes (Most n m) else Refused
 most_step n None = Refused
 
-abbrev least_step : Option ℕ → BoundsStep
+abbrev pub least_step : Option ℕ → BoundsStep
 least_step (Some n) = Goes (Least n)
 least_step None = Refused
 

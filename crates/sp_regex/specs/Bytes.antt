@@ -29,7 +29,7 @@ class_mark_of b =
     if b == 47 then class_mark.Misplaced else
     if nat_le b 127 then class_mark.Plain else class_mark.Misplaced
 
-abbrev mark_escaped : Mark → ℕ → Escaped
+abbrev pub mark_escaped : Mark → ℕ → Escaped
 mark_escaped mark.Plain b = escaped.Misplaced
 mark_escaped _ b = escaped.Byte b
 
@@ -47,7 +47,7 @@ hex_value b =
     if nat_le 97 b && nat_le b 102 then Some (b - 97 + 10) else
     if nat_le 65 b && nat_le b 70 then Some (b - 65 + 10) else None
 
-abbrev hex_sum : Option ℕ → Option ℕ → Option ℕ
+abbrev pub hex_sum : Option ℕ → Option ℕ → Option ℕ
 hex_sum (Some x) (Some y) = Some (16 * x + y)
 hex_sum _ _ = None
 

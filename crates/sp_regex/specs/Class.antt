@@ -81,7 +81,7 @@ escaped_step c step.Refused = refused
 abbrev pub can_end_with : ClassReader → ℕ → ℕ → Bool
 can_end_with c f lowest = nat_le f (lowest + 15) && leaves c (range_of f (if nat_lt f lowest then lowest else f))
 
-abbrev can_end_digit : ClassReader → ℕ → Option ℕ → Bool
+abbrev pub can_end_digit : ClassReader → ℕ → Option ℕ → Bool
 can_end_digit c f (Some x) = can_end_with c f (16 * x)
 can_end_digit c f None = false
 
@@ -95,7 +95,7 @@ escaped_to_step c f (step.Goes p) = if can_end c f p then goes (at_place c (Esca
 escaped_to_step c f (step.Ends b) = range_step c f b
 escaped_to_step c f step.Refused = refused
 
-abbrev place_step : ClassReader → ClassPlace → ℕ → Outcome
+abbrev pub place_step : ClassReader → ClassPlace → ℕ → Outcome
 place_step c Open b = open_step c (class_mark_of b) b
 place_step c Empty b = item_step c (class_mark_of b) b
 place_step c Items b = more_step c (class_mark_of b) b

@@ -7,5 +7,6 @@ pub mod Language
 pub mod Levels
 pub mod Machine
 pub mod Room
+pub mod Syntax
 pub mod Trees
 pub mod Views

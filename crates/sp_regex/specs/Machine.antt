@@ -50,7 +50,7 @@ repeated s a n m = at_mode (with_piece s (repeat n m a)) Piece
 abbrev pub group_start : State → Option State
 group_start s = if nat_lt (length s.outer) 64 then Some (state (s.level ∷ s.outer) (opened never empty) Start s.class) else None
 
-abbrev group_end_in : List Opened → Opened → ClassReader → Option State
+abbrev pub group_end_in : List Opened → Opened → ClassReader → Option State
 group_end_in [] l c = None
 group_end_in (o ∷ os) l c = Some (state os o (Atom (either l.earlier l.pieces)) c)
 
@@ -92,7 +92,7 @@ bounded_step s a (bounds_to.Goes p) = Some (at_mode s (Bounds a p))
 bounded_step s a (bounds_to.Ends c) = Some (repeated s a c.least c.most)
 bounded_step s a bounds_to.Refused = None
 
-abbrev mode_step : State → Mode → ℕ → Option State
+abbrev pub mode_step : State → Mode → ℕ → Option State
 mode_step s Start b = start_step s (mark_of b) b
 mode_step s (Atom a) b = atom_step s a (mark_of b) b
 mode_step s Piece b = piece_step s (mark_of b) b
@@ -104,12 +104,12 @@ mode_step s (Bounds a p) b = bounded_step s a (bounds_step p b)
 abbrev pub step : State → ℕ → Option State
 step s b = mode_step s s.mode b
 
-abbrev finished_in : Opened → Mode → Option Syntax
+abbrev pub finished_in : Opened → Mode → Option Syntax
 finished_in l (Atom a) = Some (either l.earlier (followed l.pieces a))
 finished_in l Piece = Some (either l.earlier l.pieces)
 finished_in l _ = None
 
-abbrev finished_at : List Opened → Opened → Mode → Option Syntax
+abbrev pub finished_at : List Opened → Opened → Mode → Option Syntax
 finished_at [] l m = finished_in l m
 finished_at (o ∷ os) l m = None
 
