@@ -2,3 +2,4 @@ pub mod Covers
 pub mod EscapeLaws
 pub mod BoundsLaws
 pub mod ClassLaws
+pub mod StepLaws
