@@ -74,15 +74,15 @@ piece_atom : {k : ℕ} {e p q : Syntax} {w u : List ℕ} → (Q : Syntax → Lis
 piece_atom Q (once x) r = (_, _, x, inl r)
 piece_atom Q (counted x c) r = (_, _, x, inr (_, _, _, c, r))
 
-atom_piece : {k : ℕ} {w : List ℕ} → (Q : Syntax → List ℕ → Type 0) (e p : Syntax) → AtomThen k Q e p w → (q : Syntax) × (u : List ℕ) × IsPiece k q w u × Pieces k Q e (followed p q) u
+pub atom_piece : {k : ℕ} {w : List ℕ} → (Q : Syntax → List ℕ → Type 0) (e p : Syntax) → AtomThen k Q e p w → (q : Syntax) × (u : List ℕ) × IsPiece k q w u × Pieces k Q e (followed p q) u
 atom_piece Q e p (a, u, x, inl r) = (a, u, once x, r)
 atom_piece Q e p (a, u, x, inr (n, m, v, c, r)) = (repeat n m a, v, counted x c, r)
 
 -- a regular expression, and what follows it
-regex_open : {k : ℕ} {r : Syntax} {w v : List ℕ} → (Q : Syntax → List ℕ → Type 0) → IsRegex k r w v → Q r v → AtomThen k Q never empty w
+pub regex_open : {k : ℕ} {r : Syntax} {w v : List ℕ} → (Q : Syntax → List ℕ → Type 0) → IsRegex k r w v → Q r v → AtomThen k Q never empty w
 regex_open Q (alternatives (pieces p m) a) q = piece_atom Q p (_, _, m, (_, _, a, q))
 
-regex_close : {k : ℕ} {w : List ℕ} → (Q : Syntax → List ℕ → Type 0) → AtomThen k Q never empty w → (r : Syntax) × (v : List ℕ) × IsRegex k r w v × Q r v
+pub regex_close : {k : ℕ} {w : List ℕ} → (Q : Syntax → List ℕ → Type 0) → AtomThen k Q never empty w → (r : Syntax) × (v : List ℕ) × IsRegex k r w v × Q r v
 regex_close Q x = closed Q (atom_piece Q never empty x)
   where
     closed : {k : ℕ} {w : List ℕ} → (Q : Syntax → List ℕ → Type 0) → (q : Syntax) × (u : List ℕ) × IsPiece k q w u × Pieces k Q never (followed empty q) u → (r : Syntax) × (v : List ℕ) × IsRegex k r w v × Q r v

@@ -1,6 +1,6 @@
 -- The written syntax of regular expressions, one case for each of its alternatives.
 -- In each relation a list `w` stands, what is named is read from its front, and `v` is left of it.
-use Rattle.std.specs.Prelude.{◌≡◌, ℕ, suc, ◌+◌, ◌*◌, ◌<◌, ◌≤◌, ◌++◌, Bool, true, false, not, List, [], ◌∷◌, Option, Some, None, if◌then◌else◌}
+use Rattle.std.specs.Prelude.{◌≡◌, ℕ, suc, ◌+◌, ◌*◌, ◌<◌, ◌≤◌, ◌++◌, Bool, true, false, not, List, [], ◌∷◌, length, take, Option, Some, None, if◌then◌else◌}
 use Rattle.sp_regex.specs.declared.bytes.ByteRange.{ByteRange}
 use Rattle.sp_regex.specs.declared.bytes.Mark.TheVariants as mark
 use Rattle.sp_regex.specs.declared.bytes.ClassMark.TheVariants as class_mark
@@ -103,3 +103,15 @@ Derives text r = IsRegex 64 r text []
 -- the bytes are the text of some regular expression
 abbrev pub IsRegexText : List ℕ → Type 0
 IsRegexText text = (r : Syntax) × Derives text r
+
+-- some text of a regular expression begins with these bytes
+abbrev pub Begins : List ℕ → Type 0
+Begins front = (rest : List ℕ) × IsRegexText (front ++ rest)
+
+-- The text is that of no regular expression, and at `i` is the first byte that no such text has there, or
+-- the end, where the text ends too early.
+pub record IsFault (text : List ℕ) (i : ℕ) : Type 0 where
+  pub within : i ≤ length text
+  pub before : Begins (take i text)
+  pub here : i < length text → Begins (take (i + 1) text) → ⊥
+  pub no_text : IsRegexText text → ⊥

@@ -7,7 +7,9 @@ mod class;
 mod escape;
 mod level;
 mod reader;
+mod text;
 mod tree;
 
 pub use bytes::ByteRange;
+pub use text::{RegexFault, parse};
 pub use tree::{Count, Regex};
