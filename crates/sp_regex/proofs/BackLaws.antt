@@ -1,7 +1,6 @@
 -- A text byte by byte: what is left behind a byte makes what was left before it.
-use Rattle.std.proofs.Common.{◌≡◌, ℕ, zero, suc, ◌+◌, ◌-◌, ◌<◌, ◌≤◌, ◌==◌, ◌++◌, Bool, true, false, cond, List, [], ◌∷◌, length, Option, Some, None, refl, sym, ap, ◌∙◌, ◌⊎◌, inl, inr, subst, arith, nat_lt, get_or, if◌then◌else◌}
-use Rattle.std.proofs.lemmas.Bool.{eqb-true, lt-ltb, ltb-true, cond-true}
-use Rattle.sp_regex.specs.declared.bytes.ByteRange.{ByteRange}
+use Rattle.std.proofs.Common.{◌≡◌, ℕ, zero, suc, ◌+◌, ◌≤◌, ◌==◌, Bool, true, false, List, [], ◌∷◌, length, Option, Some, None, refl, sym, ap, ◌∙◌, inl, inr, subst, arith, nat_lt, if◌then◌else◌}
+use Rattle.std.proofs.lemmas.Bool.{eqb-true, ltb-true}
 use Rattle.sp_regex.specs.declared.bytes.Mark.{Mark}
 use Rattle.sp_regex.specs.declared.bytes.Mark.TheVariants as mark
 use Rattle.sp_regex.specs.declared.escape.EscapePlace.{EscapePlace}
@@ -19,15 +18,15 @@ use Rattle.sp_regex.specs.declared.reader.Mode.TheVariants.{Start, Atom, Piece, 
 use Rattle.sp_regex.specs.Trees.{Syntax, byte, any, class, empty, followed, never, either, repeat}
 use Rattle.sp_regex.specs.Bytes.{mark_of}
 use Rattle.sp_regex.specs.Escapes.{escape_step}
-use Rattle.sp_regex.specs.Bounds.{bounds_step, exactly}
+use Rattle.sp_regex.specs.Bounds.{bounds_step}
 use Rattle.sp_regex.specs.Class.{Outcome, goes, ends, refused, class_step, reader}
 use Rattle.sp_regex.specs.Levels.{Opened, opened}
-use Rattle.sp_regex.specs.Machine.{State, state, initial, at_mode, with_piece, repeated, group_start, group_end, group_end_in, start_step, piece_step, atom_step, escaped_step, classed_step, bounded_step, mode_step, step, finished}
-use Rattle.sp_regex.specs.Syntax.{IsEscape, IsClass, IsCount, star, plus, question, IsAtom, plain_byte, any_byte, escaped_byte, byte_class, group, IsPiece, MorePieces, no_piece, one_piece, IsAlternative, pieces, MoreAlternatives, no_alternative, one_alternative, IsRegex, alternatives}
-use Rattle.sp_regex.proofs.EscapeLaws.{escape_read, escape_back, escape_ends, EscapeFit, escape_fits, escape_below, escape_done, picks}
-use Rattle.sp_regex.proofs.BoundsLaws.{bounds_rest, BoundsFit, start_count, bounds_back, bounds_ends, bounds_done}
-use Rattle.sp_regex.proofs.ClassLaws.{class_rest, open_class, ClassFit, class_back, class_ends, class_done}
-use Rattle.sp_regex.proofs.StepLaws.{Alternatives, Pieces, Counted, AfterAtom, AtomThen, Closes, ModeRest, Left, atom_piece, regex_close}
+use Rattle.sp_regex.specs.Machine.{State, state, group_end, start_step, piece_step, atom_step, escaped_step, classed_step, bounded_step, mode_step, step}
+use Rattle.sp_regex.specs.Syntax.{IsCount, star, plus, question, plain_byte, any_byte, escaped_byte, byte_class, group, IsPiece, no_piece, one_piece, pieces, no_alternative, one_alternative, IsRegex}
+use Rattle.sp_regex.proofs.EscapeLaws.{escape_back, escape_ends, EscapeFit, escape_fits, picks}
+use Rattle.sp_regex.proofs.BoundsLaws.{BoundsFit, start_count, bounds_back, bounds_ends}
+use Rattle.sp_regex.proofs.ClassLaws.{open_class, ClassFit, class_back, class_ends}
+use Rattle.sp_regex.proofs.StepLaws.{Pieces, AfterAtom, AtomThen, Closes, ModeRest, Left, atom_piece, regex_close}
 
 -- the byte of a mark
 abbrev code : Mark → ℕ → ℕ
@@ -104,9 +103,10 @@ start_back os e p m c mark.ClassOpen b d fit g s =
     let f : state os (opened e p) Class (reader false [] class_at.Open) ≡ d = cc in
     subst (λ b. Makes d os (AtAtom e p) b) (is_code mark.ClassOpen b g) (subst (λ d. Makes d os (AtAtom e p) 91) f ((fit, (refl, refl)), λ t w l. (l.0, l.1, (class l.2.0 l.2.1, l.2.2, byte_class (open_class l.2.3), l.2.4))))
 start_back os e p m c mark.GroupOpen b d fit g s = elim (picks (nat_lt (length os) 64) _ _ _ s) [
-    inl h ↦ (let f : state (opened e p ∷ os) (opened never empty) Start c ≡ d = cc in let less = ltb-true (length os) 64 h.0 in
+  | inl h ↦ (let f : state (opened e p ∷ os) (opened never empty) Start c ≡ d = cc in let less = ltb-true (length os) 64 h.0 in
       subst (λ b. Makes d os (AtAtom e p) b) (is_code mark.GroupOpen b g) (subst (λ d. Makes d os (AtAtom e p) 40) f ((omega arith, tt), λ t w l. group_back os e p c t w l)))
-  | inr h ↦ cc ]
+  | inr h ↦ cc
+]
 start_back os e p m c mark.Backslash b d fit g s =
     let f : state os (opened e p) (Escape escape_at.Start) c ≡ d = cc in
     subst (λ b. Makes d os (AtAtom e p) b) (is_code mark.Backslash b g) (subst (λ d. Makes d os (AtAtom e p) 92) f ((fit, tt), λ t w l. (l.0, l.1, (byte l.2.0, l.2.1, escaped_byte l.2.2, l.2.3))))

@@ -1,11 +1,11 @@
 -- Bounds byte by byte.
-use Rattle.std.proofs.Common.{◌≡◌, ℕ, ◌+◌, ◌-◌, ◌*◌, ◌<◌, ◌≤◌, ◌==◌, ◌&&◌, Bool, true, false, cond, List, [], ◌∷◌, Option, Some, None, refl, sym, ap, ◌∙◌, ◌⊎◌, inl, inr, subst, arith, nat_le, if◌then◌else◌}
-use Rattle.std.proofs.lemmas.Bool.{cases_Bool, eqb-true, eqb-false, leb-true, leb-false, le-leb, cond-true, cond-false, and_parts, cases_eq}
+use Rattle.std.proofs.Common.{◌≡◌, ℕ, ◌+◌, ◌-◌, ◌*◌, ◌<◌, ◌≤◌, ◌==◌, ◌&&◌, List, ◌∷◌, Option, Some, None, refl, sym, ap, ◌∙◌, ◌⊎◌, inl, inr, subst, arith, nat_le}
+use Rattle.std.proofs.lemmas.Bool.{cases_Bool, eqb-true, leb-true, leb-false, le-leb, cond-true, cond-false, and_parts, cases_eq}
 use Rattle.std.proofs.lemmas.Bool.Decides.{nat_tests}
 use Rattle.sp_regex.specs.declared.bounds.BoundsPlace.{BoundsPlace}
 use Rattle.sp_regex.specs.declared.bounds.BoundsPlace.TheVariants.{Start, Least, Comma, Most}
 use Rattle.sp_regex.specs.declared.bounds.BoundsStep.{BoundsStep}
-use Rattle.sp_regex.specs.declared.bounds.BoundsStep.TheVariants.{Goes, Ends, Refused}
+use Rattle.sp_regex.specs.declared.bounds.BoundsStep.TheVariants.{Goes, Ends}
 use Rattle.sp_regex.specs.declared.tree.Count.{Count}
 use Rattle.sp_regex.specs.Bytes.{decimal_value}
 use Rattle.sp_regex.specs.Bounds.{with_digit, greatest_from, bounds_step, digit_step, most_step, least_step, close_step, comma_step, may_digit, exactly}
@@ -61,8 +61,9 @@ digits_grow (one_digit e ds) = omega (arith, digits_grow ds)
 
 decimal_below : (b d : ℕ) → decimal_value b ≡ Some d → d ≤ 9
 decimal_below b d e = elim (picks (nat_le 48 b && nat_le b 57) _ _ _ e) [
-    inl h ↦ (let p = and_parts (nat_le 48 b) (nat_le b 57) h.0 in let low = leb-true 48 b p.0 in let high = leb-true b 57 p.1 in let f : b - 48 ≡ d = cc in omega arith)
-  | inr h ↦ cc ]
+  | inl h ↦ (let p = and_parts (nat_le 48 b) (nat_le b 57) h.0 in let low = leb-true 48 b p.0 in let high = leb-true b 57 p.1 in let f : b - 48 ≡ d = cc in omega arith)
+  | inr h ↦ cc
+]
 
 greatest_grows : (a d : ℕ) → d ≤ 9 → a * 10 + d ≤ 255 → greatest_from (a * 10 + d) ≤ greatest_from a
 greatest_grows a d le high = grind (arith, nat_tests)
@@ -78,10 +79,12 @@ digits_reach {a} (one_digit {b = b} {d = d} e ds) le =
 digit_seen : (p : BoundsPlace) (b d : ℕ) → decimal_value b ≡ Some d → bounds_step p b ≡ digit_step p d
 digit_seen p b d e =
     elim (cases_Bool (b == 125)) [
-      inl h ↦ (let g : b ≡ 125 = eqb-true b 125 h in let f : decimal_value 125 ≡ Some d = ap decimal_value (sym g) ∙ e in cc)
-    | inr h ↦ elim (cases_Bool (b == 44)) [
-        inl i ↦ (let g : b ≡ 44 = eqb-true b 44 i in let f : decimal_value 44 ≡ Some d = ap decimal_value (sym g) ∙ e in cc)
-      | inr i ↦ cond-false (b == 125) (close_step p) _ h ∙ cond-false (b == 44) (comma_step p) (may_digit p (decimal_value b)) i ∙ ap (may_digit p) e ] ]
+      | inl h ↦ (let g : b ≡ 125 = eqb-true b 125 h in let f : decimal_value 125 ≡ Some d = ap decimal_value (sym g) ∙ e in cc)
+      | inr h ↦ elim (cases_Bool (b == 44)) [
+        | inl i ↦ (let g : b ≡ 44 = eqb-true b 44 i in let f : decimal_value 44 ≡ Some d = ap decimal_value (sym g) ∙ e in cc)
+        | inr i ↦ cond-false (b == 125) (close_step p) _ h ∙ cond-false (b == 44) (comma_step p) (may_digit p (decimal_value b)) i ∙ ap (may_digit p) e
+      ]
+    ]
 
 with_digit_fits : (a d : ℕ) → a * 10 + d ≤ 255 → with_digit a d ≡ Some (a * 10 + d)
 with_digit_fits a d le = cond-true (nat_le (a * 10 + d) 255) _ _ (le-leb (a * 10 + d) 255 le)
@@ -125,8 +128,9 @@ bounds_forth (Most i a) b n m w u r = subst (λ k. Taken (Most i a) b w k m u) (
 
 seen : (p : BoundsPlace) (b : ℕ) (s : BoundsStep) → bounds_step p b ≡ s → ((b ≡ 125) × (close_step p ≡ s)) ⊎ (((b ≡ 44) × (comma_step p ≡ s)) ⊎ (may_digit p (decimal_value b) ≡ s))
 seen p b s e = elim (picks (b == 125) _ _ _ e) [
-    inl h ↦ inl (eqb-true b 125 h.0, h.1)
-  | inr h ↦ elim (picks (b == 44) _ _ _ h.1) [ inl i ↦ inr (inl (eqb-true b 44 i.0, i.1)) | inr i ↦ inr (inr i.1) ] ]
+  | inl h ↦ inl (eqb-true b 125 h.0, h.1)
+  | inr h ↦ elim (picks (b == 44) _ _ _ h.1) [ inl i ↦ inr (inl (eqb-true b 44 i.0, i.1)) | inr i ↦ inr (inr i.1) ]
+]
 
 least_of : (o : Option ℕ) (q : BoundsPlace) → least_step o ≡ Goes q → (k : ℕ) × (o ≡ Some k) × (Least k ≡ q)
 least_of (Some k) q e = (k, refl, cc)
@@ -134,13 +138,15 @@ least_of None q e = cc
 
 with_digit_of : (a d k : ℕ) → with_digit a d ≡ Some k → (k ≡ a * 10 + d) × (a * 10 + d ≤ 255)
 with_digit_of a d k e = elim (picks (nat_le (a * 10 + d) 255) _ _ _ e) [
-    inl h ↦ (let f : a * 10 + d ≡ k = cc in (sym f, leb-true (a * 10 + d) 255 h.0))
-  | inr h ↦ cc ]
+  | inl h ↦ (let f : a * 10 + d ≡ k = cc in (sym f, leb-true (a * 10 + d) 255 h.0))
+  | inr h ↦ cc
+]
 
 most_of : (i : ℕ) (o : Option ℕ) (q : BoundsPlace) → most_step i o ≡ Goes q → (k : ℕ) × (o ≡ Some k) × (Most i k ≡ q) × (i ≤ greatest_from k)
 most_of i (Some k) q e = elim (picks (nat_le i (greatest_from k)) _ _ _ e) [
-    inl h ↦ (k, refl, cc, leb-true i (greatest_from k) h.0)
-  | inr h ↦ cc ]
+  | inl h ↦ (k, refl, cc, leb-true i (greatest_from k) h.0)
+  | inr h ↦ cc
+]
 most_of i None q e = cc
 
 -- a step to a place, and what is left there, make what was left before
@@ -192,10 +198,12 @@ close_goes (Most i a) q s = elim (picks (nat_le i a) _ _ _ s) [ inl h ↦ cc | i
 
 pub bounds_back : (p q : BoundsPlace) (b : ℕ) → BoundsFit p → bounds_step p b ≡ Goes q → Back p q b
 bounds_back p q b fit s = elim (seen p b (Goes q) s) [
-    inl h ↦ absurd (close_goes p q h.1)
+  | inl h ↦ absurd (close_goes p q h.1)
   | inr h ↦ elim h [
-      inl i ↦ subst (λ x. Back p q x) (sym i.0) (comma_goes p q fit i.1)
-    | inr i ↦ digit_option p b (decimal_value b) q fit refl i ] ]
+    | inl i ↦ subst (λ x. Back p q x) (sym i.0) (comma_goes p q fit i.1)
+    | inr i ↦ digit_option p b (decimal_value b) q fit refl i
+  ]
+]
 
 comma_ends : (p : BoundsPlace) (c : Count) → comma_step p ≡ Ends c → ⊥
 comma_ends (Least a) c s = cc
@@ -226,15 +234,18 @@ close_ends Start c fit s = cc
 close_ends (Least a) c fit s = let f : exactly a (Some a) ≡ c = cc in subst (λ c. Ended (Least a) c 125) f (λ w. brace no_digit fit)
 close_ends (Comma i) c fit s = let f : exactly i None ≡ c = cc in subst (λ c. Ended (Comma i) c 125) f (λ w. (refl, open_end))
 close_ends (Most i a) c fit s = elim (picks (nat_le i a) _ _ _ s) [
-    inl h ↦ (let f : exactly i (Some a) ≡ c = cc in subst (λ c. Ended (Most i a) c 125) f (λ w. (refl, most no_digit (leb-true i a h.0) fit.1)))
-  | inr h ↦ cc ]
+  | inl h ↦ (let f : exactly i (Some a) ≡ c = cc in subst (λ c. Ended (Most i a) c 125) f (λ w. (refl, most no_digit (leb-true i a h.0) fit.1)))
+  | inr h ↦ cc
+]
 
 pub bounds_ends : (p : BoundsPlace) (c : Count) (b : ℕ) → BoundsFit p → bounds_step p b ≡ Ends c → Ended p c b
 bounds_ends p c b fit s = elim (seen p b (Ends c) s) [
-    inl h ↦ subst (λ x. Ended p c x) (sym h.0) (close_ends p c fit h.1)
+  | inl h ↦ subst (λ x. Ended p c x) (sym h.0) (close_ends p c fit h.1)
   | inr h ↦ elim h [
-      inl i ↦ absurd (comma_ends p c i.1)
-    | inr i ↦ absurd (digit_ends p (decimal_value b) c i) ] ]
+    | inl i ↦ absurd (comma_ends p c i.1)
+    | inr i ↦ absurd (digit_ends p (decimal_value b) c i)
+  ]
+]
 
 greatest_small : (i a : ℕ) → (a ≡ 0 → ⊥) → (a ≡ 1 → ⊥) → (a ≡ 2 → ⊥) → (a ≡ 25 → ⊥) → a ≤ 25 → i ≤ greatest_from a → i ≤ a * 10 + 9
 greatest_small i a n0 n1 n2 n25 k le = grind (arith, nat_tests)
@@ -245,21 +256,26 @@ greatest_large i a k le = grind (arith, nat_tests)
 -- further digits of a make a number that is not below i
 reach : (i a : ℕ) → i ≤ greatest_from a → a ≤ 255 → (v : List ℕ) → (j : ℕ) × (w : List ℕ) × MoreDigits a j w v × (i ≤ j) × (j ≤ 255)
 reach i a le fit v = elim (cases_eq a 0) [
-    inl e ↦ (let g : i ≤ 255 = subst (λ x. i ≤ greatest_from x) e le in
-        (255, 50 ∷ 53 ∷ 53 ∷ v, subst (λ x. MoreDigits x 255 (50 ∷ 53 ∷ 53 ∷ v) v) (sym e) (one_digit refl (one_digit refl (one_digit refl no_digit))), g, omega arith))
+  | inl e ↦ (let g : i ≤ 255 = subst (λ x. i ≤ greatest_from x) e le in
+      (255, 50 ∷ 53 ∷ 53 ∷ v, subst (λ x. MoreDigits x 255 (50 ∷ 53 ∷ 53 ∷ v) v) (sym e) (one_digit refl (one_digit refl (one_digit refl no_digit))), g, omega arith))
   | inr n0 ↦ elim (cases_eq a 2) [
-      inl e ↦ (let g : i ≤ 255 = subst (λ x. i ≤ greatest_from x) e le in
+    | inl e ↦ (let g : i ≤ 255 = subst (λ x. i ≤ greatest_from x) e le in
         (255, 53 ∷ 53 ∷ v, subst (λ x. MoreDigits x 255 (53 ∷ 53 ∷ v) v) (sym e) (one_digit refl (one_digit refl no_digit)), g, omega arith))
     | inr n2 ↦ elim (cases_eq a 1) [
-        inl e ↦ (let g : i ≤ 199 = subst (λ x. i ≤ greatest_from x) e le in
+      | inl e ↦ (let g : i ≤ 199 = subst (λ x. i ≤ greatest_from x) e le in
           (199, 57 ∷ 57 ∷ v, subst (λ x. MoreDigits x 199 (57 ∷ 57 ∷ v) v) (sym e) (one_digit refl (one_digit refl no_digit)), g, omega arith))
       | inr n1 ↦ elim (cases_eq a 25) [
-          inl e ↦ (let g : i ≤ 255 = subst (λ x. i ≤ greatest_from x) e le in
+        | inl e ↦ (let g : i ≤ 255 = subst (λ x. i ≤ greatest_from x) e le in
             (255, 53 ∷ v, subst (λ x. MoreDigits x 255 (53 ∷ v) v) (sym e) (one_digit refl no_digit), g, omega arith))
         | inr n25 ↦ elim (cases_Bool (nat_le a 25)) [
-            inl h ↦ (let k = leb-true a 25 h in let g : i ≤ a * 10 + 9 = greatest_small i a n0 n1 n2 n25 k le in
+          | inl h ↦ (let k = leb-true a 25 h in let g : i ≤ a * 10 + 9 = greatest_small i a n0 n1 n2 n25 k le in
               (a * 10 + 9, 57 ∷ v, one_digit refl no_digit, g, omega arith))
-          | inr h ↦ (a, v, no_digit, greatest_large i a (leb-false a 25 h) le, fit) ] ] ] ] ]
+          | inr h ↦ (a, v, no_digit, greatest_large i a (leb-false a 25 h) le, fit)
+        ]
+      ]
+    ]
+  ]
+]
 
 -- some bounds go on from a place
 pub bounds_done : (p : BoundsPlace) → BoundsFit p → (v : List ℕ) → (w : List ℕ) × (n : ℕ) × (m : Option ℕ) × bounds_rest p n m w v

@@ -1,6 +1,6 @@
 -- Classes byte by byte.
-use Rattle.std.proofs.Common.{◌≡◌, ℕ, ◌+◌, ◌-◌, ◌*◌, ◌<◌, ◌≤◌, ◌==◌, ◌&&◌, ◌||◌, ◌++◌, Bool, true, false, not, cond, List, [], ◌∷◌, Option, Some, None, refl, sym, ap, ◌∙◌, ◌⊎◌, inl, inr, subst, arith, nat_le, nat_lt, get_or, if◌then◌else◌}
-use Rattle.std.proofs.lemmas.Bool.{cases_Bool, eqb-true, eq-eqb, leb-true, leb-false, le-leb, lt-leb, cond-true, cond-false, cond_both, and_parts, and_from, and_left, and_right, and_cases, or_parts, or_from, or_right, or_left, not-true, not_from_false, ltb-true, ltb-false, cases_eq, false_from_ne_true, both_ways}
+use Rattle.std.proofs.Common.{◌≡◌, ℕ, ◌+◌, ◌-◌, ◌*◌, ◌<◌, ◌≤◌, ◌==◌, ◌&&◌, ◌++◌, Bool, true, false, not, List, [], ◌∷◌, Some, refl, sym, ap, ◌∙◌, ◌⊎◌, inl, inr, subst, arith, nat_le, nat_lt, get_or, if◌then◌else◌}
+use Rattle.std.proofs.lemmas.Bool.{eqb-true, leb-true, le-leb, cond-true, cond_both, and_parts, and_from, or_parts, or_from, or_right, or_left, not-true, not_from_false, ltb-true, ltb-false, false_from_ne_true, both_ways}
 use Rattle.std.proofs.lemmas.Bool.Decides.{nat_tests}
 use Rattle.sp_regex.specs.declared.bytes.ByteRange.{ByteRange}
 use Rattle.sp_regex.specs.declared.bytes.ClassMark.{ClassMark}
@@ -12,12 +12,12 @@ use Rattle.sp_regex.specs.declared.escape.EscapeStep.TheVariants as step
 use Rattle.sp_regex.specs.declared.class.ClassPlace.{ClassPlace}
 use Rattle.sp_regex.specs.declared.class.ClassPlace.TheVariants.{Open, Empty, Items, After, From, Escape, EscapeTo}
 use Rattle.sp_regex.specs.declared.class.ClassReader.{ClassReader}
-use Rattle.sp_regex.specs.Bytes.{class_mark_of, is_within, is_covered, hex_value, hex_value_of_two, hex_sum}
-use Rattle.sp_regex.specs.Room.{some_below, is_left, leaves_byte}
+use Rattle.sp_regex.specs.Bytes.{class_mark_of, is_within, is_covered, hex_value}
+use Rattle.sp_regex.specs.Room.{is_left}
 use Rattle.sp_regex.specs.Trees.{range_of}
 use Rattle.sp_regex.specs.Escapes.{escape_step}
-use Rattle.sp_regex.specs.Class.{Outcome, goes, ends, refused, reader, at_place, with_range, leaves, first_step, range_step, item_step, open_step, more_step, after_step, to_step, escaped_step, can_end_with, can_end_digit, can_end, escaped_to_step, place_step, class_step}
-use Rattle.sp_regex.specs.Syntax.{IsEscape, short, hex, IsClassByte, plain, caret, escaped, IsItem, one, two, MoreItems, no_item, one_item, belongs, HasByte, NoCaret, IsClass, positive, negative}
+use Rattle.sp_regex.specs.Class.{Outcome, goes, ends, reader, with_range, leaves, first_step, range_step, item_step, open_step, more_step, after_step, to_step, escaped_step, can_end_with, can_end_digit, can_end, escaped_to_step, place_step}
+use Rattle.sp_regex.specs.Syntax.{IsEscape, short, hex, IsClassByte, plain, caret, escaped, IsItem, one, two, MoreItems, no_item, one_item, HasByte, NoCaret, IsClass, positive, negative}
 use Rattle.sp_regex.proofs.Covers.{some_below-found, some_below-witness, is_covered-push}
 use Rattle.sp_regex.proofs.EscapeLaws.{escape_read, escape_forth, escape_back, escape_ends, two_digits, picks, hex_below, EscapeFit, escape_fits, escape_below, digit_done, NoDigit, escape_to_any, escape_done}
 
@@ -137,12 +137,27 @@ open_is_item c mark.Caret b i = absurd (i refl)
 open_is_item c m b i = refl
 
 caret_is : (b : ℕ) → class_mark_of b ≡ mark.Caret → b ≡ 94
-caret_is b e = elim (picks (b == 94) _ _ _ e) [ inl h ↦ eqb-true b 94 h.0 | inr h ↦
-    elim (picks (b == 45) _ _ _ h.1) [ inl h ↦ cc | inr h ↦
-    elim (picks (b == 93) _ _ _ h.1) [ inl h ↦ cc | inr h ↦
-    elim (picks (b == 92) _ _ _ h.1) [ inl h ↦ cc | inr h ↦
-    elim (picks (b == 47) _ _ _ h.1) [ inl h ↦ cc | inr h ↦
-    elim (picks (nat_le b 127) _ _ _ h.1) [ inl h ↦ cc | inr h ↦ cc ] ] ] ] ] ]
+caret_is b e = elim (picks (b == 94) _ _ _ e) [
+  | inl h ↦ eqb-true b 94 h.0
+  | inr h ↦
+      elim (picks (b == 45) _ _ _ h.1) [
+        | inl h ↦ cc
+        | inr h ↦
+            elim (picks (b == 93) _ _ _ h.1) [
+              | inl h ↦ cc
+              | inr h ↦
+                  elim (picks (b == 92) _ _ _ h.1) [
+                    | inl h ↦ cc
+                    | inr h ↦
+                        elim (picks (b == 47) _ _ _ h.1) [
+                          | inl h ↦ cc
+                          | inr h ↦
+                              elim (picks (nat_le b 127) _ _ _ h.1) [ inl h ↦ cc | inr h ↦ cc ]
+                        ]
+                  ]
+            ]
+      ]
+]
 
 -- a byte before an item
 first_mark : {n : Bool} {rs ss : List ByteRange} {b : ℕ} {w u : List ℕ} → FirstRest n rs ss (b ∷ w) u → IsFirst (class_mark_of b)
@@ -190,8 +205,9 @@ open_forth {n} {m} {rs} {ss} {b} {w} {u} p (keeps free r) =
 
 escaped_forth : {n : Bool} {rs ss : List ByteRange} {e : EscapePlace} {b : ℕ} {w u : List ℕ} → (p : ClassPlace) → EscapeRest n rs e ss (b ∷ w) u → Taken (reader n rs p) b n ss w u (escaped_step (reader n rs p) (escape_step e b))
 escaped_forth {n} {rs} {ss} {e} {b} {w} {u} p (begun {b = c} {v = v} x r) = elim (escape_forth e b c w v x) [
-    inl (q, s, y) ↦ inl (reader n rs (Escape q), ap (escaped_step (reader n rs p)) s, (refl, begun y r))
-  | inr (s, g) ↦ inl (reader n rs (After c), ap (escaped_step (reader n rs p)) s ∙ byte_after n rs p c r, (refl, subst (λ v. AfterRest n rs c ss v u) (sym g) r)) ]
+  | inl (q, s, y) ↦ inl (reader n rs (Escape q), ap (escaped_step (reader n rs p)) s, (refl, begun y r))
+  | inr (s, g) ↦ inl (reader n rs (After c), ap (escaped_step (reader n rs p)) s ∙ byte_after n rs p c r, (refl, subst (λ v. AfterRest n rs c ss v u) (sym g) r))
+]
 
 lowest_end : (f t i j : ℕ) → f ≤ t → t ≡ 16 * i + j → (if nat_lt f (16 * i) then 16 * i else f) ≤ t
 lowest_end f t i j le e = cond_both (nat_lt f (16 * i)) (16 * i) f (λ x. x ≤ t) (λ h. omega arith) (λ h. le)
@@ -208,13 +224,14 @@ can_end_at w n rs p f t (at.Digit h) x le r = digit_end n rs p f t h x le r
         let below = hex_below l d.1 d.3 in
         let high : f ≤ 16 * d.0 + 15 = omega (arith, d.4) in
         let both : can_end_with (reader n rs p) f (16 * d.0) ≡ true =
-            and_from (nat_le f (16 * d.0 + 15)) _ (le-leb f (16 * d.0 + 15) high) (room rs n p f t (if nat_lt f (16 * d.0) then 16 * d.0 else f) (lowest_end f t d.0 d.1 le d.4) r) in
+        and_from (nat_le f (16 * d.0 + 15)) _ (le-leb f (16 * d.0 + 15) high) (room rs n p f t (if nat_lt f (16 * d.0) then 16 * d.0 else f) (lowest_end f t d.0 d.1 le d.4) r) in
         ap (can_end_digit (reader n rs p) f) d.2 ∙ both
 
 escaped_to_forth : {n : Bool} {rs ss : List ByteRange} {f : ℕ} {e : EscapePlace} {b : ℕ} {w u : List ℕ} → (p : ClassPlace) → EscapeToRest n rs f e ss (b ∷ w) u → Taken (reader n rs p) b n ss w u (escaped_to_step (reader n rs p) f (escape_step e b))
 escaped_to_forth {n} {rs} {ss} {f} {e} {b} {w} {u} p (begun_to {t = t} {v = v} x le r) = elim (escape_forth e b t w v x) [
-    inl (q, s, y) ↦ inl (reader n rs (EscapeTo f q), ap (escaped_to_step (reader n rs p) f) s ∙ cond-true (can_end (reader n rs p) f q) _ _ (can_end_at w n rs p f t q y le r), (refl, begun_to y le r))
-  | inr (s, g) ↦ inl (reader n (rs ++ range_of f t ∷ []) Items, ap (escaped_to_step (reader n rs p) f) s ∙ range_taken n rs p f t le r, (refl, subst (λ v. ItemsRest n (rs ++ range_of f t ∷ []) ss v u) (sym g) r)) ]
+  | inl (q, s, y) ↦ inl (reader n rs (EscapeTo f q), ap (escaped_to_step (reader n rs p) f) s ∙ cond-true (can_end (reader n rs p) f q) _ _ (can_end_at w n rs p f t q y le r), (refl, begun_to y le r))
+  | inr (s, g) ↦ inl (reader n (rs ++ range_of f t ∷ []) Items, ap (escaped_to_step (reader n rs p) f) s ∙ range_taken n rs p f t le r, (refl, subst (λ v. ItemsRest n (rs ++ range_of f t ∷ []) ss v u) (sym g) r))
+]
 
 at_sign : (n : Bool) (rs : List ByteRange) (p : ClassPlace) (b : ℕ) (m : Bool) (ss : List ByteRange) (w u : List ℕ) (o : Outcome) → m ≡ n → Taken (reader n rs p) b n ss w u o → Taken (reader n rs p) b m ss w u o
 at_sign n rs p b m ss w u o e h = subst (λ k. Taken (reader n rs p) b k ss w u o) (sym e) h
@@ -269,32 +286,77 @@ leaves_has true rs p f t le small h =
     let w = some_below-witness 256 (is_left rs (range_of f t)) h in
     let parts = and_parts (not (is_covered rs w.0)) (not (is_within w.0 (range_of f t))) w.2 in
     let out : is_covered (rs ++ range_of f t ∷ []) w.0 ≡ false =
-        is_covered-push rs (range_of f t) w.0 ∙ or_from (is_covered rs w.0) _ (not-true _ parts.0) (not-true _ parts.1) in
+    is_covered-push rs (range_of f t) w.0 ∙ or_from (is_covered rs w.0) _ (not-true _ parts.0) (not-true _ parts.1) in
     (w.0, w.1, not_from_false _ out)
 
 backslash_is : (b : ℕ) → class_mark_of b ≡ mark.Backslash → b ≡ 92
-backslash_is b e = elim (picks (b == 94) _ _ _ e) [ inl h ↦ cc | inr h ↦
-    elim (picks (b == 45) _ _ _ h.1) [ inl h ↦ cc | inr h ↦
-    elim (picks (b == 93) _ _ _ h.1) [ inl h ↦ cc | inr h ↦
-    elim (picks (b == 92) _ _ _ h.1) [ inl h ↦ eqb-true b 92 h.0 | inr h ↦
-    elim (picks (b == 47) _ _ _ h.1) [ inl h ↦ cc | inr h ↦
-    elim (picks (nat_le b 127) _ _ _ h.1) [ inl h ↦ cc | inr h ↦ cc ] ] ] ] ] ]
+backslash_is b e = elim (picks (b == 94) _ _ _ e) [
+  | inl h ↦ cc
+  | inr h ↦
+      elim (picks (b == 45) _ _ _ h.1) [
+        | inl h ↦ cc
+        | inr h ↦
+            elim (picks (b == 93) _ _ _ h.1) [
+              | inl h ↦ cc
+              | inr h ↦
+                  elim (picks (b == 92) _ _ _ h.1) [
+                    | inl h ↦ eqb-true b 92 h.0
+                    | inr h ↦
+                        elim (picks (b == 47) _ _ _ h.1) [
+                          | inl h ↦ cc
+                          | inr h ↦
+                              elim (picks (nat_le b 127) _ _ _ h.1) [ inl h ↦ cc | inr h ↦ cc ]
+                        ]
+                  ]
+            ]
+      ]
+]
 
 dash_is : (b : ℕ) → class_mark_of b ≡ mark.Dash → b ≡ 45
-dash_is b e = elim (picks (b == 94) _ _ _ e) [ inl h ↦ cc | inr h ↦
-    elim (picks (b == 45) _ _ _ h.1) [ inl h ↦ eqb-true b 45 h.0 | inr h ↦
-    elim (picks (b == 93) _ _ _ h.1) [ inl h ↦ cc | inr h ↦
-    elim (picks (b == 92) _ _ _ h.1) [ inl h ↦ cc | inr h ↦
-    elim (picks (b == 47) _ _ _ h.1) [ inl h ↦ cc | inr h ↦
-    elim (picks (nat_le b 127) _ _ _ h.1) [ inl h ↦ cc | inr h ↦ cc ] ] ] ] ] ]
+dash_is b e = elim (picks (b == 94) _ _ _ e) [
+  | inl h ↦ cc
+  | inr h ↦
+      elim (picks (b == 45) _ _ _ h.1) [
+        | inl h ↦ eqb-true b 45 h.0
+        | inr h ↦
+            elim (picks (b == 93) _ _ _ h.1) [
+              | inl h ↦ cc
+              | inr h ↦
+                  elim (picks (b == 92) _ _ _ h.1) [
+                    | inl h ↦ cc
+                    | inr h ↦
+                        elim (picks (b == 47) _ _ _ h.1) [
+                          | inl h ↦ cc
+                          | inr h ↦
+                              elim (picks (nat_le b 127) _ _ _ h.1) [ inl h ↦ cc | inr h ↦ cc ]
+                        ]
+                  ]
+            ]
+      ]
+]
 
 close_is : (b : ℕ) → class_mark_of b ≡ mark.Close → b ≡ 93
-close_is b e = elim (picks (b == 94) _ _ _ e) [ inl h ↦ cc | inr h ↦
-    elim (picks (b == 45) _ _ _ h.1) [ inl h ↦ cc | inr h ↦
-    elim (picks (b == 93) _ _ _ h.1) [ inl h ↦ eqb-true b 93 h.0 | inr h ↦
-    elim (picks (b == 92) _ _ _ h.1) [ inl h ↦ cc | inr h ↦
-    elim (picks (b == 47) _ _ _ h.1) [ inl h ↦ cc | inr h ↦
-    elim (picks (nat_le b 127) _ _ _ h.1) [ inl h ↦ cc | inr h ↦ cc ] ] ] ] ] ]
+close_is b e = elim (picks (b == 94) _ _ _ e) [
+  | inl h ↦ cc
+  | inr h ↦
+      elim (picks (b == 45) _ _ _ h.1) [
+        | inl h ↦ cc
+        | inr h ↦
+            elim (picks (b == 93) _ _ _ h.1) [
+              | inl h ↦ eqb-true b 93 h.0
+              | inr h ↦
+                  elim (picks (b == 92) _ _ _ h.1) [
+                    | inl h ↦ cc
+                    | inr h ↦
+                        elim (picks (b == 47) _ _ _ h.1) [
+                          | inl h ↦ cc
+                          | inr h ↦
+                              elim (picks (nat_le b 127) _ _ _ h.1) [ inl h ↦ cc | inr h ↦ cc ]
+                        ]
+                  ]
+            ]
+      ]
+]
 
 -- a step to a reader, and what is left there, make what was left before, which is P
 abbrev Makes : ClassReader → Bool → (List ByteRange → List ℕ → List ℕ → Type 0) → Type 0
@@ -302,16 +364,18 @@ Makes d n P = ClassFit d × ((m : Bool) (ss : List ByteRange) (w u : List ℕ) �
 
 first_makes : (n : Bool) (rs : List ByteRange) (p : ClassPlace) (b : ℕ) (d : ClassReader) → b ≤ 255 → first_step (reader n rs p) b ≡ goes d → Makes d n (λ ss w u. AfterRest n rs b ss w u)
 first_makes n rs p b d le s = elim (picks (leaves (reader n rs p) (range_of b b)) _ _ _ s) [
-    inl h ↦ (let f : reader n rs (After b) ≡ d = cc in
+  | inl h ↦ (let f : reader n rs (After b) ≡ d = cc in
       subst (λ d. Makes d n (λ ss w u. AfterRest n rs b ss w u)) f ((le, leaves_has n rs p b b (omega arith) le h.0), λ m ss w u r. r))
-  | inr h ↦ cc ]
+  | inr h ↦ cc
+]
 
 range_makes : (n : Bool) (rs : List ByteRange) (p : ClassPlace) (f t : ℕ) (d : ClassReader) → f ≤ 255 → range_step (reader n rs p) f t ≡ goes d → (f ≤ t) × Makes d n (λ ss w u. ItemsRest n (rs ++ range_of f t ∷ []) ss w u)
 range_makes n rs p f t d small s = elim (picks (nat_le f t && leaves (reader n rs p) (range_of f t)) _ _ _ s) [
-    inl h ↦ (let parts = and_parts (nat_le f t) _ h.0 in let le = leb-true f t parts.0 in
+  | inl h ↦ (let parts = and_parts (nat_le f t) _ h.0 in let le = leb-true f t parts.0 in
       let g : reader n (rs ++ range_of f t ∷ []) Items ≡ d = cc in
       (le, subst (λ d. Makes d n (λ ss w u. ItemsRest n (rs ++ range_of f t ∷ []) ss w u)) g (leaves_has n rs p f t le small parts.1, λ m ss w u r. r)))
-  | inr h ↦ cc ]
+  | inr h ↦ cc
+]
 
 abbrev FirstAt : Bool → List ByteRange → ℕ → List ByteRange → List ℕ → List ℕ → Type 0
 FirstAt n rs b ss w u = FirstRest n rs ss (b ∷ w) u
@@ -417,9 +481,10 @@ can_end_any n rs p q f (at.Digit x) h = h
 
 escaped_to_back : (n : Bool) (rs : List ByteRange) (f : ℕ) (p : EscapePlace) (b : ℕ) (d : ClassReader) → (x : EscapeStep) → PlaceFit (EscapeTo f p) n rs → escape_step p b ≡ x → escaped_to_step (reader n rs (EscapeTo f p)) f x ≡ goes d → Back (EscapeTo f p) n rs b d
 escaped_to_back n rs f p b d (step.Goes q) fit e s = elim (picks (can_end (reader n rs (EscapeTo f p)) f q) _ _ _ s) [
-    inl h ↦ (let g : reader n rs (EscapeTo f q) ≡ d = cc in
+  | inl h ↦ (let g : reader n rs (EscapeTo f q) ≡ d = cc in
       subst (λ d. Back (EscapeTo f p) n rs b d) g ((fit.0, fit.1, escape_fits p q b e, can_end_any n rs (EscapeTo f p) Open f q h.0), λ m ss w u r. (r.0, escape_to_more p q e r.1)))
-  | inr h ↦ cc ]
+  | inr h ↦ cc
+]
 escaped_to_back n rs f p b d (step.Ends t) fit e s =
     let k = range_makes n rs (EscapeTo f p) f t d fit.0 s in
     (k.1.0, λ m ss w u r. let h = k.1.1 m ss w u r in (h.0, begun_to (escape_ends p b t w e) k.0 h.1))

@@ -1,28 +1,28 @@
 -- Which bytes ranges cover.
-use Rattle.std.proofs.Common.{◌≡◌, ℕ, zero, suc, ◌+◌, ◌<◌, ◌≤◌, Bool, true, false, not, cond, ◌&&◌, ◌||◌, List, [], ◌∷◌, ◌++◌, get_or, replicate, nat_le, nat_lt, refl, sym, ap, ◌∙◌, ◌⊎◌, inl, inr, arith, slice_index_or}
-use Rattle.std.specs.List.{list_any}
-use Rattle.std.proofs.lemmas.List.{get_or-replicate}
+use Rattle.std.proofs.Common.{◌≡◌, ℕ, zero, suc, ◌+◌, ◌<◌, Bool, true, false, ◌&&◌, ◌||◌, List, [], ◌∷◌, ◌++◌, nat_le, nat_lt, refl, sym, ap, ◌∙◌, inl, inr, arith}
 use Rattle.std.proofs.lemmas.List.Folds.{list_any-append}
-use Rattle.std.proofs.lemmas.Bool.{cases_Bool, and_parts, and_from, or_cases, or_left, or_right, cases_lt, cases_eq, both_ways, false_from_ne_true}
+use Rattle.std.proofs.lemmas.Bool.{or_cases, or_left, or_right, cases_eq, both_ways, false_from_ne_true}
 use Rattle.std.proofs.lemmas.Bool.Decides.{nat_tests}
 use Rattle.sp_regex.specs.declared.bytes.ByteRange.{ByteRange}
 use Rattle.sp_regex.specs.Bytes.{is_within, is_covered}
-use Rattle.sp_regex.specs.Room.{some_below, is_left, leaves_byte}
+use Rattle.sp_regex.specs.Room.{some_below}
 
 -- a test that holds of some number below n holds
 pub some_below-found : (n : ℕ) (p : ℕ → Bool) (x : ℕ) → x < n → p x ≡ true → some_below n p ≡ true
 unfolding some_below
 some_below-found zero p x lt h = absurd (omega arith)
 some_below-found (suc n) p x lt h = elim (cases_eq x n) [
-    inl e ↦ or_left (p n) (some_below n p) (ap p (sym e) ∙ h)
-  | inr ne ↦ or_right (p n) (some_below n p) (some_below-found n p x (omega arith) h) ]
+  | inl e ↦ or_left (p n) (some_below n p) (ap p (sym e) ∙ h)
+  | inr ne ↦ or_right (p n) (some_below n p) (some_below-found n p x (omega arith) h)
+]
 
 pub some_below-witness : (n : ℕ) (p : ℕ → Bool) → some_below n p ≡ true → (x : ℕ) × (x < n) × (p x ≡ true)
 unfolding some_below
 some_below-witness zero p h = cc
 some_below-witness (suc n) p h = elim (or_cases (p n) (some_below n p) h) [
-    inl e ↦ (n, omega arith, e)
-  | inr e ↦ (let w = some_below-witness n p e in (w.0, omega arith, w.2)) ]
+  | inl e ↦ (n, omega arith, e)
+  | inr e ↦ (let w = some_below-witness n p e in (w.0, omega arith, w.2))
+]
 
 pub some_below-none : (n : ℕ) (p : ℕ → Bool) → ((x : ℕ) → x < n → p x ≡ false) → some_below n p ≡ false
 some_below-none n p none = false_from_ne_true (some_below n p) (λ h. let w = some_below-witness n p h in both_ways (p w.0) (none w.0 w.1) w.2)

@@ -1,5 +1,5 @@
 -- Escapes byte by byte.
-use Rattle.std.proofs.Common.{◌≡◌, ℕ, ◌+◌, ◌-◌, ◌*◌, ◌/◌, ◌%◌, ◌<◌, ◌≤◌, ◌&&◌, nat_le, ◌==◌, Bool, true, false, cond, List, [], ◌∷◌, Option, Some, None, refl, sym, ap, ◌∙◌, ◌⊎◌, inl, inr, subst, arith, if◌then◌else◌}
+use Rattle.std.proofs.Common.{◌≡◌, ℕ, ◌+◌, ◌-◌, ◌*◌, ◌/◌, ◌%◌, ◌<◌, ◌≤◌, ◌&&◌, nat_le, ◌==◌, Bool, true, false, List, ◌∷◌, Option, Some, None, refl, sym, ap, ◌∙◌, ◌⊎◌, inl, inr, subst, arith, if◌then◌else◌}
 use Rattle.std.proofs.lemmas.Bool.{cases_Bool, cases_eq, eqb-true, leb-true, leb-false, le-leb, lt-leb, and_parts, and_from, and_right, cond-true, cond-false}
 use Rattle.sp_regex.specs.declared.bytes.Mark.{Mark}
 use Rattle.sp_regex.specs.declared.bytes.Mark.TheVariants as mark
@@ -7,8 +7,7 @@ use Rattle.sp_regex.specs.declared.bytes.Escaped.{Escaped}
 use Rattle.sp_regex.specs.declared.bytes.Escaped.TheVariants.{Byte, Hex as IsHex, Misplaced}
 use Rattle.sp_regex.specs.declared.escape.EscapePlace.{EscapePlace}
 use Rattle.sp_regex.specs.declared.escape.EscapePlace.TheVariants.{Start, Hex, Digit}
-use Rattle.sp_regex.specs.declared.escape.EscapeStep.{EscapeStep}
-use Rattle.sp_regex.specs.declared.escape.EscapeStep.TheVariants.{Goes, Ends, Refused}
+use Rattle.sp_regex.specs.declared.escape.EscapeStep.TheVariants.{Goes, Ends}
 use Rattle.sp_regex.specs.Bytes.{escaped_of, mark_of, mark_escaped, hex_value, hex_value_of_two, hex_sum}
 use Rattle.sp_regex.specs.Escapes.{escape_step, start_step, high_step, low_step}
 use Rattle.sp_regex.specs.Syntax.{IsEscape, short, hex}
@@ -55,12 +54,27 @@ not_hex mark.Plain b e = cc
 not_hex m b e = cc
 
 escaped_hex : (b : ℕ) → escaped_of b ≡ IsHex → b ≡ 120
-escaped_hex b e = elim (picks (b == 110) _ _ _ e) [ inl h ↦ cc | inr h ↦
-    elim (picks (b == 114) _ _ _ h.1) [ inl h ↦ cc | inr h ↦
-    elim (picks (b == 116) _ _ _ h.1) [ inl h ↦ cc | inr h ↦
-    elim (picks (b == 120) _ _ _ h.1) [ inl h ↦ eqb-true b 120 h.0 | inr h ↦
-    elim (picks (b == 34) _ _ _ h.1) [ inl h ↦ cc | inr h ↦
-    elim (picks (b == 45) _ _ _ h.1) [ inl h ↦ cc | inr h ↦ absurd (not_hex (mark_of b) b h.1) ] ] ] ] ] ]
+escaped_hex b e = elim (picks (b == 110) _ _ _ e) [
+  | inl h ↦ cc
+  | inr h ↦
+      elim (picks (b == 114) _ _ _ h.1) [
+        | inl h ↦ cc
+        | inr h ↦
+            elim (picks (b == 116) _ _ _ h.1) [
+              | inl h ↦ cc
+              | inr h ↦
+                  elim (picks (b == 120) _ _ _ h.1) [
+                    | inl h ↦ eqb-true b 120 h.0
+                    | inr h ↦
+                        elim (picks (b == 34) _ _ _ h.1) [
+                          | inl h ↦ cc
+                          | inr h ↦
+                              elim (picks (b == 45) _ _ _ h.1) [ inl h ↦ cc | inr h ↦ absurd (not_hex (mark_of b) b h.1) ]
+                        ]
+                  ]
+            ]
+      ]
+]
 
 start_goes : (x : Escaped) (q : EscapePlace) → start_step x ≡ Goes q → (x ≡ IsHex) × (Hex ≡ q)
 start_goes IsHex q e = (refl, cc)
@@ -118,25 +132,46 @@ escape_fits (Digit h) q b e = absurd (low_goes (hex_value_of_two h b) q e)
 
 pub hex_below : (b i : ℕ) → hex_value b ≡ Some i → i ≤ 15
 hex_below b i e = elim (picks (nat_le 48 b && nat_le b 57) _ _ _ e) [
-    inl h ↦ (let p = and_parts (nat_le 48 b) (nat_le b 57) h.0 in let high = leb-true b 57 p.1 in let f : b - 48 ≡ i = cc in omega arith)
+  | inl h ↦ (let p = and_parts (nat_le 48 b) (nat_le b 57) h.0 in let high = leb-true b 57 p.1 in let f : b - 48 ≡ i = cc in omega arith)
   | inr h ↦ elim (picks (nat_le 97 b && nat_le b 102) _ _ _ h.1) [
-      inl h ↦ (let p = and_parts (nat_le 97 b) (nat_le b 102) h.0 in let high = leb-true b 102 p.1 in let f : b - 97 + 10 ≡ i = cc in omega arith)
+    | inl h ↦ (let p = and_parts (nat_le 97 b) (nat_le b 102) h.0 in let high = leb-true b 102 p.1 in let f : b - 97 + 10 ≡ i = cc in omega arith)
     | inr h ↦ elim (picks (nat_le 65 b && nat_le b 70) _ _ _ h.1) [
-        inl h ↦ (let p = and_parts (nat_le 65 b) (nat_le b 70) h.0 in let high = leb-true b 70 p.1 in let f : b - 65 + 10 ≡ i = cc in omega arith)
-      | inr h ↦ cc ] ] ]
+      | inl h ↦ (let p = and_parts (nat_le 65 b) (nat_le b 70) h.0 in let high = leb-true b 70 p.1 in let f : b - 65 + 10 ≡ i = cc in omega arith)
+      | inr h ↦ cc
+    ]
+  ]
+]
 
 marked : (m : Mark) (b c : ℕ) → mark_escaped m b ≡ Byte c → b ≡ c
 marked mark.Plain b c e = cc
 marked m b c e = cc
 
 escaped_below : (b c : ℕ) → b ≤ 255 → escaped_of b ≡ Byte c → c ≤ 255
-escaped_below b c le e = elim (picks (b == 110) _ _ _ e) [ inl h ↦ (let f : 10 ≡ c = cc in omega arith) | inr h ↦
-    elim (picks (b == 114) _ _ _ h.1) [ inl h ↦ (let f : 13 ≡ c = cc in omega arith) | inr h ↦
-    elim (picks (b == 116) _ _ _ h.1) [ inl h ↦ (let f : 9 ≡ c = cc in omega arith) | inr h ↦
-    elim (picks (b == 120) _ _ _ h.1) [ inl h ↦ cc | inr h ↦
-    elim (picks (b == 34) _ _ _ h.1) [ inl h ↦ (let f : b ≡ c = cc in omega arith) | inr h ↦
-    elim (picks (b == 45) _ _ _ h.1) [ inl h ↦ (let f : b ≡ c = cc in omega arith) | inr h ↦
-    (let f = marked (mark_of b) b c h.1 in omega arith) ] ] ] ] ] ]
+escaped_below b c le e = elim (picks (b == 110) _ _ _ e) [
+  | inl h ↦ (let f : 10 ≡ c = cc in omega arith)
+  | inr h ↦
+      elim (picks (b == 114) _ _ _ h.1) [
+        | inl h ↦ (let f : 13 ≡ c = cc in omega arith)
+        | inr h ↦
+            elim (picks (b == 116) _ _ _ h.1) [
+              | inl h ↦ (let f : 9 ≡ c = cc in omega arith)
+              | inr h ↦
+                  elim (picks (b == 120) _ _ _ h.1) [
+                    | inl h ↦ cc
+                    | inr h ↦
+                        elim (picks (b == 34) _ _ _ h.1) [
+                          | inl h ↦ (let f : b ≡ c = cc in omega arith)
+                          | inr h ↦
+                              elim (picks (b == 45) _ _ _ h.1) [
+                                | inl h ↦ (let f : b ≡ c = cc in omega arith)
+                                | inr h ↦
+                                    (let f = marked (mark_of b) b c h.1 in omega arith)
+                              ]
+                        ]
+                  ]
+            ]
+      ]
+]
 
 pub escape_below : (p : EscapePlace) (b c : ℕ) → b ≤ 255 → escape_step p b ≡ Ends c → c ≤ 255
 escape_below Start b c le e = escaped_below b c le (start_ends (escaped_of b) c e)
@@ -148,8 +183,9 @@ escape_below (Digit h) b c le e =
 -- the digit of a number
 pub hex_digit : (i : ℕ) → i ≤ 15 → (h : ℕ) × (hex_value h ≡ Some i)
 hex_digit i le = elim (cases_Bool (nat_le i 9)) [
-    inl h ↦ (48 + i, digit_low i (leb-true i 9 h))
-  | inr h ↦ (87 + i, digit_high i (leb-false i 9 h) le) ]
+  | inl h ↦ (48 + i, digit_low i (leb-true i 9 h))
+  | inr h ↦ (87 + i, digit_high i (leb-false i 9 h) le)
+]
   where
     digit_low : (i : ℕ) → i ≤ 9 → hex_value (48 + i) ≡ Some i
     digit_low i le =
@@ -157,6 +193,7 @@ hex_digit i le = elim (cases_Bool (nat_le i 9)) [
         let low : nat_le 48 (48 + i) ≡ true = le-leb 48 (48 + i) (omega arith) in
         let high : nat_le (48 + i) 57 ≡ true = le-leb (48 + i) 57 (omega arith) in
         cond-true (nat_le 48 (48 + i) && nat_le (48 + i) 57) _ _ (and_from _ _ low high) ∙ ap Some e
+
     digit_high : (i : ℕ) → 9 < i → i ≤ 15 → hex_value (87 + i) ≡ Some i
     digit_high i above le =
         let e : 87 + i - 97 + 10 ≡ i = omega arith in
@@ -192,13 +229,16 @@ escape_to_any (Digit h) fit c le v = absurd fit
 -- an escape goes on to some byte other than x
 pub escape_done : (p : EscapePlace) → EscapeFit p → (x : ℕ) (v : List ℕ) → (c : ℕ) × (w : List ℕ) × IsEscape c (escape_read p w) v × (c ≡ x → ⊥) × (c ≤ 255)
 escape_done Start fit x v = elim (cases_eq x 0) [
-    inl e ↦ (let d = escape_to_any Start tt 1 (omega arith) v in (1, d.0, d.1, (λ f. omega arith), omega arith))
-  | inr ne ↦ (let d = escape_to_any Start tt 0 (omega arith) v in (0, d.0, d.1, (λ f. ne (sym f)), omega arith)) ]
+  | inl e ↦ (let d = escape_to_any Start tt 1 (omega arith) v in (1, d.0, d.1, (λ f. omega arith), omega arith))
+  | inr ne ↦ (let d = escape_to_any Start tt 0 (omega arith) v in (0, d.0, d.1, (λ f. ne (sym f)), omega arith))
+]
 escape_done Hex fit x v = elim (cases_eq x 0) [
-    inl e ↦ (let d = escape_to_any Hex tt 1 (omega arith) v in (1, d.0, d.1, (λ f. omega arith), omega arith))
-  | inr ne ↦ (let d = escape_to_any Hex tt 0 (omega arith) v in (0, d.0, d.1, (λ f. ne (sym f)), omega arith)) ]
+  | inl e ↦ (let d = escape_to_any Hex tt 1 (omega arith) v in (1, d.0, d.1, (λ f. omega arith), omega arith))
+  | inr ne ↦ (let d = escape_to_any Hex tt 0 (omega arith) v in (0, d.0, d.1, (λ f. ne (sym f)), omega arith))
+]
 escape_done (Digit h) (i, e) x v =
     let le = hex_below h i e in
     elim (cases_eq x (16 * i + 0)) [
-      inl g ↦ (let d = digit_done h i 1 e (omega arith) v in (16 * i + 1, d.0, d.1, (λ f. omega arith), omega arith))
-    | inr ne ↦ (let d = digit_done h i 0 e (omega arith) v in (16 * i + 0, d.0, d.1, (λ f. ne (sym f)), omega arith)) ]
+      | inl g ↦ (let d = digit_done h i 1 e (omega arith) v in (16 * i + 1, d.0, d.1, (λ f. omega arith), omega arith))
+      | inr ne ↦ (let d = digit_done h i 0 e (omega arith) v in (16 * i + 0, d.0, d.1, (λ f. ne (sym f)), omega arith))
+    ]

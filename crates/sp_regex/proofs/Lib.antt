@@ -5,3 +5,5 @@ pub mod ClassLaws
 pub mod StepLaws
 pub mod BackLaws
 pub mod TextLaws
+pub mod Positions
+pub mod Rows

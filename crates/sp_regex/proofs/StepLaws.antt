@@ -1,17 +1,13 @@
 -- A text byte by byte: what is left to be read at each state.
-use Rattle.std.proofs.Common.{◌≡◌, ℕ, zero, suc, ◌+◌, ◌-◌, ◌<◌, ◌≤◌, ◌==◌, ◌++◌, Bool, true, false, cond, List, [], ◌∷◌, length, Option, Some, None, refl, sym, ap, ◌∙◌, ◌⊎◌, inl, inr, subst, arith, nat_lt, get_or, if◌then◌else◌}
-use Rattle.std.proofs.lemmas.Bool.{eqb-true, lt-ltb, ltb-true, cond-true}
+use Rattle.std.proofs.Common.{◌≡◌, ℕ, suc, ◌+◌, Bool, false, List, [], ◌∷◌, length, Option, Some, None, refl, sym, ap, ◌⊎◌, inl, inr, subst, arith, nat_lt, get_or}
+use Rattle.std.proofs.lemmas.Bool.{lt-ltb, cond-true}
 use Rattle.sp_regex.specs.declared.bytes.ByteRange.{ByteRange}
 use Rattle.sp_regex.specs.declared.bytes.Mark.{Mark}
 use Rattle.sp_regex.specs.declared.bytes.Mark.TheVariants as mark
 use Rattle.sp_regex.specs.declared.escape.EscapePlace.{EscapePlace}
 use Rattle.sp_regex.specs.declared.escape.EscapePlace.TheVariants as escape_at
-use Rattle.sp_regex.specs.declared.escape.EscapeStep.{EscapeStep}
-use Rattle.sp_regex.specs.declared.escape.EscapeStep.TheVariants as escape_to
 use Rattle.sp_regex.specs.declared.bounds.BoundsPlace.{BoundsPlace}
 use Rattle.sp_regex.specs.declared.bounds.BoundsPlace.TheVariants as bounds_at
-use Rattle.sp_regex.specs.declared.bounds.BoundsStep.{BoundsStep}
-use Rattle.sp_regex.specs.declared.bounds.BoundsStep.TheVariants as bounds_to
 use Rattle.sp_regex.specs.declared.class.ClassPlace.TheVariants as class_at
 use Rattle.sp_regex.specs.declared.class.ClassReader.{ClassReader}
 use Rattle.sp_regex.specs.declared.reader.Mode.{Mode}
@@ -19,15 +15,15 @@ use Rattle.sp_regex.specs.declared.reader.Mode.TheVariants.{Start, Atom, Piece, 
 use Rattle.sp_regex.specs.Trees.{Syntax, byte, any, class, empty, followed, never, either, repeat}
 use Rattle.sp_regex.specs.Bytes.{mark_of}
 use Rattle.sp_regex.specs.Escapes.{escape_step}
-use Rattle.sp_regex.specs.Bounds.{bounds_step, exactly}
-use Rattle.sp_regex.specs.Class.{Outcome, goes, ends, refused, class_step, reader}
+use Rattle.sp_regex.specs.Bounds.{bounds_step}
+use Rattle.sp_regex.specs.Class.{class_step, reader}
 use Rattle.sp_regex.specs.Levels.{Opened, opened}
-use Rattle.sp_regex.specs.Machine.{State, state, initial, at_mode, with_piece, repeated, group_start, group_end, group_end_in, start_step, piece_step, atom_step, escaped_step, classed_step, bounded_step, mode_step, step, finished}
+use Rattle.sp_regex.specs.Machine.{State, state, with_piece, group_end, start_step, piece_step, atom_step, escaped_step, classed_step, bounded_step, mode_step, step}
 use Rattle.sp_regex.specs.Syntax as syntax
 use Rattle.sp_regex.specs.Syntax.{IsEscape, short, hex, IsClass, positive, negative, IsCount, star, plus, question, at_least, between, IsAtom, plain_byte, any_byte, escaped_byte, byte_class, group, IsPiece, once, counted, MorePieces, no_piece, one_piece, IsAlternative, pieces, MoreAlternatives, no_alternative, one_alternative, IsRegex, alternatives}
-use Rattle.sp_regex.proofs.EscapeLaws.{escape_read, escape_forth, escape_back, escape_ends, EscapeFit, escape_fits, escape_below, escape_done, picks}
-use Rattle.sp_regex.proofs.BoundsLaws.{bounds_rest, BoundsFit, count_start, start_count, bounds_forth, bounds_back, bounds_ends, bounds_done}
-use Rattle.sp_regex.proofs.ClassLaws.{class_rest, place_rest, class_open, open_class, ClassFit, class_forth, class_back, class_ends, class_done}
+use Rattle.sp_regex.proofs.EscapeLaws.{escape_read, escape_forth}
+use Rattle.sp_regex.proofs.BoundsLaws.{bounds_rest, count_start, bounds_forth}
+use Rattle.sp_regex.proofs.ClassLaws.{class_rest, class_open, class_forth}
 
 -- behind whole alternatives r: further ones, and then Q of all of them
 abbrev pub Alternatives : ℕ → (Syntax → List ℕ → Type 0) → Syntax → List ℕ → Type 0
@@ -167,10 +163,11 @@ atom_forth {k} os e p m c t h (escaped_byte (short g)) r = (state os (opened e p
 atom_forth {k} os e p m c t h (escaped_byte (hex g)) r = (state os (opened e p) (Escape escape_at.Start) c, refl, (k, h, (_, _, hex g, r)))
 atom_forth {k} os e p m c t h (byte_class (positive f i j g)) r = (state os (opened e p) Class (reader false [] class_at.Open), refl, (k, h, (_, _, _, class_open (positive f i j g), r)))
 atom_forth {k} os e p m c t h (byte_class (negative i j g)) r = (state os (opened e p) Class (reader false [] class_at.Open), refl, (k, h, (_, _, _, class_open (negative i j g), r)))
-atom_forth {k = suc k} {u = u} os e p m c t h (group x) r =
-    (state (opened e p ∷ os) (opened never empty) Start c,
-     cond-true (nat_lt (length os) 64) _ _ (lt-ltb (length os) 64 (omega arith)),
-     (k, omega arith, regex_open (Closes k (opened e p ∷ os) t) x (u, refl, r)))
+atom_forth {k = suc k} {u = u} os e p m c t h (group x) r = (
+  state (opened e p ∷ os) (opened never empty) Start c,
+  cond-true (nat_lt (length os) 64) _ _ (lt-ltb (length os) 64 (omega arith)),
+  (k, omega arith, regex_open (Closes k (opened e p ∷ os) t) x (u, refl, r)),
+)
 
 start_forth : (k : ℕ) (b : ℕ) (w : List ℕ) (os : List Opened) (e p : Syntax) (m : Mode) (c : ClassReader) (t : Syntax) → k + length os ≡ 64 → AtomThen k (Closes k os t) e p (b ∷ w) → Taken (start_step (state os (opened e p) m c) (mark_of b) b) t w
 start_forth k b w os e p m c t h (a, u, x, r) = atom_forth os e p m c t h x r
@@ -178,9 +175,10 @@ start_forth k b w os e p m c t h (a, u, x, r) = atom_forth os e p m c t h x r
 -- what follows the alternatives where no further one does
 closes_forth : (k : ℕ) (b : ℕ) (w : List ℕ) (os : List Opened) (e p : Syntax) (m : Mode) (c : ClassReader) (t : Syntax) → k + length os ≡ 64 → Closes k os t (either e p) (b ∷ w) → (b ≡ 41) × Taken (group_end (state os (opened e p) m c)) t w
 closes_forth k b w [] e p m c t h (f, g) = cc
-closes_forth k b w (o ∷ os) e p m c t h (u, g, r) =
-    (same_head b 41 w u g,
-     (state os o (Atom (either e p)) c, refl, (suc k, omega arith, subst (λ v. AfterAtom (suc k) (Closes (suc k) os t) o.earlier o.pieces (either e p) v) (sym (same_tail b 41 w u g)) r)))
+closes_forth k b w (o ∷ os) e p m c t h (u, g, r) = (
+  same_head b 41 w u g,
+  (state os o (Atom (either e p)) c, refl, (suc k, omega arith, subst (λ v. AfterAtom (suc k) (Closes (suc k) os t) o.earlier o.pieces (either e p) v) (sym (same_tail b 41 w u g)) r)),
+)
 
 -- what follows whole pieces
 next_forth : {k b : ℕ} {s r : Syntax} {w u v : List ℕ} → (os : List Opened) (e p : Syntax) (m : Mode) (c : ClassReader) (t : Syntax) → k + length os ≡ 64 → MorePieces k p s (b ∷ w) u → MoreAlternatives k (either e s) r u v → Closes k os t r v → IsNext (mark_of b) × Taken (piece_step (state os (opened e p) m c) (mark_of b) b) t w
@@ -213,19 +211,25 @@ after_forth k b w os e p a m c t h (inr (n, i, u, x, r)) = count_forth os e p a 
 
 escaped_forth : (k : ℕ) (b : ℕ) (w : List ℕ) (os : List Opened) (e p : Syntax) (m : Mode) (c : ClassReader) (t : Syntax) (x : EscapePlace) → k + length os ≡ 64 → ModeRest k (Closes k os t) (opened e p) c (Escape x) (b ∷ w) → Taken (escaped_step (state os (opened e p) m c) (escape_step x b)) t w
 escaped_forth k b w os e p m c t x h (d, u, y, r) = elim (escape_forth x b d w u y) [
-    inl (q, s, z) ↦ (state os (opened e p) (Escape q) c, ap (escaped_step (state os (opened e p) m c)) s, (k, h, (d, u, z, r)))
-  | inr (s, g) ↦ (state os (opened e p) (Atom (byte d)) c, ap (escaped_step (state os (opened e p) m c)) s, (k, h, subst (λ v. AfterAtom k (Closes k os t) e p (byte d) v) (sym g) r)) ]
+  | inl (q, s, z) ↦ (state os (opened e p) (Escape q) c, ap (escaped_step (state os (opened e p) m c)) s, (k, h, (d, u, z, r)))
+  | inr (s, g) ↦ (state os (opened e p) (Atom (byte d)) c, ap (escaped_step (state os (opened e p) m c)) s, (k, h, subst (λ v. AfterAtom k (Closes k os t) e p (byte d) v) (sym g) r))
+]
 
 classed_forth : (k : ℕ) (b : ℕ) (w : List ℕ) (os : List Opened) (e p : Syntax) (m : Mode) (c : ClassReader) (t : Syntax) → k + length os ≡ 64 → ModeRest k (Closes k os t) (opened e p) c Class (b ∷ w) → Taken (classed_step (state os (opened e p) m c) (class_step c b)) t w
 classed_forth k b w os e p m c t h (n, rs, u, y, r) = elim (class_forth c.negated c.ranges c.place b n rs w u y) [
-    inl (d, s, z) ↦ (state os (opened e p) Class d, ap (classed_step (state os (opened e p) m c)) s, (k, h, (n, rs, u, z, r)))
-  | inr (d, s, f, g, i) ↦ (state os (opened e p) (Atom (class d.negated d.ranges)) (reader d.negated [] d.place), ap (classed_step (state os (opened e p) m c)) s,
-      (k, h, subst (λ v. AfterAtom k (Closes k os t) e p (class d.negated d.ranges) v) (sym i) (subst (λ l. AfterAtom k (Closes k os t) e p (class d.negated l) u) (sym g) (subst (λ j. AfterAtom k (Closes k os t) e p (class j rs) u) (sym f) r)))) ]
+  | inl (d, s, z) ↦ (state os (opened e p) Class d, ap (classed_step (state os (opened e p) m c)) s, (k, h, (n, rs, u, z, r)))
+  | inr (d, s, f, g, i) ↦ (
+    state os (opened e p) (Atom (class d.negated d.ranges)) (reader d.negated [] d.place),
+    ap (classed_step (state os (opened e p) m c)) s,
+    (k, h, subst (λ v. AfterAtom k (Closes k os t) e p (class d.negated d.ranges) v) (sym i) (subst (λ l. AfterAtom k (Closes k os t) e p (class d.negated l) u) (sym g) (subst (λ j. AfterAtom k (Closes k os t) e p (class j rs) u) (sym f) r))),
+  )
+]
 
 bounded_forth : (k : ℕ) (b : ℕ) (w : List ℕ) (os : List Opened) (e p a : Syntax) (m : Mode) (c : ClassReader) (t : Syntax) (x : BoundsPlace) → k + length os ≡ 64 → ModeRest k (Closes k os t) (opened e p) c (Bounds a x) (b ∷ w) → Taken (bounded_step (state os (opened e p) m c) a (bounds_step x b)) t w
 bounded_forth k b w os e p a m c t x h (n, i, u, y, r) = elim (bounds_forth x b n i w u y) [
-    inl (q, s, z) ↦ (state os (opened e p) (Bounds a q) c, ap (bounded_step (state os (opened e p) m c) a) s, (k, h, (n, i, u, z, r)))
-  | inr (s, g) ↦ (state os (opened e (followed p (repeat n i a))) Piece c, ap (bounded_step (state os (opened e p) m c) a) s, (k, h, subst (λ v. Pieces k (Closes k os t) e (followed p (repeat n i a)) v) (sym g) r)) ]
+  | inl (q, s, z) ↦ (state os (opened e p) (Bounds a q) c, ap (bounded_step (state os (opened e p) m c) a) s, (k, h, (n, i, u, z, r)))
+  | inr (s, g) ↦ (state os (opened e (followed p (repeat n i a))) Piece c, ap (bounded_step (state os (opened e p) m c) a) s, (k, h, subst (λ v. Pieces k (Closes k os t) e (followed p (repeat n i a)) v) (sym g) r))
+]
 
 mode_forth : (k : ℕ) (b : ℕ) (w : List ℕ) (os : List Opened) (e p : Syntax) (m : Mode) (c : ClassReader) (t : Syntax) → k + length os ≡ 64 → ModeRest k (Closes k os t) (opened e p) c m (b ∷ w) → Taken (mode_step (state os (opened e p) m c) m b) t w
 mode_forth k b w os e p Start c t h r = start_forth k b w os e p Start c t h r

@@ -1,5 +1,5 @@
 -- A text from its start to its end.
-use Rattle.std.proofs.Common.{◌≡◌, ℕ, zero, suc, ◌+◌, ◌-◌, ◌<◌, ◌≤◌, ◌++◌, Bool, true, false, List, [], ◌∷◌, length, take, drop, Option, Some, None, refl, sym, ap, ◌∙◌, ◌⊎◌, inl, inr, subst, arith, append_assoc, get_or}
+use Rattle.std.proofs.Common.{◌≡◌, ℕ, suc, ◌+◌, ◌-◌, ◌<◌, ◌≤◌, ◌++◌, Bool, true, false, List, [], ◌∷◌, length, take, drop, Option, Some, None, refl, sym, ap, ◌∙◌, inl, inr, subst, arith, append_assoc, get_or}
 use Rattle.std.proofs.lemmas.List.{take-append-drop, take_more, take_all, append-nil}
 use Rattle.sp_regex.specs.declared.bytes.ByteRange.{ByteRange}
 use Rattle.sp_regex.specs.declared.escape.EscapePlace.{EscapePlace}
@@ -11,14 +11,14 @@ use Rattle.sp_regex.specs.declared.class.ClassPlace.TheVariants as class_at
 use Rattle.sp_regex.specs.declared.class.ClassReader.{ClassReader}
 use Rattle.sp_regex.specs.declared.reader.Mode.{Mode}
 use Rattle.sp_regex.specs.declared.reader.Mode.TheVariants.{Start, Atom, Piece, Escape, Class, Bounds}
-use Rattle.sp_regex.specs.Trees.{Syntax, byte, any, class, empty, followed, never, either, repeat}
+use Rattle.sp_regex.specs.Trees.{Syntax, byte, class, empty, followed, never, either, repeat}
 use Rattle.sp_regex.specs.Levels.{Opened, opened}
 use Rattle.sp_regex.specs.Machine.{State, state, initial, step, finished, finished_at, finished_in, IsStep}
-use Rattle.sp_regex.specs.Syntax.{IsEscape, short, hex, IsClassByte, plain, caret, escaped, IsItem, one, two, MoreItems, no_item, one_item, IsClass, positive, negative, MoreDigits, no_digit, one_digit, IsCount, IsAtom, plain_byte, any_byte, escaped_byte, byte_class, group, IsPiece, once, counted, MorePieces, no_piece, one_piece, IsAlternative, pieces, MoreAlternatives, no_alternative, one_alternative, IsRegex, Derives, IsRegexText, Begins, IsFault}
+use Rattle.sp_regex.specs.Syntax.{IsEscape, short, IsClassByte, escaped, IsItem, one, two, MoreItems, one_item, IsCount, IsAtom, plain_byte, escaped_byte, byte_class, IsPiece, once, counted, MorePieces, no_piece, one_piece, MoreAlternatives, no_alternative, IsRegex, Derives, IsRegexText, Begins, IsFault}
 use Rattle.sp_regex.proofs.EscapeLaws.{escape_read, escape_done}
-use Rattle.sp_regex.proofs.BoundsLaws.{bounds_rest, bounds_done, StartRest, number, LeastRest, brace, comma, CommaRest, open_end, closed_end, MostRest, most}
-use Rattle.sp_regex.proofs.ClassLaws.{class_rest, place_rest, class_done, OpenRest, negates, keeps, FirstRest, first, ItemsRest, items, AfterRest, alone, ranged, ToRest, to, EscapeRest, begun, EscapeToRest, begun_to}
-use Rattle.sp_regex.proofs.StepLaws.{Alternatives, Pieces, Counted, AfterAtom, AtomThen, Closes, ModeRest, Left, regex_open, regex_close, step_forth}
+use Rattle.sp_regex.proofs.BoundsLaws.{bounds_rest, bounds_done, StartRest, LeastRest, brace, comma, CommaRest, closed_end, MostRest, most}
+use Rattle.sp_regex.proofs.ClassLaws.{place_rest, class_done, OpenRest, keeps, FirstRest, first, ItemsRest, items, AfterRest, alone, ToRest, to, EscapeRest, begun, EscapeToRest, begun_to}
+use Rattle.sp_regex.proofs.StepLaws.{Pieces, AtomThen, Closes, ModeRest, Left, regex_open, regex_close, step_forth}
 use Rattle.sp_regex.proofs.BackLaws.{StateFit, ModeFit, step_back}
 
 -- the end is no escape, no item, no bounds, no atom and no count
@@ -197,7 +197,8 @@ pub at_start : IsAt [] initial
 at_start = record {
   fits = (omega arith, tt);
   text = initial_text;
-  rest = λ t w r. (64, refl, regex_open (Closes 64 [] t) r (refl, refl)) }
+  rest = λ t w r. (64, refl, regex_open (Closes 64 [] t) r (refl, refl));
+}
 
 pub at_next : (v : List ℕ) (s : State) (b : ℕ) (d : State) → IsAt v s → b ≤ 255 → step s b ≡ Some d → IsAt (v ++ b ∷ []) d
 at_next v s b d at le e =
@@ -205,7 +206,8 @@ at_next v s b d at le e =
     record {
       fits = k.0;
       text = λ t w l. subst (λ x. Derives x t) (sym (append_assoc v (b ∷ []) w)) (at.text t (b ∷ w) (k.1 t w l));
-      rest = λ t w r. taken s b d e t w (step_forth s b t w (at.rest t (b ∷ w) (subst (λ x. Derives x t) (append_assoc v (b ∷ []) w) r))) }
+      rest = λ t w r. taken s b d e t w (step_forth s b t w (at.rest t (b ∷ w) (subst (λ x. Derives x t) (append_assoc v (b ∷ []) w) r)));
+    }
   where
     taken : (s : State) (b : ℕ) (d : State) → step s b ≡ Some d → (t : Syntax) (w : List ℕ) → (x : State) × (step s b ≡ Some x) × Left x t w → Left d t w
     taken s b d e t w (x, f, l) = let g : x ≡ d = cc in subst (λ s. Left s t w) g l
@@ -235,7 +237,8 @@ unfinished_fault v s at f = record {
   within = omega arith;
   before = subst Begins (sym (take_all (length v) v (omega arith))) (at_begins v s at);
   here = λ less b. omega arith;
-  no_text = λ x. (let g = whole_text v s at x.0 x.1 in let e : Some x.0 ≡ None = sym g ∙ f in cc) }
+  no_text = λ x. (let g = whole_text v s at x.0 x.1 in let e : Some x.0 ≡ None = sym g ∙ f in cc);
+}
 
 -- the byte that is refused is the fault
 pub refused_fault : (v : List ℕ) (i : ℕ) (s : State) (b : ℕ) → i < length v → b ≡ get_or v i 0 → IsAt (take i v) s → step s b ≡ None → IsFault v i
@@ -246,7 +249,8 @@ refused_fault v i s b less is at e =
       within = omega arith;
       before = at_begins (take i v) s at;
       here = λ lt x. here x;
-      no_text = λ x. here (drop (i + 1) v, subst IsRegexText (sym (take-append-drop (i + 1) v)) x) }
+      no_text = λ x. here (drop (i + 1) v, subst IsRegexText (sym (take-append-drop (i + 1) v)) x);
+    }
 
 pub step_refused : (taken : Bool) (s : State) (o : Option State) → IsStep taken s o → taken ≡ false → o ≡ None
 step_refused false s o h e = h

@@ -1,5 +1,5 @@
 -- What a byte of a text stands for, and the bytes of classes.
-use Rattle.std.specs.Prelude.{◌≡◌, ℕ, ◌+◌, ◌-◌, ◌*◌, ◌<◌, ◌==◌, ◌&&◌, ◌||◌, Bool, true, false, List, Option, Some, None, nat_le, if◌then◌else◌}
+use Rattle.std.specs.Prelude.{ℕ, ◌+◌, ◌-◌, ◌*◌, ◌==◌, ◌&&◌, Bool, List, Option, Some, None, nat_le, if◌then◌else◌}
 use Rattle.std.specs.List.{list_any}
 use Rattle.sp_regex.specs.declared.bytes.ByteRange.{ByteRange}
 use Rattle.sp_regex.specs.declared.bytes.Mark.{Mark}

@@ -1,5 +1,5 @@
 -- The children of a node are smaller.
-use Rattle.std.specs.Prelude.{ℕ, ◌+◌, ◌≤◌, max, List, [], ◌∷◌}
+use Rattle.std.specs.Prelude.{◌+◌, ◌≤◌, max, List, [], ◌∷◌}
 use Rattle.std.specs.List.{fold}
 use Rattle.std.proofs.Common.{arith}
 use denote.Param.Weighed.{most}

@@ -1,5 +1,5 @@
 -- Whether ranges leave a byte.
-use Rattle.std.specs.Prelude.{◌≡◌, ℕ, zero, suc, ◌<◌, ◌&&◌, ◌||◌, Bool, true, false, not, List}
+use Rattle.std.specs.Prelude.{ℕ, zero, suc, ◌&&◌, ◌||◌, Bool, false, not, List}
 use Rattle.sp_regex.specs.declared.bytes.ByteRange.{ByteRange}
 use Rattle.sp_regex.specs.Bytes.{is_within, is_covered}
 

@@ -1,5 +1,5 @@
 -- Regular expressions as trees.
-use Rattle.std.specs.Prelude.{◌≡◌, ℕ, ◌+◌, ◌≤◌, max, Bool, true, false, List, [], ◌∷◌, Option, Some, None}
+use Rattle.std.specs.Prelude.{◌≡◌, ℕ, ◌+◌, ◌*◌, max, Bool, true, false, List, [], ◌∷◌, Option, Some, None}
 use Rattle.std.specs.List.{fold}
 use Rattle.std.proofs.Common.{refl, ap, ◌∙◌}
 use Rattle.std.specs.Coded.{Coded}
@@ -99,3 +99,20 @@ syntax_inj x y p = cc
 
 abbrev pub coded_syntax : Coded Syntax
 coded_syntax = record { code = syntax_code; inj = syntax_inj }
+
+-- how often the positions of an atom count, by its bounds: the greatest number, or without one the least
+-- number, but at least once
+abbrev pub times_of : ℕ → Option ℕ → ℕ
+times_of least (Some most) = most
+times_of least None = max least 1
+
+-- the count of byte positions: bytes, escapes, . and classes count one each
+abbrev pub positions_of : Syntax → ℕ
+positions_of (byte b) = 1
+positions_of any = 1
+positions_of (class n rs) = 1
+positions_of empty = 0
+positions_of (followed a b) = positions_of a + positions_of b
+positions_of never = 0
+positions_of (either a b) = positions_of a + positions_of b
+positions_of (repeat n m a) = times_of n m * positions_of a

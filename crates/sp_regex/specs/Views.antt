@@ -1,11 +1,7 @@
 -- A node as a tree.
-use Rattle.std.specs.Prelude.{ℕ, ◌+◌, ◌≤◌, max, List, [], ◌∷◌}
-use Rattle.std.specs.List.{fold}
-use Rattle.std.proofs.Common.{arith}
-use denote.Param.Weighed.{most}
 use Rattle.sp_regex.specs.declared.tree.Node.{Node}
 use Rattle.sp_regex.specs.declared.tree.Node.TheVariants as node
-use Rattle.sp_regex.specs.Trees.{Syntax, byte, any, class, repeat, sequence, alternatives, syntax_size, followed, either, empty, never}
+use Rattle.sp_regex.specs.Trees.{Syntax, byte, any, class, repeat, sequence, alternatives}
 
 abbrev pub node_syntax : Node → Syntax
 node_syntax (node.Byte b) = byte b
@@ -14,4 +10,3 @@ node_syntax (node.Class c) = class c.negated c.ranges.items
 node_syntax (node.Sequence v) = sequence v.items
 node_syntax (node.Alternatives v) = alternatives v.items
 node_syntax (node.Repeat a c) = repeat c.least c.most a.value
-

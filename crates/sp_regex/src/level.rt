@@ -18,7 +18,6 @@ pub struct Level {
 impl Model for Level {
     ghost use Rattle.sp_regex.specs.Trees.{sequence, alternatives};
     ghost use Rattle.sp_regex.specs.Levels.{Opened, opened};
-
     ghost use Rattle.std.specs.Coded.{codes};
     ghost use Rattle.sp_regex.specs.Trees.{coded_syntax};
 

@@ -7,6 +7,8 @@ mod class;
 mod escape;
 mod level;
 mod reader;
+#[cfg(test)]
+mod tests;
 mod text;
 mod tree;
 

@@ -50,7 +50,6 @@ pub struct Reader {
 impl Model for Reader {
     ghost use Rattle.std.specs.Prelude.{reverse};
     ghost use Rattle.sp_regex.specs.Machine.{State, state};
-
     ghost use Rattle.std.specs.Coded.{codes};
     ghost use Rattle.sp_regex.specs.Trees.{coded_syntax};
 

@@ -1,6 +1,6 @@
 // Regular expressions as trees.
-ghost use Rattle.std.specs.Prelude.{◌≡◌, IfOk};
-ghost use Rattle.sp_regex.specs.Trees.{byte, any, class, repeat, sequence, alternatives};
+ghost use Rattle.std.specs.Prelude.{◌≡◌, ◌-◌, ◌^◌, min, sum_by, IfOk};
+ghost use Rattle.sp_regex.specs.Trees.{byte, any, class, repeat, sequence, alternatives, times_of, positions_of};
 
 use crate::bytes::ByteRange;
 use sp_base::NoMemory;
@@ -13,6 +13,18 @@ use std::marker::Model;
 pub struct Count {
     pub least: u8,
     pub most: Option<u8>,
+}
+
+impl Count {
+    // How often the positions of the atom count.
+    fn times(self) -> u64
+        ensures { result ≡ times_of self.least self.most }
+    {
+        match self.most {
+            Some(most) => u64::from(most),
+            None => u64::from(self.least.max(1)),
+        }
+    }
 }
 
 /// A regular expression.
@@ -104,5 +116,24 @@ impl Regex {
         Ok(Regex {
             node: Node::Repeat(atom, count),
         })
+    }
+
+    /// The count of byte positions: bytes, escapes, `.` and classes, one each; those of an atom count as
+    /// often as its bounds allow at most, and once or, where that is more, the least number of times
+    /// without such a bound. A count past 2^64 - 1 is given as 2^64 - 1.
+    pub fn positions(&self) -> u64
+        ensures { result ≡ min (positions_of self.now) (2 ^ 64 - 1) }
+    {
+        match &self.node {
+            Node::Byte(_) | Node::Any | Node::Class(_) => 1,
+            Node::Sequence(parts) | Node::Alternatives(parts) => {
+                let mut total: u64 = 0;
+                for part in parts {
+                    total = total.saturating_add(part.positions());
+                }
+                total
+            }
+            Node::Repeat(atom, count) => count.times().saturating_mul(atom.positions()),
+        }
     }
 }

@@ -1,4 +1,4 @@
-use Rattle.std.proofs.Common.{sym, ◌∙◌, arith, not, slice_index_or, false, ◌≡◌, ◌<◌, true}
+use Rattle.std.proofs.Common.{sym, ◌∙◌, arith, not, slice_index_or, false, ◌≡◌, true}
 use Rattle.std.proofs.lemmas.Bool.{and_from, not_from_false}
 use Rattle.sp_regex.proofs.Covers.{some_below-found, some_below-none}
 use Rattle.sp_regex.specs.Bytes.{is_within}

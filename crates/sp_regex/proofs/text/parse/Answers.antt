@@ -1,4 +1,4 @@
-use Rattle.std.proofs.Common.{◌≡◌, ◌≤◌, ℕ, sym, ◌∙◌, ap, subst, refl, arith, get_or, take, length}
+use Rattle.std.proofs.Common.{◌≡◌, ◌≤◌, sym, ◌∙◌, subst, refl, arith, get_or, length}
 use Rattle.sp_regex.specs.Syntax.{IsFault}
 use Rattle.sp_regex.proofs.TextLaws.{IsAt, at_start, read_more, read_all, step_refused, step_taken, refused_fault, unfinished_fault, finished_tree, finished_only}
 use Rattle.sp_regex.proofs.text.parse.Goals as goal
