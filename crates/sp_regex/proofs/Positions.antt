@@ -1,7 +1,5 @@
 -- Counts of positions, up to a limit.
-use Rattle.std.proofs.Common.{◌≡◌, ℕ, zero, suc, ◌+◌, ◌*◌, ◌<◌, ◌≤◌, min, List, [], ◌∷◌, take, length, get_or, refl, sym, ap, ◌∙◌, inl, inr, arith, fold, zero-mul}
-use Rattle.std.proofs.Math.Nat.{suc-mul}
-use Rattle.std.proofs.lemmas.Bool.{cases_lt}
+use Rattle.std.proofs.Common.{◌≡◌, ℕ, ◌+◌, ◌<◌, min, List, [], ◌∷◌, take, length, get_or, refl, ap, ◌∙◌, arith, fold}
 use Rattle.std.proofs.lemmas.List.{take_more}
 use Rattle.std.proofs.lemmas.List.Sums.{fold-append}
 use Rattle.sp_regex.specs.Trees.{Syntax, followed, either, empty, never, sequence, alternatives, positions_of}
@@ -20,14 +18,3 @@ positions_more xs i total p limit d lt e f =
     let more : positions_of (sequence (take (i + 1) xs)) ≡ positions_of (sequence (take i xs)) + positions_of (get_or xs i d) =
     ap (λ l. positions_of (sequence l)) (take_more xs i d lt) ∙ ap positions_of (fold-append followed empty (take i xs) (get_or xs i d ∷ [])) in
     omega arith
-
-large : (n p limit : ℕ) → limit ≤ p → min (n * limit) limit ≡ min (n * p) limit
-large zero p limit le = ap (λ x. min x limit) (zero-mul limit ∙ sym (zero-mul p))
-large (suc n) p limit le = omega (arith, suc-mul n limit, suc-mul n p)
-
--- a product of a count that is cut at a limit
-pub times_cut : (n p limit : ℕ) → min (n * min p limit) limit ≡ min (n * p) limit
-times_cut n p limit = elim (cases_lt p limit) [
-  | inl lt ↦ (let e : min p limit ≡ p = omega arith in ap (λ x. min (n * x) limit) e)
-  | inr le ↦ (let e : min p limit ≡ limit = omega arith in ap (λ x. min (n * x) limit) e ∙ large n p limit le)
-]

@@ -1,4 +1,4 @@
--- Bounds of a repetition: how far they are read, and what the next byte leads to.
+-- Bounds of a repetition: how far they are read, and what the next byte leads to. For private functions.
 use Rattle.std.specs.Prelude.{ℕ, ◌+◌, ◌*◌, ◌==◌, Option, Some, None, nat_le, if◌then◌else◌}
 use Rattle.sp_regex.specs.declared.bounds.BoundsPlace.{BoundsPlace}
 use Rattle.sp_regex.specs.declared.bounds.BoundsPlace.TheVariants.{Start, Least, Comma, Most}

@@ -1,4 +1,4 @@
--- Classes: how far one is read, and what the next byte leads to.
+-- Classes: how far one is read, and what the next byte leads to. For private functions.
 use Rattle.std.specs.Prelude.{◌≡◌, ℕ, ◌+◌, ◌*◌, ◌++◌, [], ◌∷◌, ◌&&◌, ◌||◌, Bool, true, false, not, List, Option, Some, None, nat_le, nat_lt, if◌then◌else◌}
 use Rattle.sp_regex.specs.declared.bytes.ByteRange.{ByteRange}
 use Rattle.sp_regex.specs.declared.bytes.ClassMark.{ClassMark}

@@ -1,4 +1,4 @@
--- Escapes: how far one is read, and what the next byte leads to.
+-- Escapes: how far one is read, and what the next byte leads to. For private functions.
 use Rattle.std.specs.Prelude.{ℕ, Option, Some, None}
 use Rattle.sp_regex.specs.declared.bytes.Escaped.{Escaped}
 use Rattle.sp_regex.specs.declared.bytes.Escaped.TheVariants as escaped

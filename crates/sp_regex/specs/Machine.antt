@@ -1,4 +1,5 @@
--- The reading of a text byte by byte.
+-- The reading of a text byte by byte. Contracts of private functions alone cite this: what `parse` promises
+-- is said by the written syntax (`Syntax`).
 use Rattle.std.specs.Prelude.{◌≡◌, ℕ, Bool, true, false, List, [], ◌∷◌, length, Option, Some, None, nat_lt, if◌then◌else◌}
 use Rattle.sp_regex.specs.declared.bytes.Mark.{Mark}
 use Rattle.sp_regex.specs.declared.bytes.Mark.TheVariants as mark

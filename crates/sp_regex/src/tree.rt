@@ -27,7 +27,8 @@ impl Count {
     }
 }
 
-/// A regular expression.
+/// A regular expression. One that was read from a text is at most 64 groups deep, so that to count its
+/// positions or to drop it takes little of the stack.
 #[derive(Drop)]
 #[cycle(tree)]
 pub struct Regex {
