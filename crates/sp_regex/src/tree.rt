@@ -1,5 +1,5 @@
 // Regular expressions as trees.
-ghost use Rattle.std.specs.Prelude.{◌≡◌, ◌-◌, ◌^◌, min, sum_by, IfOk};
+ghost use Rattle.std.specs.Prelude.{◌≡◌, ◌-◌, ◌^◌, min, IfOk};
 ghost use Rattle.sp_regex.specs.Trees.{byte, any, class, repeat, sequence, alternatives, times_of, positions_of};
 
 use crate::bytes::ByteRange;
