@@ -1,0 +1,9 @@
+pub mod Covers
+pub mod EscapeLaws
+pub mod BoundsLaws
+pub mod ClassLaws
+pub mod StepLaws
+pub mod BackLaws
+pub mod TextLaws
+pub mod Positions
+pub mod Rows

@@ -1,0 +1,12 @@
+pub mod Bounds
+pub mod Bytes
+pub mod Class
+pub mod Escapes
+pub mod Falls
+pub mod Language
+pub mod Levels
+pub mod Machine
+pub mod Room
+pub mod Syntax
+pub mod Trees
+pub mod Views
