@@ -3,10 +3,12 @@
 
 mod bytes;
 mod kinds;
+mod lines;
 mod places;
 mod text;
 
 pub use bytes::{ByteList, NoMemory};
 pub use kinds::{BKind, MKind, PKind};
+pub use lines::place_of;
 pub use places::{Diag, Limits, ParseError, Place, Span};
 pub use text::Text;
