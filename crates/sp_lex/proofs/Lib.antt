@@ -1,0 +1,10 @@
+pub mod Counts
+pub mod Depth
+pub mod Least
+pub mod Longest
+pub mod OwnFaults
+pub mod ReadOn
+pub mod Scans
+pub mod Skips
+pub mod Spelled
+pub mod Takes

@@ -1,0 +1,9 @@
+pub mod Bytes
+pub mod Elements
+pub mod Faults
+pub mod Literals
+pub mod Nesting
+pub mod Readings
+pub mod Scanning
+pub mod Signs
+pub mod Spellings

@@ -1,0 +1,19 @@
+//! The tokens of a module's text.
+#![tactic(auto)]
+
+mod elements;
+mod faults;
+mod kinds;
+mod lexer;
+mod literals;
+mod nesting;
+mod numbers;
+mod runs;
+mod scanner;
+mod signs;
+mod tables;
+mod tokens;
+
+pub use kinds::{Absent, Attribute, Hook, Keyword, Mark, Property, TokenKind};
+pub use lexer::lex;
+pub use tokens::{ReadFault, Token, Tokens};
