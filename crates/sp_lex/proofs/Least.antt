@@ -1,17 +1,20 @@
 -- The least fault of a source, from those of the text and those of its tokens.
-use Rattle.std.proofs.Common.{◌≡◌, ℕ, ◌+◌, ◌<◌, ◌≤◌, ◌⊎◌, inl, inr, ⊎_elim, List, length, Result, Ok, Err, sym, refl, ap, subst, ◌∙◌, arith}
+use Rattle.std.proofs.Common.{◌≡◌, ℕ, [], ◌∷◌, ◌+◌, ◌<◌, ◌≤◌, ◌⊎◌, inl, inr, ⊎_elim, List, length, Result, Ok, Err, sym, refl, ap, subst, ◌∙◌, arith}
 use Rattle.std.proofs.lemmas.List.{take_all, length-take}
 use Rattle.std.proofs.str.Laws.{order}
 use Rattle.std.specs.Prelude.{IfOk, IfErr, OnOk}
+use Rattle.std.specs.List.{AllByRecursion}
 use Rattle.sp_base.specs.Kinds.{module_kind_number}
 use Rattle.sp_base.specs.declared.kinds.MKind.{MKind}
 use Rattle.sp_base.specs.declared.kinds.MKind.TheVariants as module_kind
 use Rattle.sp_base.specs.declared.places.Span.{Span}
-use Rattle.sp_lex.specs.Faults.{most_bytes, looked_at, first_bad, byte_span, IsReadingFault, IsTextFault, IsFault, GoesBefore, OnDiag}
-use Rattle.sp_lex.specs.Nesting.{outermost}
-use Rattle.sp_lex.specs.Readings.{reading}
+use Rattle.sp_lex.specs.Faults.{most_bytes, looked_at, first_bad, byte_span, IsRight, IsReadingFault, IsTextFault, IsFault, GoesBefore, OnDiag}
+use Rattle.sp_lex.specs.Nesting.{role_of, after, outermost}
+use Rattle.sp_lex.specs.Readings.{reading, whole}
+use Rattle.sp_lex.specs.declared.nesting.Nesting.{Nesting}
 use Rattle.sp_lex.specs.declared.tokens.ReadFault.{ReadFault}
 use Rattle.sp_lex.specs.declared.tokens.ReadFault.TheVariants as fault_is
+use Rattle.sp_lex.specs.declared.tokens.Token.{Token}
 
 -- a text that is not too large is looked at whole
 pub looked_at_whole : (source : List ℕ) → length source ≤ most_bytes → source ≡ looked_at source
@@ -84,6 +87,15 @@ module _ (source : List ℕ) (T : Type 0) where
 pub on_ok : {T : Type 0} (r : Result T ReadFault) (P : Type 0) → P → OnOk r P
 on_ok (Ok x) P h = h
 on_ok (Err e) P h = tt
+
+-- where nothing is wrong with the reading, nothing is with any token
+each_right : (text : List ℕ) (nesting : Nesting) (tokens : List Token) → ((span : Span) (m : MKind) → ¬ IsReadingFault text nesting (whole tokens) span m) → AllByRecursion (IsRight text) tokens
+each_right text nesting [] right = tt
+each_right text nesting (token ∷ tokens) right = (λ m own. right token.span m (inl (refl, inl own)), each_right text (after nesting (role_of token.kind)) tokens (λ span m fault. right span m (inr fault)))
+
+pub right_tokens : (text : List ℕ) (r : Result (List Token) ReadFault) → IfOk r (λ tokens. reading text ≡ whole tokens) → IfOk r (λ tokens. (span : Span) (m : MKind) → ¬ IsReadingFault text outermost (reading text) span m) → IfOk r (λ tokens. AllByRecursion (IsRight text) tokens)
+right_tokens text (Ok tokens) same right = each_right text outermost tokens (subst (λ read. (span : Span) (m : MKind) → ¬ IsReadingFault text outermost read span m) same right)
+right_tokens text (Err e) same right = tt
 
 -- a place in what is looked at is one of the source
 module _ (source seen : List ℕ) (same : seen ≡ looked_at source) where

@@ -8,3 +8,4 @@ pub mod Scans
 pub mod Skips
 pub mod Spelled
 pub mod Takes
+pub mod Texts

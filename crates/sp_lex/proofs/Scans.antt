@@ -7,11 +7,12 @@ use Rattle.sp_base.specs.declared.kinds.MKind.TheVariants as module_kind
 use Rattle.sp_base.specs.declared.places.Span.{Span}
 use Rattle.sp_lex.proofs.Depth.{after_bounded}
 use Rattle.sp_lex.proofs.Longest.{token_longest}
+use Rattle.sp_lex.proofs.Texts.{token_text}
 use Rattle.sp_lex.proofs.ReadOn.{read_on-blank, read_on-token, read_on-bad, read_on-end}
 use Rattle.sp_lex.specs.Elements.{ends_operand, element_at}
-use Rattle.sp_lex.specs.Faults.{bytes_of, byte_span, IsTokenFault, IsReadingFault, GoesBefore}
+use Rattle.sp_lex.specs.Faults.{byte_span, IsTokenFault, IsReadingFault, GoesBefore}
 use Rattle.sp_lex.specs.Nesting.{role_of, level, after, outermost}
-use Rattle.sp_lex.specs.Readings.{Reading, Stops, Reads, token_at, reads_from, read_on, reading, behind, whole, IsLongest, InOrder}
+use Rattle.sp_lex.specs.Readings.{Reading, Stops, Reads, token_at, reads_from, read_on, reading, behind, whole, bytes_of, HasItsText, IsLongest, InOrder}
 use Rattle.sp_lex.specs.Scanning.{Scanned}
 use Rattle.sp_lex.specs.declared.elements.Element.{Element}
 use Rattle.sp_lex.specs.declared.elements.Element.TheVariants as element
@@ -26,6 +27,7 @@ scan_begins text = record {
   bounded = (omega arith, λ k d h. absurd (omega arith));
   ordered = omega arith;
   longest = tt;
+  texts = tt;
   same = refl;
   forth = λ span kind fault. fault;
   back = λ span kind fault. fault;
@@ -39,9 +41,9 @@ in_order_push : (tokens : List Token) (from at n : ℕ) (kind : TokenKind) → 0
 in_order_push [] from at n kind h order = (order, omega arith, omega arith)
 in_order_push (token ∷ tokens) from at n kind h order = (order.0, order.1, in_order_push tokens token.span.to at n kind h order.2)
 
-longest_push : (text : List ℕ) (tokens : List Token) (token : Token) → AllByRecursion (IsLongest text) tokens → IsLongest text token → AllByRecursion (IsLongest text) (tokens ++ token ∷ [])
-longest_push text [] token all one = (one, tt)
-longest_push text (first ∷ tokens) token all one = (all.0, longest_push text tokens token all.1 one)
+all_push : (P : Token → Type 0) (tokens : List Token) (token : Token) → AllByRecursion P tokens → P token → AllByRecursion P (tokens ++ token ∷ [])
+all_push P [] token all one = (one, tt)
+all_push P (first ∷ tokens) token all one = (all.0, all_push P tokens token all.1 one)
 
 behind-push : (tokens : List Token) (token : Token) (rest : Reading) → behind (tokens ++ token ∷ []) rest ≡ behind tokens (Reads token rest)
 behind-push [] token rest = refl
@@ -56,6 +58,7 @@ scan_blank text at divides nesting tokens n scanned h e positive within =
       bounded = scanned.bounded;
       ordered = in_order_later tokens 0 at (at + n) (omega arith) scanned.ordered;
       longest = scanned.longest;
+      texts = scanned.texts;
       same = scanned.same ∙ ap (behind tokens) rest;
       forth = λ span kind fault. subst (λ r. IsReadingFault text nesting r span kind) rest (scanned.forth span kind fault);
       back = λ span kind fault. scanned.back span kind (subst (λ r. IsReadingFault text nesting r span kind) (sym rest) fault);
@@ -75,7 +78,8 @@ scan_token text at divides nesting tokens kind n scanned h e positive within rig
       within = within;
       bounded = after_bounded nesting (role_of kind) scanned.bounded low;
       ordered = in_order_push tokens 0 at n kind positive scanned.ordered;
-      longest = longest_push text tokens (token_at kind at n) scanned.longest (token_longest text at divides kind n e);
+      longest = all_push (IsLongest text) tokens (token_at kind at n) scanned.longest (token_longest text at divides kind n e);
+      texts = all_push (HasItsText text) tokens (token_at kind at n) scanned.texts (token_text text at divides kind n e);
       same = scanned.same ∙ ap (behind tokens) rest ∙ sym (behind-push tokens (token_at kind at n) (read_on (at + n) (ends_operand kind) 0 (drop (at + n) text)));
       forth = λ span m fault. no_fault_here text nesting (token_at kind at n) (read_on (at + n) (ends_operand kind) 0 (drop (at + n) text)) span m right (subst (λ r. IsReadingFault text nesting r span m) rest (scanned.forth span m fault));
       back = λ span m fault. scanned.back span m (subst (λ r. IsReadingFault text nesting r span m) (sym rest) (inr fault));

@@ -5,9 +5,9 @@ use Rattle.sp_base.specs.declared.kinds.MKind.{MKind}
 use Rattle.sp_base.specs.declared.places.Span.{Span}
 use Rattle.sp_lex.proofs.Scans.{scan_token, scan_token_fault, scan_token_least}
 use Rattle.sp_lex.specs.Elements.{ends_operand, element_at}
-use Rattle.sp_lex.specs.Faults.{bytes_of, IsTokenFault, IsReadingFault, GoesBefore, OnDiag}
+use Rattle.sp_lex.specs.Faults.{IsTokenFault, IsReadingFault, GoesBefore, OnDiag}
 use Rattle.sp_lex.specs.Nesting.{role_of, level, after, outermost}
-use Rattle.sp_lex.specs.Readings.{token_at, reading}
+use Rattle.sp_lex.specs.Readings.{token_at, reading, bytes_of}
 use Rattle.sp_lex.specs.Scanning.{Scanned}
 use Rattle.sp_lex.specs.declared.elements.Element.TheVariants as element
 use Rattle.sp_lex.specs.declared.kinds.TokenKind.{TokenKind}

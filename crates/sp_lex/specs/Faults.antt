@@ -1,5 +1,5 @@
 -- What can be wrong with a text as far as its tokens go, and what is reported.
-use Rattle.std.specs.Prelude.{ℕ, ◌≡◌, ◌+◌, ◌-◌, ◌^◌, ◌<◌, ◌≤◌, ◌⊎◌, ◌==◌, List, length, take, drop, min, slice_range}
+use Rattle.std.specs.Prelude.{ℕ, ◌≡◌, ◌+◌, ◌-◌, ◌^◌, ◌<◌, ◌≤◌, ◌⊎◌, ◌==◌, List, length, take, drop, min}
 use Rattle.std.specs.List.{position_or_len}
 use Rattle.std.specs.Str.Lossy.{utf8_valid_len}
 use Rattle.sp_base.specs.Kinds.{module_kind_number}
@@ -8,7 +8,7 @@ use Rattle.sp_base.specs.declared.kinds.MKind.TheVariants as module_kind
 use Rattle.sp_base.specs.declared.places.Span.{Span}
 use Rattle.sp_lex.specs.Literals.{number_value}
 use Rattle.sp_lex.specs.Nesting.{role_of, level, after, outermost}
-use Rattle.sp_lex.specs.Readings.{Reading, Ends, Stops, Reads, reading}
+use Rattle.sp_lex.specs.Readings.{Reading, Ends, Stops, Reads, reading, bytes_of}
 use Rattle.sp_lex.specs.declared.kinds.TokenKind.{TokenKind}
 use Rattle.sp_lex.specs.declared.kinds.TokenKind.TheVariants as token_kind
 use Rattle.sp_lex.specs.declared.nesting.Nesting.{Nesting}
@@ -28,10 +28,6 @@ looked_at source = take (most_bytes + 1) source
 abbrev pub first_bad : List ℕ → ℕ
 first_bad text = min (utf8_valid_len text) (position_or_len (λ byte. byte == 0) text)
 
--- the bytes of a token
-abbrev pub bytes_of : List ℕ → Token → List ℕ
-bytes_of text token = slice_range text token.span.from token.span.to
-
 -- without the first byte and the last
 abbrev pub between : List ℕ → List ℕ
 between bytes = take (length bytes - 2) (drop 1 bytes)
@@ -46,6 +42,10 @@ abbrev pub IsOwnFault : TokenKind → List ℕ → MKind → Type 0
 IsOwnFault token_kind.Number bytes kind = (kind ≡ module_kind.LiteralRange) × (2 ^ 64 ≤ number_value bytes)
 IsOwnFault token_kind.Regex bytes kind = (kind ≡ module_kind.BadRegex) × (¬ IsRegexText (between bytes))
 IsOwnFault _ bytes kind = ⊥
+
+-- nothing is wrong with the token by its own bytes
+abbrev pub IsRight : List ℕ → Token → Type 0
+IsRight text token = (kind : MKind) → ¬ IsOwnFault token.kind (bytes_of text token) kind
 
 -- what can be wrong with a token at a nesting: that, or it is too deep
 abbrev pub IsTokenFault : List ℕ → Nesting → Token → MKind → Type 0

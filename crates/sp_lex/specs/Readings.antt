@@ -1,5 +1,5 @@
 -- A text as white space, comments and tokens, one behind the other.
-use Rattle.std.specs.Prelude.{ℕ, ◌≡◌, ◌+◌, ◌-◌, ◌<◌, ◌≤◌, zero, suc, List, [], ◌∷◌, Bool, true, false, length, drop}
+use Rattle.std.specs.Prelude.{ℕ, ◌≡◌, ◌+◌, ◌-◌, ◌<◌, ◌≤◌, zero, suc, List, [], ◌∷◌, Bool, true, false, length, drop, slice_range}
 use Rattle.std.specs.List.{AllByRecursion}
 use Rattle.sp_lex.specs.Elements.{ends_operand, element_at}
 use Rattle.sp_lex.specs.Signs.{stands}
@@ -45,6 +45,14 @@ behind (token ∷ tokens) rest = Reads token (behind tokens rest)
 -- the tokens alone, up to the text's end
 abbrev pub whole : List Token → Reading
 whole tokens = behind tokens Ends
+
+-- the bytes of a token
+abbrev pub bytes_of : List ℕ → Token → List ℕ
+bytes_of text token = slice_range text token.span.from token.span.to
+
+-- a token of a kind with a fixed text has that text
+abbrev pub HasItsText : List ℕ → Token → Type 0
+HasItsText text token = 0 < length (spelling token.kind) → bytes_of text token ≡ spelling token.kind
 
 -- no token of marks that stands where the token begins is longer than it
 unfoldable pub IsLongest : List ℕ → Token → Type 0

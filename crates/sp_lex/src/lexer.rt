@@ -4,9 +4,9 @@ ghost use Rattle.std.specs.List.{position_or_len, AllByRecursion};
 ghost use Rattle.std.specs.Str.Lossy.{utf8_valid_len};
 ghost use Rattle.sp_base.specs.declared.kinds.MKind.{MKind};
 ghost use Rattle.sp_base.specs.declared.places.Span.{Span};
-ghost use Rattle.sp_lex.specs.Faults.{most_bytes, looked_at, first_bad, IsReadingFault, IsTextFault, IsFault, GoesBefore, OnDiag};
+ghost use Rattle.sp_lex.specs.Faults.{most_bytes, looked_at, first_bad, IsRight, IsReadingFault, IsTextFault, IsFault, GoesBefore, OnDiag};
 ghost use Rattle.sp_lex.specs.Nesting.{outermost};
-ghost use Rattle.sp_lex.specs.Readings.{reading, whole, IsLongest, InOrder};
+ghost use Rattle.sp_lex.specs.Readings.{reading, whole, HasItsText, IsLongest, InOrder};
 
 use crate::scanner::{scan, span_of};
 use crate::tokens::{ReadFault, Tokens};
@@ -130,6 +130,8 @@ pub fn lex(alloc: Global, source: &[u8]) -> Result<Tokens, ReadFault>
     // The text is the tokens in this order, with nothing but white space and comments round them.
     ensures tokens { IfOk result (λ tokens. reading source.now ≡ whole tokens) }
     ensures longest { IfOk result (λ tokens. AllByRecursion (IsLongest source.now) tokens) }
+    ensures texts { IfOk result (λ tokens. AllByRecursion (HasItsText source.now) tokens) }
+    ensures each_right { IfOk result (λ tokens. AllByRecursion (IsRight source.now) tokens) }
     ensures order { IfOk result (λ tokens. InOrder 0 tokens (length source.now)) }
     ensures right { IfOk result (λ tokens. (span : Span) (kind : MKind) → ¬ IsFault source.now span kind) }
     ensures small { OnOk result (length source.now ≤ most_bytes) }

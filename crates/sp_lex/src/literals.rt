@@ -35,7 +35,7 @@ impl Form {
     }
 }
 
-/// The byte at a place; at the end 0, which no token begins or holds.
+/// The byte at a place; behind the end 0, which no opening, escape or number has.
 pub(crate) fn byte_at(text: &[u8], at: usize) -> u8
     ensures value { result ≡ slice_index text.now at }
     ensures there { result ≢ 0 → at < length text.now }

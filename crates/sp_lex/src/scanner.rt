@@ -7,7 +7,7 @@ ghost use Rattle.sp_base.specs.declared.places.Span.{Span};
 ghost use Rattle.sp_lex.specs.Elements.{element_at};
 ghost use Rattle.sp_lex.specs.Faults.{most_bytes, IsTokenFault, IsReadingFault, GoesBefore, OnDiag};
 ghost use Rattle.sp_lex.specs.Nesting.{role_of, level, after, outermost, IsBounded};
-ghost use Rattle.sp_lex.specs.Readings.{token_at, reading, whole, IsLongest, InOrder};
+ghost use Rattle.sp_lex.specs.Readings.{token_at, reading, whole, HasItsText, IsLongest, InOrder};
 ghost use Rattle.sp_lex.specs.Scanning.{Scanned};
 
 use crate::elements::{Element, element_at};
@@ -122,6 +122,7 @@ pub(crate) fn scan(alloc: Global, text: &[u8]) -> Result<Tokens, ReadFault>
     requires { length text.now ≤ most_bytes + 1 }
     ensures tokens { IfOk result (λ tokens. reading text.now ≡ whole tokens) }
     ensures longest { IfOk result (λ tokens. AllByRecursion (IsLongest text.now) tokens) }
+    ensures texts { IfOk result (λ tokens. AllByRecursion (HasItsText text.now) tokens) }
     ensures right { IfOk result (λ tokens. (span : Span) (m : MKind) → ¬ IsReadingFault text.now outermost (reading text.now) span m) }
     ensures order { IfOk result (λ tokens. InOrder 0 tokens (length text.now)) }
     ensures inside { IfErr result (OnDiag (λ span _. span.from ≤ length text.now)) }

@@ -3,10 +3,10 @@ use Rattle.std.specs.Prelude.{IfOk, IfErr}
 use Rattle.std.specs.List.{AllByRecursion}
 use Rattle.sp_base.specs.declared.kinds.MKind.{MKind}
 use Rattle.sp_base.specs.declared.places.Span.{Span}
-use Rattle.sp_lex.proofs.Least.{text_small, text_whole, on_ok, inside_fault, inside_result, right_of_reading, least_of_reading, least_of_both}
-use Rattle.sp_lex.specs.Faults.{most_bytes, IsReadingFault, GoesBefore, OnDiag}
+use Rattle.sp_lex.proofs.Least.{right_tokens, text_small, text_whole, on_ok, inside_fault, inside_result, right_of_reading, least_of_reading, least_of_both}
+use Rattle.sp_lex.specs.Faults.{most_bytes, IsRight, IsReadingFault, GoesBefore, OnDiag}
 use Rattle.sp_lex.specs.Nesting.{outermost}
-use Rattle.sp_lex.specs.Readings.{reading, whole, IsLongest, InOrder}
+use Rattle.sp_lex.specs.Readings.{reading, whole, HasItsText, IsLongest, InOrder}
 use Rattle.sp_lex.proofs.lexer.lex.Goals as goal
 
 pub returns-in-None-clause-tokens : goal.returns-in-None-clause-tokens
@@ -18,6 +18,16 @@ pub returns-in-None-clause-longest : goal.returns-in-None-clause-longest
 returns-in-None-clause-longest c =
     let same = c.looked_at-seen.ensures.value ∙ sym (text_whole c.args.source.now c.in-None.ensures.right) in
     subst (λ t. IfOk c.scan.result (λ tokens. AllByRecursion (IsLongest t) tokens)) same c.scan.ensures.longest
+
+pub returns-in-None-clause-texts : goal.returns-in-None-clause-texts
+returns-in-None-clause-texts c =
+    let same = c.looked_at-seen.ensures.value ∙ sym (text_whole c.args.source.now c.in-None.ensures.right) in
+    subst (λ t. IfOk c.scan.result (λ tokens. AllByRecursion (HasItsText t) tokens)) same c.scan.ensures.texts
+
+pub returns-in-None-clause-each_right : goal.returns-in-None-clause-each_right
+returns-in-None-clause-each_right c =
+    let same = c.looked_at-seen.ensures.value ∙ sym (text_whole c.args.source.now c.in-None.ensures.right) in
+    subst (λ t. IfOk c.scan.result (λ tokens. AllByRecursion (IsRight t) tokens)) same (right_tokens c.looked_at-seen.result.now c.scan.result c.scan.ensures.tokens c.scan.ensures.right)
 
 pub returns-in-None-clause-order : goal.returns-in-None-clause-order
 returns-in-None-clause-order c =
