@@ -19,11 +19,20 @@ pub struct Module {
 #[derive(Drop)]
 pub enum Decl {
     /// `import M;`
-    Import { name: Name, span: Span },
+    Import {
+        name: Name,
+        span: Span,
+    },
     /// `%byte-order = path;`
-    ByteOrder { order: Path, span: Span },
+    ByteOrder {
+        order: Path,
+        span: Span,
+    },
     /// `%spicy-version = "text";`
-    SpicyVersion { text: Text, span: Span },
+    SpicyVersion {
+        text: Text,
+        span: Span,
+    },
     /// `public type T = ..;`
     Type {
         public: bool,

@@ -48,7 +48,10 @@ pub enum Stmt {
         span: Span,
     },
     /// `return;`, `return e;`
-    Return { value: Option<Expr>, span: Span },
+    Return {
+        value: Option<Expr>,
+        span: Span,
+    },
     /// `break;`
     Break(Span),
     /// `continue;`
@@ -60,9 +63,15 @@ pub enum Stmt {
     /// `reject;`
     Reject(Span),
     /// `print a, b;`: one value or more.
-    Print { values: Vec<Expr>, span: Span },
+    Print {
+        values: Vec<Expr>,
+        span: Span,
+    },
     /// `throw e;`
-    Throw { value: Expr, span: Span },
+    Throw {
+        value: Expr,
+        span: Span,
+    },
     /// `assert e;`, `assert e : "text";`
     Assert {
         condition: Expr,
@@ -70,11 +79,20 @@ pub enum Stmt {
         span: Span,
     },
     /// `add e;`
-    Add { target: Expr, span: Span },
+    Add {
+        target: Expr,
+        span: Span,
+    },
     /// `delete e;`
-    Delete { target: Expr, span: Span },
+    Delete {
+        target: Expr,
+        span: Span,
+    },
     /// `e;`
-    Expr { value: Expr, span: Span },
+    Expr {
+        value: Expr,
+        span: Span,
+    },
     /// `a = b;`, `a += b;`, `a -= b;`
     Assign {
         op: AssignOp,

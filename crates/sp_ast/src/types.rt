@@ -22,13 +22,25 @@ pub enum TypeTree {
     /// `void`
     Void(Span),
     /// `uint8` and the like.
-    Int { word: IntWord, span: Span },
+    Int {
+        word: IntWord,
+        span: Span,
+    },
     /// `tuple<A, B>`: one member or more.
-    Tuple { members: Vec<TypeTree>, span: Span },
+    Tuple {
+        members: Vec<TypeTree>,
+        span: Span,
+    },
     /// `vector<T>`
-    Vector { element: Box<TypeTree>, span: Span },
+    Vector {
+        element: Box<TypeTree>,
+        span: Span,
+    },
     /// `set<T>`
-    Set { element: Box<TypeTree>, span: Span },
+    Set {
+        element: Box<TypeTree>,
+        span: Span,
+    },
     /// `map<K, V>`
     Map {
         key: Box<TypeTree>,
@@ -36,7 +48,10 @@ pub enum TypeTree {
         span: Span,
     },
     /// `enum { A, B = 2 }`: one label or more.
-    Enum { labels: Vec<Label>, span: Span },
+    Enum {
+        labels: Vec<Label>,
+        span: Span,
+    },
     /// `bitfield(8) { a: 0..3; }`
     Bitfield {
         width: u64,

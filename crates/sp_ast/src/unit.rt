@@ -24,11 +24,20 @@ pub enum Item {
     /// `%filter;`
     Filter(Span),
     /// `%byte-order = path;`
-    ByteOrder { order: Path, span: Span },
+    ByteOrder {
+        order: Path,
+        span: Span,
+    },
     /// `%mime-type = "text";`
-    MimeType { text: Text, span: Span },
+    MimeType {
+        text: Text,
+        span: Span,
+    },
     /// `%description = "text";`
-    Description { text: Text, span: Span },
+    Description {
+        text: Text,
+        span: Span,
+    },
     /// `var x: T = e;`
     Variable {
         name: Name,
@@ -37,7 +46,10 @@ pub enum Item {
         span: Span,
     },
     /// `sink s;`
-    Sink { name: Name, span: Span },
+    Sink {
+        name: Name,
+        span: Span,
+    },
     /// `on field { .. }`, `on %init { .. }`
     On {
         target: HookTarget,
@@ -120,9 +132,15 @@ pub enum Base {
         span: Span,
     },
     /// `b"text"`, its escapes decoded.
-    Bytes { value: ByteList, span: Span },
+    Bytes {
+        value: ByteList,
+        span: Span,
+    },
     /// What stands between the slashes of a regular expression, as it is written.
-    Regex { pattern: Text, span: Span },
+    Regex {
+        pattern: Text,
+        span: Span,
+    },
     /// `uint8(1)`
     Number {
         word: IntWord,

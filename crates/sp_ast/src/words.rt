@@ -1,5 +1,5 @@
 // The words of integer types, attributes and hooks.
-ghost use Rattle.std.specs.Prelude.{◌≡◌, IsTrue, ◌↔◌};
+ghost use Rattle.std.specs.Prelude.{◌≡◌};
 ghost use Rattle.sp_ast.specs.Words.{int_text, width, is_signed, attribute_text, hook_text};
 
 /// An integer type.

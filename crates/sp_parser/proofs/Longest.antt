@@ -1,3 +1,4 @@
+-- Runs of tokens from a place on.
 use Rattle.std.proofs.Common.{◌≡◌, ℕ, zero, suc, ◌+◌, ◌-◌, ◌<◌, ◌≤◌, List, [], ◌∷◌, length, take, drop, subst, arith, length-drop}
 use Rattle.std.proofs.lemmas.List.{take_all}
 use Rattle.sp_parser.specs.Grammar.{Table, AreKinds, IsLongestViable, IsViable}

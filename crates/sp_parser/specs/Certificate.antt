@@ -1,4 +1,4 @@
--- Certificate on the listed of a grammar, by which a table is tested, and the test.
+-- What a certificate tells of the nonterminals of a grammar, and what makes the parsing of a table exact.
 use Rattle.std.specs.Prelude.{◌≡◌, ℕ, suc, ◌+◌, ◌^◌, ◌<◌, List, [], ◌∷◌, ◌++◌, length, cond, ◌==◌, ◌||◌, ◌&&◌, not, Bool, true, false, bit_or, nat_lt}
 use Rattle.std.proofs.Common.{get_or}
 use Rattle.std.specs.Int.{bit_at}
@@ -7,8 +7,9 @@ use Rattle.sp_parser.specs.declared.symbol.Symbol.TheVariants.{Terminal, Nonterm
 use Rattle.sp_parser.specs.declared.symbol.Event.{Event}
 use Rattle.sp_parser.specs.Grammar.{Table, productions_of, production_of, right, predict, Advances, Derivation, GREATER, SHIFT, SECOND, CLOSE, END}
 
--- Of each nonterminal: the kinds that may come first in it, those that may come after it, whether it can be nullable,
--- how many symbols are gone through at most before a token, the production of a least text, and its height.
+-- Of each nonterminal: its first set, its follow set, whether it is nullable (derives the empty text), how many symbols
+-- are gone through at most before a token is taken, the production that leads to a text by the fewest levels, and the
+-- number of these levels. A set of kinds is a number, by its bits.
 pub record Certificate : Type 0 where
   pub first : List ℕ
   pub follow : List ℕ
@@ -35,14 +36,14 @@ best_of f n = get_or f.best n 0
 abbrev pub height_of : Certificate → ℕ → ℕ
 height_of f n = get_or f.height n 0
 
--- k is in the set
+-- the kind k is in the set s
 abbrev pub Has : ℕ → ℕ → Type 0
 Has s k = bit_at s k ≡ 1
 
 abbrev pub takers : ℕ → ℕ
 takers e = cond (e == CLOSE) (2 ^ GREATER + 2 ^ SHIFT + 2 ^ SECOND) (2 ^ e)
 
--- the kinds that may come next before these symbols, where those of b may come after them
+-- the first set of these symbols, where the kinds of b may come after them
 abbrev pub firsts : Certificate → ℕ → List Symbol → ℕ
 firsts f b [] = b
 firsts f b (Terminal e ∷ ss) = takers e
@@ -99,14 +100,15 @@ Fits f (Terminal e ∷ ss) = Fits f ss
 Fits f (Mark m ∷ ss) = Fits f ss
 Fits f (Nonterminal n ∷ ss) = ((k : ℕ) → Has (looks f ss) k → Has (follow_of f n) k) × Fits f ss
 
--- the listed among the symbols are listed of the grammar
+-- the terminals are kinds of tokens or close lists of types, and the nonterminals are those of the grammar
 abbrev pub AreListed : Certificate → List Symbol → Type 0
 AreListed f [] = Unit {0}
 AreListed f (Terminal e ∷ ss) = ((nat_lt e SECOND || (e == CLOSE)) ≡ true) × AreListed f ss
 AreListed f (Mark m ∷ ss) = AreListed f ss
 AreListed f (Nonterminal n ∷ ss) = (n < length f.height) × AreListed f ss
 
--- What makes the reading of a table exact.
+-- What makes the parsing of a table exact: the sets hold what they must, and each production is the one that is predicted
+-- before every kind that can begin it and before which none is preferred to it.
 pub record IsCertified (g : Table) (f : Certificate) : Type 0 where
   pub first : (n p k : ℕ) → p < length (productions_of g n) → Has (firsts f 0 (right g n p)) k → Has (first_of f n) k
   pub nullable : (n p : ℕ) → p < length (productions_of g n) → nullables f (right g n p) ≡ true → nullable_of f n ≡ true
@@ -117,12 +119,12 @@ pub record IsCertified (g : Table) (f : Certificate) : Type 0 where
   pub listed : (n p : ℕ) → p < length (productions_of g n) → AreListed f (right g n p)
   pub productive : (n : ℕ) → n < length f.height → Productive g f n
 
--- what is on the stack
+-- what holds of the stack
 pub record Ready (f : Certificate) (ss : List Symbol) : Type 0 where
   pub fits : Fits f ss
   pub listed : AreListed f ss
 
--- anything or nothing may come after the nonterminal at the end of a text
+-- a text may end after the nonterminal: the end is in its follow set
 abbrev pub IsStart : Certificate → ℕ → Type 0
 IsStart f n = Has (follow_of f n) END
 

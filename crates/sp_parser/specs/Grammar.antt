@@ -1,4 +1,4 @@
--- A grammar as a table, and what its parts read.
+-- Grammars as tables of productions, and what their nonterminals derive.
 use Rattle.std.specs.Prelude.{◌≡◌, ℕ, suc, ◌+◌, ◌<◌, List, [], ◌∷◌, ◌++◌, length, cond, ◌==◌, ◌||◌, ◌≤◌, take}
 use Rattle.std.proofs.Common.{get_or}
 use Rattle.std.specs.Int.{bit_at}
@@ -8,7 +8,8 @@ use Rattle.sp_parser.specs.declared.symbol.Event.{Event}
 use Rattle.sp_parser.specs.declared.symbol.Step.{Step}
 use Rattle.sp_parser.specs.declared.symbol.Step.TheVariants.{Whole, Half, Refused, Emptied}
 
--- A production of a nonterminal: its right side, the kinds before which it is taken, and those before which it may not be.
+-- A production: its right side, its select set (the kinds of tokens before which it is predicted), and the kinds before
+-- which it may not be taken, since another production is preferred there. A set of kinds is a number, by its bits.
 pub record Production : Type 0 where
   pub symbols : List Symbol
   pub select : ℕ
@@ -41,7 +42,8 @@ chosen (r ∷ rs) k = let rest = chosen rs k in cond (bit_at r.select k == 1) 0 
 abbrev pub predict : Table → ℕ → ℕ → ℕ
 predict g n k = chosen (productions_of g n) k
 
--- the kind `>`, the kind `>>`, the second half of a `>>`, the expected `>` that closes a type list, and the end
+-- The kind `>`, the kind `>>`, the second half of a `>>`, the terminal that closes a list of types, and the end of the
+-- tokens. A `>>` is one token, and yet closes two lists of types: each takes a half of it.
 abbrev pub GREATER : ℕ
 GREATER = 120
 
@@ -77,7 +79,8 @@ pub record Applies (g : Table) (n p : ℕ) (w : List ℕ) : Type 0 where
 abbrev pub event : ℕ → ℕ → Event
 event m i = record { mark = m; at = i }
 
--- The symbols read exactly these kinds of tokens, before which i tokens stand, and leave these events.
+-- A leftmost derivation: the symbols derive exactly these kinds of tokens, before which i tokens stand, and pass these
+-- marks. A nonterminal is replaced by the right side of one of its productions.
 pub data Derivation (g : Table) : ℕ → List Symbol → List ℕ → List Event → Type 0 where
   done : {i : ℕ} → Derivation g i [] [] []
   whole : {i e k : ℕ} {ss : List Symbol} {w : List ℕ} {τ : List Event} → takes e k ≡ All → Derivation g (suc i) ss w τ → Derivation g i (Terminal e ∷ ss) (k ∷ w) τ
@@ -90,15 +93,16 @@ abbrev pub AreKinds : List ℕ → Type 0
 AreKinds [] = Unit {0}
 AreKinds (k ∷ w) = (k < SECOND) × AreKinds w
 
--- The kinds are a text of the nonterminal, which leaves these events.
+-- The kinds are a text that the nonterminal derives, passing these marks.
 abbrev pub Derives : Table → ℕ → List ℕ → List Event → Type 0
 Derives g n w τ = Derivation g 0 (Nonterminal n ∷ []) w τ
 
--- The kinds begin some text of the nonterminal.
+-- The kinds are a viable prefix: some text of the nonterminal begins with them.
 abbrev pub IsViable : Table → ℕ → List ℕ → Type 0
 IsViable g n w = (more : List ℕ) × (τ : List Event) × AreKinds more × Derives g n (w ++ more) τ
 
--- To read w by the symbols ss, before which i tokens stand, is to leave the events ε and to read v by the symbols ts.
+-- To derive w from the symbols ss, before which i tokens stand, is to pass the marks ε and to derive v from the symbols
+-- ts, before which j tokens stand.
 pub record Advances (g : Table) (i : ℕ) (ss : List Symbol) (w : List ℕ) (j : ℕ) (ts : List Symbol) (v : List ℕ) (ε : List Event) : Type 0 where
   pub forth : (τ : List Event) → Derivation g j ts v τ → Derivation g i ss w (ε ++ τ)
   pub back : (τ : List Event) → Derivation g i ss w τ → (σ : List Event) × (τ ≡ ε ++ σ) × Derivation g j ts v σ
@@ -117,7 +121,7 @@ taken_of Half t = t ≡ First
 taken_of Refused t = t ≡ Nothing
 taken_of Emptied t = ⊥
 
--- m kinds of w are the longest run that begins some text of the nonterminal
+-- the first m kinds of w are its longest viable prefix
 pub record IsLongestViable (g : Table) (n : ℕ) (w : List ℕ) (m : ℕ) : Type 0 where
   pub within : m ≤ length w
   pub begins : IsViable g n (take m w)

@@ -1,4 +1,4 @@
--- The rows of the code, as productions.
+-- The table that the flat lists of the code stand for.
 use Rattle.std.specs.Prelude.{List, [], ◌∷◌, length, map, Bool, true, ◌&&◌, nat_le, slice_range}
 use Rattle.sp_parser.specs.declared.symbol.Symbol.{Symbol}
 use Rattle.sp_parser.specs.declared.table.Row.{Row}

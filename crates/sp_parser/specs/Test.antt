@@ -1,4 +1,4 @@
--- The test of a table.
+-- The test of a table against its certificate, which computes.
 use Rattle.std.specs.Prelude.{ℕ, zero, suc, List, [], ◌∷◌, length, ◌==◌, ◌||◌, ◌&&◌, not, Bool, true, bit_or, bit_and, nat_lt}
 use Rattle.sp_parser.specs.declared.symbol.Symbol.{Symbol}
 use Rattle.sp_parser.specs.declared.symbol.Symbol.TheVariants.{Terminal, Nonterminal, Mark}

@@ -6,9 +6,13 @@ ghost use Rattle.sp_parser.specs.Test.{table_test};
 ghost use Rattle.sp_parser.specs.declared.symbol.Event.{Event};
 
 use crate::symbol::{CLOSE, END, Event, GREATER, SECOND, SHIFT, Step, Symbol};
-use std::alloc::{AllocError, Global};
+use sp_base::NoMemory;
+use std::alloc::Global;
 
-/// A grammar as a table.
+/// A grammar as a table of productions, with a certificate that shows how it is parsed.
+///
+/// The certificate tells the first and follow sets of the nonterminals and the like. That the table passes the test
+/// against it makes the parser exact: nothing else of a grammar is asked for.
 pub trait Grammar {
     ghost table: { Table };
 
@@ -44,7 +48,7 @@ fn taken(expected: u8, kind: u8) -> Step
 }
 
 /// Puts the symbols on the stack, the first of them on top.
-fn push_all(stack: &mut Vec<Symbol>, symbols: &[Symbol]) -> Result<(), AllocError>
+fn push_all(stack: &mut Vec<Symbol>, symbols: &[Symbol]) -> Result<(), NoMemory>
     ensures { OnOk result (reverse stack.new.items ≡ symbols.now ++ reverse stack.old.items) }
 {
     let mut i = symbols.len();
@@ -62,7 +66,7 @@ fn step<G: Grammar>(
     events: &mut Vec<Event>,
     at: usize,
     kind: u8,
-) -> Result<Step, AllocError>
+) -> Result<Step, NoMemory>
     requires ready { Ready G.certificate (reverse stack.old.items) }
     requires kind { kind ≤ END }
     ensures ready { OnOk result (Ready G.certificate (reverse stack.new.items)) }
@@ -91,7 +95,7 @@ fn take_token<G: Grammar>(
     events: &mut Vec<Event>,
     at: usize,
     kind: u8,
-) -> Result<bool, AllocError>
+) -> Result<bool, NoMemory>
     requires ready { Ready G.certificate (reverse stack.old.items) }
     requires kind { kind < SECOND }
     ensures taken { IfOk result (λ yes. Takes G.table G.certificate yes at (reverse stack.old.items) kind (reverse stack.new.items) events.old.items events.new.items) }
@@ -104,13 +108,14 @@ fn take_token<G: Grammar>(
     }
 }
 
-/// How many of the tokens begin some text of the nonterminal, at most.
+/// The length of the longest viable prefix: how many of the tokens begin some text of the nonterminal, at most. Each
+/// token is looked at once.
 pub fn viable_prefix<G: Grammar>(
     alloc: Global,
     grammar: &G,
     nonterminal: u8,
     kinds: &[u8],
-) -> Result<usize, AllocError>
+) -> Result<usize, NoMemory>
     requires nonterminal { nonterminal < length G.certificate.height }
     requires end { IsStart G.certificate nonterminal }
     requires kinds { AreKinds kinds.now }
@@ -129,13 +134,14 @@ pub fn viable_prefix<G: Grammar>(
     Ok(kinds.len())
 }
 
-/// The events of the text of the nonterminal that the tokens are, if they are one.
+/// The marks of the one derivation of the tokens from the nonterminal, in order, or None where there is none. Each token
+/// is looked at once.
 pub fn parse<G: Grammar>(
     alloc: Global,
     grammar: &G,
     nonterminal: u8,
     kinds: &[u8],
-) -> Result<Option<Vec<Event>>, AllocError>
+) -> Result<Option<Vec<Event>>, NoMemory>
     requires nonterminal { nonterminal < length G.certificate.height }
     requires end { IsStart G.certificate nonterminal }
     requires kinds { AreKinds kinds.now }

@@ -5,8 +5,8 @@ ghost use Rattle.sp_parser.specs.Rows.{productions_from, table_from, rows_fit, t
 
 use crate::symbol::Symbol;
 
-/// A production of a nonterminal: the kinds before which it is taken, those before which it may not be, and where its right side
-/// stands among the symbols.
+/// A production: its select set, which is the kinds before which it is taken, the kinds before which another production
+/// is preferred to it, each as bits of a number, and where its right side stands among the symbols.
 #[derive(Clone, Copy)]
 pub struct Row {
     pub select: u128,
@@ -15,7 +15,7 @@ pub struct Row {
     pub to: u16,
 }
 
-/// Where the productions of a nonterminal stand.
+/// Where the productions of a nonterminal stand among the rows.
 #[derive(Clone, Copy)]
 pub struct Span {
     pub from: u16,
@@ -38,7 +38,7 @@ fn choose<'a>(rows: &[Row], symbols: &'a [Symbol], kind: u8) -> Option<&'a [Symb
     None
 }
 
-/// The same for a nonterminal of a table.
+/// The right side of the production that is predicted for a nonterminal before a token of a kind, if there is one.
 pub fn choose_in<'a>(
     spans: &[Span],
     rows: &[Row],
