@@ -1,0 +1,36 @@
+-- The grammar of the language, as the table of the code, and that the table passes the test.
+use Rattle.std.specs.Prelude.{◌≡◌, length, map, true, refl}
+use Rattle.sp_grammar.specs.declared.tables.TheConstants.{SPANS, ROWS, SYMBOLS}
+use Rattle.sp_parser.specs.Grammar.{Table}
+use Rattle.sp_parser.specs.Rows.{table_from, table_fits}
+use Rattle.sp_parser.specs.Certificate.{Certificate}
+use Rattle.sp_parser.specs.Test.{table_test}
+use Rattle.sp_grammar.specs.Sets.{sets}
+use Rattle.sp_grammar.specs.Written.{written, all_parts, right_sides}
+
+unfoldable pub language : Table
+language = table_from SPANS ROWS SYMBOLS
+
+unfoldable pub language_sets : Certificate
+language_sets = sets
+
+-- every set, and every prediction, is as the parser needs it
+pub language_tested : table_test language language_sets ≡ true
+unfolding language language_sets
+language_tested = refl
+
+pub language_fits : table_fits SPANS ROWS SYMBOLS ≡ true
+language_fits = refl
+
+pub language_is : language ≡ table_from SPANS ROWS SYMBOLS
+unfolding language
+language_is = refl
+
+pub language_parts : length language_sets.height ≡ 98
+unfolding language_sets
+language_parts = refl
+
+-- the table has the written productions
+pub language_written : map right_sides language.productions ≡ map written all_parts
+unfolding language
+language_written = refl

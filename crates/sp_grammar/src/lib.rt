@@ -1,0 +1,16 @@
+//! The grammar of the language as a table that a predictive parser follows: its terminals, its productions and its marks.
+#![tactic(auto)]
+
+mod language;
+mod laws;
+mod marks;
+mod tables;
+mod terminals;
+#[cfg(test)]
+mod tests;
+
+pub use language::{Language, Start, kinds_of, parse_kinds};
+pub use laws::table_is_written;
+pub use marks::Mark;
+pub use tables::{ROWS, SPANS, SYMBOLS};
+pub use terminals::Terminal;

@@ -1,0 +1,8 @@
+pub mod Looks
+pub mod Moves
+pub mod Ends
+pub mod Steps
+pub mod Texts
+pub mod Tested
+pub mod Choices
+pub mod Longest

@@ -1,0 +1,5 @@
+pub mod Grammar
+pub mod Certificate
+pub mod Test
+pub mod Rows
+pub mod Outcome

@@ -1,0 +1,11 @@
+use Rattle.std.specs.Prelude.{◌≡◌, ℕ, ◌+◌, List, take}
+use Rattle.sp_parser.specs.declared.symbol.Event.{Event}
+use Rattle.sp_parser.specs.declared.outcome.Outcome.{Outcome}
+use Rattle.sp_parser.specs.declared.outcome.Outcome.TheVariants.{Text, Refused}
+use Rattle.sp_parser.specs.Grammar.{Table, IsLongestViable, Derives}
+
+-- What a parse of the tokens w, which stand from place `at` on, answers: the longest viable prefix, if it is a text with the
+-- marks of its derivation, and else the place after it.
+abbrev pub IsParsed : Table → ℕ → List ℕ → ℕ → Outcome → Type 0
+IsParsed g n w at (Text events j) = (m : ℕ) × (j ≡ at + m) × IsLongestViable g n w m × Derives g n (take m w) events.items
+IsParsed g n w at (Refused j) = (m : ℕ) × (j ≡ at + m) × IsLongestViable g n w m × ((τ : List Event) → Derives g n (take m w) τ → ⊥)

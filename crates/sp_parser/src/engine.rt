@@ -1,0 +1,164 @@
+// The parser: a stack of symbols that holds what is left of the derivation.
+ghost use Rattle.std.specs.Prelude.{◌≡◌, ℕ, ◌+◌, ◌<◌, ◌≤◌, List, [], ◌∷◌, ◌++◌, length, reverse, take, IfOk, OnOk, IfSome, IfNone, MatchOption, true};
+ghost use Rattle.sp_parser.specs.Grammar.{Table, productions_of, right, predict, takes, taken_of, Tells, Advances, Derivation, Derives, IsViable, AreKinds, SECOND, END};
+ghost use Rattle.sp_parser.specs.Certificate.{Certificate, Ready, IsStart, Takes};
+ghost use Rattle.sp_parser.specs.Test.{table_test};
+ghost use Rattle.sp_parser.specs.declared.symbol.Event.{Event};
+
+use crate::symbol::{CLOSE, END, Event, GREATER, SECOND, SHIFT, Step, Symbol};
+use sp_base::NoMemory;
+use std::alloc::Global;
+
+/// A grammar as a table of productions, with a certificate that shows how it is parsed.
+///
+/// The certificate tells the first and follow sets of the nonterminals and the like. That the table passes the test
+/// against it makes the parser exact: nothing else of a grammar is asked for.
+pub trait Grammar {
+    ghost table: { Table };
+
+    ghost certificate: { Certificate };
+
+    /// The right side of the production that is taken for a nonterminal before a token of a kind.
+    fn predict(&self, nonterminal: u8, kind: u8) -> Option<&[Symbol]>
+        requires nonterminal { nonterminal < length certificate.height }
+        requires kind { kind ≤ END }
+        ensures none { IfNone result (length (productions_of table nonterminal) ≤ predict table nonterminal kind) }
+        ensures some { IfSome result (λ s. (predict table nonterminal kind < length (productions_of table nonterminal)) × (s.now ≡ right table nonterminal (predict table nonterminal kind))) };
+
+    ghost tested: { table_test table certificate ≡ true };
+}
+
+/// What an expected token takes of a token of a kind.
+fn taken(expected: u8, kind: u8) -> Step
+    ensures { taken_of result (takes expected kind) }
+{
+    if expected == CLOSE {
+        if kind == GREATER || kind == SECOND {
+            Step::Whole
+        } else if kind == SHIFT {
+            Step::Half
+        } else {
+            Step::Refused
+        }
+    } else if expected == kind {
+        Step::Whole
+    } else {
+        Step::Refused
+    }
+}
+
+/// Puts the symbols on the stack, the first of them on top.
+fn push_all(stack: &mut Vec<Symbol>, symbols: &[Symbol]) -> Result<(), NoMemory>
+    ensures { OnOk result (reverse stack.new.items ≡ symbols.now ++ reverse stack.old.items) }
+{
+    let mut i = symbols.len();
+    while i > 0 {
+        i -= 1;
+        stack.push(symbols[i])?;
+    }
+    Ok(())
+}
+
+/// Goes through symbols until one takes the next token or refuses it.
+fn step<G: Grammar>(
+    grammar: &G,
+    stack: &mut Vec<Symbol>,
+    events: &mut Vec<Event>,
+    at: usize,
+    kind: u8,
+) -> Result<Step, NoMemory>
+    requires ready { Ready G.certificate (reverse stack.old.items) }
+    requires kind { kind ≤ END }
+    ensures ready { OnOk result (Ready G.certificate (reverse stack.new.items)) }
+    ensures told { IfOk result (λ s. (ε : List Event) × (events.new.items ≡ events.old.items ++ ε)
+        × Tells G.table s at (reverse stack.old.items) kind (reverse stack.new.items) ε) }
+{
+    while let Some(top) = stack.pop() {
+        match top {
+            Symbol::Terminal(expected) => return Ok(taken(expected, kind)),
+            Symbol::Mark(mark) => events.push(Event { mark, at })?,
+            Symbol::Nonterminal(nonterminal) => {
+                let Some(symbols) = grammar.predict(nonterminal, kind) else {
+                    return Ok(Step::Refused);
+                };
+                push_all(stack, symbols)?;
+            }
+        }
+    }
+    Ok(Step::Emptied)
+}
+
+/// Takes a token of a kind, unless no text goes on with it.
+fn take_token<G: Grammar>(
+    grammar: &G,
+    stack: &mut Vec<Symbol>,
+    events: &mut Vec<Event>,
+    at: usize,
+    kind: u8,
+) -> Result<bool, NoMemory>
+    requires ready { Ready G.certificate (reverse stack.old.items) }
+    requires kind { kind < SECOND }
+    ensures taken { IfOk result (λ yes. Takes G.table G.certificate yes at (reverse stack.old.items) kind (reverse stack.new.items) events.old.items events.new.items) }
+{
+    match step(grammar, stack, events, at, kind)? {
+        Step::Whole => Ok(true),
+        Step::Half => Ok(matches!(step(grammar, stack, events, at, SECOND)?, Step::Whole)),
+        Step::Refused => Ok(false),
+        Step::Emptied => Ok(false),
+    }
+}
+
+/// The length of the longest viable prefix: how many of the tokens begin some text of the nonterminal, at most. Each
+/// token is looked at once.
+pub fn viable_prefix<G: Grammar>(
+    alloc: Global,
+    grammar: &G,
+    nonterminal: u8,
+    kinds: &[u8],
+) -> Result<usize, NoMemory>
+    requires nonterminal { nonterminal < length G.certificate.height }
+    requires end { IsStart G.certificate nonterminal }
+    requires kinds { AreKinds kinds.now }
+    ensures within { IfOk result (λ n. n ≤ length kinds.now) }
+    ensures begins { IfOk result (λ n. IsViable G.table nonterminal (take n kinds.now)) }
+    ensures longest { IfOk result (λ n. n < length kinds.now → IsViable G.table nonterminal (take (n + 1) kinds.now) → ⊥) }
+{
+    let mut stack = Vec::new(alloc);
+    let mut events = Vec::new(alloc);
+    stack.push(Symbol::Nonterminal(nonterminal))?;
+    for (i, kind) in kinds.iter().enumerate() {
+        if !take_token(grammar, &mut stack, &mut events, i, *kind)? {
+            return Ok(i);
+        }
+    }
+    Ok(kinds.len())
+}
+
+/// The marks of the one derivation of the tokens from the nonterminal, in order, or None where there is none. Each token
+/// is looked at once.
+pub fn parse<G: Grammar>(
+    alloc: Global,
+    grammar: &G,
+    nonterminal: u8,
+    kinds: &[u8],
+) -> Result<Option<Vec<Event>>, NoMemory>
+    requires nonterminal { nonterminal < length G.certificate.height }
+    requires end { IsStart G.certificate nonterminal }
+    requires kinds { AreKinds kinds.now }
+    ensures text { IfOk result (λ r. IfSome r (λ v. Derives G.table nonterminal kinds.now v.items)) }
+    ensures only { IfOk result (λ r. IfSome r (λ v. (τ : List Event) → Derives G.table nonterminal kinds.now τ → τ ≡ v.items)) }
+    ensures none { IfOk result (λ r. IfNone r ((τ : List Event) → Derives G.table nonterminal kinds.now τ → ⊥)) }
+{
+    let mut stack = Vec::new(alloc);
+    let mut events = Vec::new(alloc);
+    stack.push(Symbol::Nonterminal(nonterminal))?;
+    for (i, kind) in kinds.iter().enumerate() {
+        if !take_token(grammar, &mut stack, &mut events, i, *kind)? {
+            return Ok(None);
+        }
+    }
+    match step(grammar, &mut stack, &mut events, kinds.len(), END)? {
+        Step::Emptied => Ok(Some(events)),
+        _ => Ok(None),
+    }
+}

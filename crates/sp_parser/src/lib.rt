@@ -1,0 +1,14 @@
+//! A predictive parser over a table of productions, proved for every table whose certificate passes the test.
+#![tactic(auto)]
+
+mod engine;
+mod entry;
+mod outcome;
+mod symbol;
+mod table;
+
+pub use engine::{Grammar, parse, viable_prefix};
+pub use entry::parse_from;
+pub use outcome::Outcome;
+pub use symbol::{CLOSE, END, Event, GREATER, SECOND, SHIFT, Symbol};
+pub use table::{Row, Span, choose_in};
