@@ -37,28 +37,28 @@ abbrev pub IsLoaded : Option (List ℕ) → List Field → Type 0
 IsLoaded None fields = ⊥
 IsLoaded (Some text) fields = (length text ≤ most_text) × Reads text fields
 
--- nothing of the input was taken, and nothing was put out
-pub record IsUntouched (left_before left_after held_before held_after : Option (List ℕ)) : Type 0 where
-  pub left : left_after ≡ left_before
-  pub held : held_after ≡ held_before
+-- what the input has left and what the output holds, where they tell it
+pub record Streams : Type 0 where
+  pub left : Option (List ℕ)
+  pub held : Option (List ℕ)
 
--- what the words, the files, the input and the output have to do with an exit; left is what the input has
--- left, and held what the output holds, where they tell it
-abbrev pub Says : List (List ℕ) → Option (List ℕ → Option (List ℕ)) → Option (List ℕ) → Option (List ℕ) → Option (List ℕ) → Option (List ℕ) → Exit → Type 0
-Says words files left_before left_after held_before held_after Exit.Usage =
-    (words_of words ≡ None) × IsUntouched left_before left_after held_before held_after
-Says words files left_before left_after held_before held_after (Exit.Refused refusal) =
+-- nothing of the input was taken, and nothing was put out
+abbrev pub IsUntouched : Streams → Streams → Type 0
+IsUntouched before after = (after.left ≡ before.left) × (after.held ≡ before.held)
+
+-- what the words, the files, the input and the output have to do with an exit
+abbrev pub Says : List (List ℕ) → Option (List ℕ → Option (List ℕ)) → Streams → Streams → Exit → Type 0
+Says words files before after Exit.Usage = (words_of words ≡ None) × IsUntouched before after
+Says words files before after (Exit.Refused refusal) =
     (wanted : Words) × (content : Option (List ℕ))
     × (words_of words ≡ Some wanted) × Holds files wanted.file content × IsRefused wanted.file content refusal
-    × IsUntouched left_before left_after held_before held_after
-Says words files left_before left_after held_before held_after Exit.ModulesFault =
-    (wanted : Words) × (words_of words ≡ Some wanted) × IsUntouched left_before left_after held_before held_after
-Says words files left_before left_after held_before held_after Exit.NoMemory =
-    (wanted : Words) × (words_of words ≡ Some wanted) × IsUntouched left_before left_after held_before held_after
-Says words files left_before left_after held_before held_after (Exit.Ran exit) =
+    × IsUntouched before after
+Says words files before after Exit.ModulesFault = (wanted : Words) × (words_of words ≡ Some wanted) × IsUntouched before after
+Says words files before after Exit.NoMemory = (wanted : Words) × (words_of words ≡ Some wanted) × IsUntouched before after
+Says words files before after (Exit.Ran exit) =
     (wanted : Words) × (content : Option (List ℕ)) × (fields : List Field)
     × (words_of words ≡ Some wanted) × Holds files wanted.file content × IsLoaded content fields
-    × Runs fields wanted.increment left_before left_after held_before held_after exit
+    × Runs fields wanted.increment before.left after.left before.held after.held exit
 
 -- which counts of faults rose at an exit, the messages aside
 abbrev pub ExitCause : ℕ → ℕ → ℕ → ℕ → ℕ → ℕ → Exit → Type 0

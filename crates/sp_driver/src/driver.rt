@@ -24,7 +24,8 @@ fn drive<M: Modules, S: Source, O: Out>(
     requires modules_faults { M.faults modules.old < 2 ^ 64 - 1 }
     requires input_faults { S.faults input.old < 2 ^ 64 - 1 }
     requires out_faults { O.faults out.old < 2 ^ 64 - 1 }
-    ensures says { Says words.now (M.files modules.old) (S.left input.old) (S.left input.new) (O.held out.old) (O.held out.new) result }
+    ensures says { Says words.now (M.files modules.old)
+        (record { left = S.left input.old; held = O.held out.old }) (record { left = S.left input.new; held = O.held out.new }) result }
     ensures cause { ExitCause (M.faults modules.old) (M.faults modules.new) (S.faults input.old) (S.faults input.new) (O.faults out.old) (O.faults out.new) result }
 {
     let Some(wanted) = words_wanted(words) else {
@@ -129,7 +130,8 @@ pub fn spicy_driver<M: Modules, S: Source, O: Out, E: Out>(
     requires out_faults { O.faults out.old < 2 ^ 64 - 1 }
     requires err_faults { E.faults err.old < 2 ^ 64 - 1 }
     ensures exits { (exit : Exit)
-        × Says words.now (M.files modules.old) (S.left input.old) (S.left input.new) (O.held out.old) (O.held out.new) exit
+        × Says words.now (M.files modules.old)
+        (record { left = S.left input.old; held = O.held out.old }) (record { left = S.left input.new; held = O.held out.new }) exit
         × Reported exit (E.held err.old) (E.held err.new) (E.faults err.old) (E.faults err.new) result }
     ensures causes { IsCausedBy (record { modules = M.faults modules.old; input = S.faults input.old; out = O.faults out.old; err = E.faults err.old })
         (record { modules = M.faults modules.new; input = S.faults input.new; out = O.faults out.new; err = E.faults err.new }) result }
