@@ -3,3 +3,4 @@ pub mod Endings
 pub mod Numbers
 pub mod Puts
 pub mod Runs
+pub mod Wholes

@@ -19,7 +19,7 @@ use Rattle.sp_json.specs.Lines.{lines_of}
 use Rattle.sp_driver.specs.declared.exits.RunExit.{RunExit}
 use Rattle.sp_driver.specs.Parts.{IsFront, IsPartPut}
 use Rattle.sp_driver.specs.Shown.{flow_name, most_taken, added, shown, whole, run_lines}
-use Rattle.sp_driver.specs.Run.{IsPrompt, IsRunPart, IsTakenWhole, AtExit, Runs}
+use Rattle.sp_driver.specs.Run.{IsPrompt, IsRunPart, IsTakenWhole, IsWhole, AtExit, Runs}
 use Rattle.sp_driver.specs.declared.exits.Stop.{Stop}
 use Rattle.sp_driver.specs.Fed.{IsFedBy, exit_of_stop, exit_of_stand}
 
@@ -105,10 +105,10 @@ pieces_fit n j m one le =
     let lt : j * n < m / n * n + n = omega arith in
     piece_below n j (m / n) lt one
 
-run_whole : (fields : List Field) (n : ℕ) (s : List ℕ) → length s ≤ most_taken → run_lines fields n s ≡ whole fields n s
+pub run_whole : (fields : List Field) (n : ℕ) (s : List ℕ) → length s ≤ most_taken → run_lines fields n s ≡ whole fields n s
 run_whole fields n s le = ap (λ b. cond b (shown fields n s (most_taken / n)) (whole fields n s)) (le-ltb most_taken (length s) le)
 
-run_long : (fields : List Field) (n : ℕ) (s : List ℕ) → most_taken < length s → run_lines fields n s ≡ shown fields n s (most_taken / n)
+pub run_long : (fields : List Field) (n : ℕ) (s : List ℕ) → most_taken < length s → run_lines fields n s ≡ shown fields n s (most_taken / n)
 run_long fields n s lt = ap (λ b. cond b (shown fields n s (most_taken / n)) (whole fields n s)) (lt-ltb most_taken (length s) lt)
 
 -- whole pieces that may be taken are at the front of what the run writes
@@ -276,25 +276,27 @@ module _ (fields : List Field) (n : ℕ) (session : Session) (left left_in left_
       put_lines held_next put = put ∙ ap (λ h. appended h lines) fed.put ∙ appended-appended held (shown fields n s j) lines
 
   -- the end of the input
-  pub runs_over : (held_next held_now : Option (List ℕ)) (exit : RunExit) → length p < n → IsTakenWhole left_now → held_next ≡ appended held_in lines
+  pub runs_over : (held_next held_now : Option (List ℕ)) (exit : RunExit) → length p < n → IsTakenWhole left_now → length s + length p ≤ most_taken → held_next ≡ appended held_in lines
       → held_now ≡ appended held_next (added fields (s ++ p) (s ++ p) ended) → exit ≡ exit_of_stand (mean fields (s ++ p) ended).stand
       → Ran held_now exit
-  runs_over held_next held_now exit less over put put_last is =
+  runs_over held_next held_now exit less over limit put put_last is =
       let before = shown fields n s j ++ lines in
       let last = added fields (s ++ p) (s ++ p) ended in
       let written = before ++ last in
-      let is_whole : written ≡ whole fields n (s ++ p) = sym (whole_last fields n s p j fed.size less) in
+      let is_whole : IsWhole fields n (s ++ p) written left_now =
+      record { lines = sym (whole_last fields n s p j fed.size less); taken_whole = over; not_long = omega (arith, length-append s p) }
+      in
       runs_by fields n left left_in left_now held held_now s p j written exit one fed.size (omega arith) fed.took took
       (put_last ∙ ap (λ h. appended h last) (put ∙ ap (λ h. appended h lines) fed.put ∙ appended-appended held (shown fields n s j) lines) ∙ appended-appended held before last)
       (front_more (shown fields n s j) before last (front_more (shown fields n s j) (shown fields n s j) lines (front_self (shown fields n s j))))
       (subst (λ e. AtExit fields n (s ++ p) written left_now e) (sym is) (at_stand (mean fields (s ++ p) ended).stand refl is_whole))
     where
       at_stand : (stand : Stand) → (mean fields (s ++ p) ended).stand ≡ stand
-          → (shown fields n s j ++ lines) ++ added fields (s ++ p) (s ++ p) ended ≡ whole fields n (s ++ p)
+          → IsWhole fields n (s ++ p) ((shown fields n s j ++ lines) ++ added fields (s ++ p) (s ++ p) ended) left_now
           → AtExit fields n (s ++ p) ((shown fields n s j ++ lines) ++ added fields (s ++ p) (s ++ p) ended) left_now (exit_of_stand stand)
       at_stand Stand.Waiting e is_whole = absurd (is_decided fields (s ++ p) e)
-      at_stand Stand.Done e is_whole = (is_whole, over, e)
-      at_stand (Stand.Failed error) e is_whole = (is_whole, over, (error, e))
+      at_stand Stand.Done e is_whole = (is_whole, e)
+      at_stand (Stand.Failed error) e is_whole = (is_whole, (error, e))
 
 -- a run that ends before its first byte
 pub runs_at_once : (fields : List Field) (n : ℕ) (left held held_now : Option (List ℕ)) (exit : RunExit) (front : List ℕ) → held_now ≡ appended held front

@@ -5,4 +5,5 @@ pub mod Loads
 pub mod Parts
 pub mod Run
 pub mod Shown
+pub mod Whole
 pub mod Words

@@ -1,5 +1,5 @@
 -- What each exit of a run says.
-use Rattle.std.specs.Prelude.{◌≡◌, ◌<◌, ◌*◌, ◌/◌, ℕ, List, [], ◌++◌, length, Option, Some, MatchOption}
+use Rattle.std.specs.Prelude.{◌≡◌, ◌<◌, ◌≤◌, ◌*◌, ◌/◌, ℕ, List, [], ◌++◌, length, Option, Some, MatchOption}
 use Rattle.sp_base.specs.Input.{ended}
 use Rattle.sp_base.specs.declared.places.ParseError.{ParseError}
 use Rattle.sp_io.specs.Moved.{appended, prepended}
@@ -22,12 +22,18 @@ IsTakenWhole left = MatchOption left (Unit {0}) (λ rest. rest ≡ [])
 abbrev pub IsRunPart : List Field → ℕ → List ℕ → List ℕ → Option (List ℕ) → Type 0
 IsRunPart fields n taken written left = (rest : List ℕ) → left ≡ Some rest → IsFront written (run_lines fields n (taken ++ rest))
 
+-- the input was taken to its end, is not too long, and all its lines were written
+pub record IsWhole (fields : List Field) (n : ℕ) (taken written : List ℕ) (left : Option (List ℕ)) : Type 0 where
+  pub lines : written ≡ whole fields n taken
+  pub taken_whole : IsTakenWhole left
+  pub not_long : length taken ≤ most_taken
+
 -- what was written of the bytes that were taken, and what of the input is left
 abbrev pub AtExit : List Field → ℕ → List ℕ → List ℕ → Option (List ℕ) → RunExit → Type 0
 AtExit fields n taken written left RunExit.Done =
-    (written ≡ whole fields n taken) × IsTakenWhole left × ((mean fields taken ended).stand ≡ Stand.Done)
+    IsWhole fields n taken written left × ((mean fields taken ended).stand ≡ Stand.Done)
 AtExit fields n taken written left RunExit.Failed =
-    (written ≡ whole fields n taken) × IsTakenWhole left × ((error : ParseError) × ((mean fields taken ended).stand ≡ Stand.Failed error))
+    IsWhole fields n taken written left × ((error : ParseError) × ((mean fields taken ended).stand ≡ Stand.Failed error))
 AtExit fields n taken written left RunExit.InputFault = written ≡ shown fields n taken (length taken / n)
 AtExit fields n taken written left RunExit.OutFault = IsRunPart fields n taken written left
 AtExit fields n taken written left RunExit.TooLong = (most_taken < length taken) × (written ≡ shown fields n taken (most_taken / n))

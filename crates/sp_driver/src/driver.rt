@@ -2,6 +2,7 @@
 ghost use Rattle.std.specs.Prelude.{◌≡◌, ◌<◌, ◌-◌, ◌^◌, ◌++◌, decimal, IfOk, OnOk};
 ghost use Rattle.sp_driver.specs.declared.exits.Exit.{Exit};
 ghost use Rattle.sp_driver.specs.Causes.{IsCausedBy};
+ghost use Rattle.sp_driver.specs.Whole.{IsAnswered};
 ghost use Rattle.sp_driver.specs.Driver.{Says, ExitCause, Reported, status_of, run_status, message_of, run_message, refusal_text};
 
 use crate::exits::{Exit, Refusal, RunExit};
@@ -135,6 +136,7 @@ pub fn spicy_driver<M: Modules, S: Source, O: Out, E: Out>(
         × Reported exit (E.held err.old) (E.held err.new) (E.faults err.old) (E.faults err.new) result }
     ensures causes { IsCausedBy (record { modules = M.faults modules.old; input = S.faults input.old; out = O.faults out.old; err = E.faults err.old })
         (record { modules = M.faults modules.new; input = S.faults input.new; out = O.faults out.new; err = E.faults err.new }) result }
+    ensures answer { IsAnswered words.now (M.files modules.old) (S.left input.old) (O.held out.old) (O.held out.new) (E.held err.old) (E.held err.new) result }
 {
     let exit = drive(alloc, words, modules, input, out);
     report(alloc, &exit, err)

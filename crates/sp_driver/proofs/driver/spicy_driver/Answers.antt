@@ -1,4 +1,5 @@
 use Rattle.sp_driver.proofs.Causing.{caused_by}
+use Rattle.sp_driver.proofs.Wholes.{answered}
 use Rattle.sp_driver.proofs.driver.spicy_driver.Goals as goal
 
 pub returns-clause-causes : goal.returns-clause-causes
@@ -7,3 +8,9 @@ returns-clause-causes g c =
     (record { modules = g.M.Modules.faults c.args.modules.now; input = g.S.Source.faults c.args.input.now; out = g.O.Out.faults c.args.out.now; err = g.E.Out.faults c.args.err.now })
     (record { modules = g.M.Modules.faults c.drive-exit.new.modules; input = g.S.Source.faults c.drive-exit.new.input; out = g.O.Out.faults c.drive-exit.new.out; err = g.E.Out.faults c.report.new.err })
     c.drive-exit.result (g.E.Out.held c.args.err.now) (g.E.Out.held c.report.new.err) c.report.result c.drive-exit.ensures.cause c.report.ensures
+
+pub returns-clause-answer : goal.returns-clause-answer
+returns-clause-answer g c =
+    answered c.args.words.now (g.M.Modules.files c.args.modules.now) (g.S.Source.left c.args.input.now) (g.S.Source.left c.drive-exit.new.input) (g.O.Out.held c.args.out.now) (g.O.Out.held c.drive-exit.new.out)
+    (g.E.Out.held c.args.err.now) (g.E.Out.held c.report.new.err) (g.E.Out.faults c.args.err.now) (g.E.Out.faults c.report.new.err)
+    c.drive-exit.result c.report.result c.drive-exit.ensures.says c.report.ensures

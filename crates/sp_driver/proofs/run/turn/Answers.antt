@@ -65,9 +65,10 @@ returns-in-Ok-finish-clause-turned g c =
     let held_by = rw c.as_slice.ensures at step.held in
     let stands_by = rw c.as_slice.ensures at step.stands in
     λ left held s j fed.
+    let limit : length s + length p ≤ most_taken = omega (arith, fed.stands.counted, c.if-received-len.false, c.received.ensures.count, c.len.ensures) in
     let stands = stands_by s fed.stands in
     runs_over fields c.args.n c.args.session.now left (g.S.Source.left c.args.input.now) (g.S.Source.left c.fill.new.input) held (g.O.Out.held c.args.out.now) s p j c.requires.some e.took fed
-    (g.O.Out.held c.step.new.out) (g.O.Out.held c.finish.new.out) c.in-Ok-finish.exit short.0 short.1
+    (g.O.Out.held c.step.new.out) (g.O.Out.held c.finish.new.out) c.in-Ok-finish.exit short.0 short.1 limit
     (held_next fields c.args.session.now s p (g.O.Out.held c.args.out.now) (g.O.Out.held c.step.new.out) fed.fed (held_by s fed.stands))
     (rw step.grammar at (c.in-Ok-finish.ensures.held (s ++ p) stands (step.fed s fed.stands))) (rw step.grammar at (c.in-Ok-finish.ensures.exit (s ++ p) stands))
 
