@@ -9,17 +9,17 @@ use Rattle.sp_grammar.specs.Starts.{start_number, part_of}
 use Rattle.sp_grammar.specs.declared.language.Start.TheVariants as start
 use Rattle.sp_grammar.specs.Reads.{IsRead}
 use Rattle.sp_grammar.specs.Written.{Part, part_number}
-use Rattle.sp_grammar.specs.Own.{is_tail}
+use Rattle.sp_grammar.specs.Own.{is_piece}
 use Rattle.sp_grammar.specs.Language.{language_sets, language_tested}
 use Rattle.sp_grammar.proofs.Starting.{ends_after, is_part}
 use Rattle.sp_grammar.proofs.Spans.{read_if_derived, derived_if_read}
 use Rattle.sp_grammar.specs.Language.{language}
 use Rattle.sp_grammar.specs.Own.{own}
-use Rattle.sp_grammar.proofs.Recursion.{all_forth, all_back, forth, back, ordinary, closes}
+use Rattle.sp_grammar.proofs.Recursion.{Role, Same, Ends, TailOf, all_forth, all_back, forth, back, ordinary, closes}
 
--- of each tail, the part that it belongs to
-heads_of : List ℕ
-heads_of = 0 ∷ 0 ∷ 0 ∷ 0 ∷ 0 ∷ 0 ∷ 0 ∷ 0 ∷ 0 ∷ 0 ∷ 0 ∷ 0 ∷ 0 ∷ 0 ∷ 0 ∷ 0 ∷ 0 ∷ 0 ∷ 0 ∷ 0 ∷ 0 ∷ 0 ∷ 0 ∷ 0 ∷ 0 ∷ 0 ∷ 0 ∷ 0 ∷ 0 ∷ 0 ∷ 0 ∷ 0 ∷ 0 ∷ 0 ∷ 0 ∷ 0 ∷ 0 ∷ 0 ∷ 0 ∷ 0 ∷ 0 ∷ 0 ∷ 0 ∷ 0 ∷ 0 ∷ 0 ∷ 0 ∷ 0 ∷ 0 ∷ 0 ∷ 0 ∷ 0 ∷ 0 ∷ 0 ∷ 0 ∷ 0 ∷ 0 ∷ 0 ∷ 0 ∷ 0 ∷ 0 ∷ 0 ∷ 0 ∷ 0 ∷ 0 ∷ 0 ∷ 0 ∷ 66 ∷ 0 ∷ 68 ∷ 0 ∷ 70 ∷ 0 ∷ 72 ∷ 0 ∷ 74 ∷ 0 ∷ 76 ∷ 0 ∷ 78 ∷ 0 ∷ 80 ∷ 0 ∷ 82 ∷ 0 ∷ 84 ∷ 0 ∷ 86 ∷ 0 ∷ 89 ∷ 0 ∷ 0 ∷ 0 ∷ 0 ∷ 0 ∷ 0 ∷ 0 ∷ 0 ∷ []
+-- what each part of the table is in the grammar in its own words
+roles_of : List Role
+roles_of = Same ∷ Same ∷ Same ∷ Ends ∷ Same ∷ Ends ∷ Same ∷ Same ∷ Ends ∷ Same ∷ Same ∷ Same ∷ Same ∷ Same ∷ Same ∷ Same ∷ Same ∷ Same ∷ Same ∷ Same ∷ Same ∷ Same ∷ Ends ∷ Same ∷ Same ∷ Same ∷ Same ∷ Same ∷ Same ∷ Same ∷ Same ∷ Ends ∷ Same ∷ Same ∷ Same ∷ Same ∷ Same ∷ Same ∷ Ends ∷ Same ∷ Same ∷ Same ∷ Same ∷ Same ∷ Same ∷ Same ∷ Same ∷ Same ∷ Ends ∷ Ends ∷ Same ∷ Same ∷ Same ∷ Same ∷ Same ∷ Same ∷ Same ∷ Ends ∷ Same ∷ Ends ∷ Same ∷ Same ∷ Same ∷ Ends ∷ Same ∷ Ends ∷ Same ∷ TailOf 66 ∷ Same ∷ TailOf 68 ∷ Same ∷ TailOf 70 ∷ Same ∷ TailOf 72 ∷ Same ∷ TailOf 74 ∷ Same ∷ TailOf 76 ∷ Same ∷ TailOf 78 ∷ Same ∷ TailOf 80 ∷ Same ∷ TailOf 82 ∷ Same ∷ TailOf 84 ∷ Same ∷ TailOf 86 ∷ Same ∷ TailOf 89 ∷ Same ∷ Same ∷ Ends ∷ Ends ∷ Ends ∷ Same ∷ Same ∷ Same ∷ []
 
 -- of each left-recursive part, its tail, and its first operand
 tails_of : List ℕ
@@ -28,25 +28,25 @@ tails_of = 0 ∷ 0 ∷ 0 ∷ 0 ∷ 0 ∷ 0 ∷ 0 ∷ 0 ∷ 0 ∷ 0 ∷ 0 ∷ 0 �
 operands_of : List ℕ
 operands_of = 0 ∷ 0 ∷ 0 ∷ 0 ∷ 0 ∷ 0 ∷ 0 ∷ 0 ∷ 0 ∷ 0 ∷ 0 ∷ 0 ∷ 0 ∷ 0 ∷ 0 ∷ 0 ∷ 0 ∷ 0 ∷ 0 ∷ 0 ∷ 0 ∷ 0 ∷ 0 ∷ 0 ∷ 0 ∷ 0 ∷ 0 ∷ 0 ∷ 0 ∷ 0 ∷ 0 ∷ 0 ∷ 0 ∷ 0 ∷ 0 ∷ 0 ∷ 0 ∷ 0 ∷ 0 ∷ 0 ∷ 0 ∷ 0 ∷ 0 ∷ 0 ∷ 0 ∷ 0 ∷ 0 ∷ 0 ∷ 0 ∷ 0 ∷ 0 ∷ 0 ∷ 0 ∷ 0 ∷ 0 ∷ 0 ∷ 0 ∷ 0 ∷ 0 ∷ 0 ∷ 0 ∷ 0 ∷ 0 ∷ 0 ∷ 0 ∷ 0 ∷ 68 ∷ 0 ∷ 70 ∷ 0 ∷ 72 ∷ 0 ∷ 74 ∷ 0 ∷ 76 ∷ 0 ∷ 78 ∷ 0 ∷ 80 ∷ 0 ∷ 82 ∷ 0 ∷ 84 ∷ 0 ∷ 86 ∷ 0 ∷ 88 ∷ 0 ∷ 0 ∷ 91 ∷ 0 ∷ 0 ∷ 0 ∷ 0 ∷ 0 ∷ 0 ∷ 0 ∷ 0 ∷ []
 
-forth_tested : all_forth heads_of language own ≡ true
-unfolding language own heads_of
+forth_tested : all_forth roles_of language own ≡ true
+unfolding language own roles_of
 forth_tested = refl
 
 back_tested : all_back tails_of operands_of language own ≡ true
 unfolding language own tails_of operands_of
 back_tested = refl
 
-ordinary_part : (p : Part) → is_tail p ≡ false → ordinary heads_of (part_number p) ≡ true
-unfolding heads_of
+ordinary_part : (p : Part) → is_piece p ≡ false → ordinary roles_of (part_number p) ≡ true
+unfolding roles_of
 ordinary_part Part.Module h = refl
 ordinary_part Part.Decls h = refl
 ordinary_part Part.Decl h = refl
-ordinary_part Part.Public h = refl
+ordinary_part Part.Public h = absurd (let q : true ≡ false = h in cc)
 ordinary_part Part.OnPath h = refl
-ordinary_part Part.OnName h = refl
+ordinary_part Part.OnName h = absurd (let q : true ≡ false = h in cc)
 ordinary_part Part.OptType h = refl
 ordinary_part Part.Hook h = refl
-ordinary_part Part.HookTail h = refl
+ordinary_part Part.HookTail h = absurd (let q : true ≡ false = h in cc)
 ordinary_part Part.OptParen h = refl
 ordinary_part Part.OptPriority h = refl
 ordinary_part Part.Path h = refl
@@ -60,7 +60,7 @@ ordinary_part Part.Types h = refl
 ordinary_part Part.Label h = refl
 ordinary_part Part.OptValue h = refl
 ordinary_part Part.Labels h = refl
-ordinary_part Part.MoreLabels h = refl
+ordinary_part Part.MoreLabels h = absurd (let q : true ≡ false = h in cc)
 ordinary_part Part.Ranges h = refl
 ordinary_part Part.Range h = refl
 ordinary_part Part.OptUpTo h = refl
@@ -69,14 +69,14 @@ ordinary_part Part.Item h = refl
 ordinary_part Part.ItemOn h = refl
 ordinary_part Part.OptSemi h = refl
 ordinary_part Part.UnitPart h = refl
-ordinary_part Part.Switch h = refl
+ordinary_part Part.Switch h = absurd (let q : true ≡ false = h in cc)
 ordinary_part Part.ValueArms h = refl
 ordinary_part Part.ValueArm h = refl
 ordinary_part Part.PlainArms h = refl
 ordinary_part Part.Arm h = refl
 ordinary_part Part.Parts h = refl
 ordinary_part Part.Field h = refl
-ordinary_part Part.FieldTail h = refl
+ordinary_part Part.FieldTail h = absurd (let q : true ≡ false = h in cc)
 ordinary_part Part.Counts h = refl
 ordinary_part Part.OptExpr h = refl
 ordinary_part Part.Attrs h = refl
@@ -86,8 +86,8 @@ ordinary_part Part.FieldEnd h = refl
 ordinary_part Part.FieldHooks h = refl
 ordinary_part Part.FieldHook h = refl
 ordinary_part Part.Base h = refl
-ordinary_part Part.BaseTail h = refl
-ordinary_part Part.OptNum h = refl
+ordinary_part Part.BaseTail h = absurd (let q : true ≡ false = h in cc)
+ordinary_part Part.OptNum h = absurd (let q : true ≡ false = h in cc)
 ordinary_part Part.Args h = refl
 ordinary_part Part.Exprs h = refl
 ordinary_part Part.Block h = refl
@@ -95,15 +95,15 @@ ordinary_part Part.Stmts h = refl
 ordinary_part Part.Stmt h = refl
 ordinary_part Part.Branch h = refl
 ordinary_part Part.OptElse h = refl
-ordinary_part Part.Else h = refl
+ordinary_part Part.Else h = absurd (let q : true ≡ false = h in cc)
 ordinary_part Part.Other h = refl
-ordinary_part Part.Local h = refl
+ordinary_part Part.Local h = absurd (let q : true ≡ false = h in cc)
 ordinary_part Part.Cases h = refl
 ordinary_part Part.OptDefault h = refl
 ordinary_part Part.OptText h = refl
-ordinary_part Part.OptAssign h = refl
+ordinary_part Part.OptAssign h = absurd (let q : true ≡ false = h in cc)
 ordinary_part Part.Expr h = refl
-ordinary_part Part.OptChoice h = refl
+ordinary_part Part.OptChoice h = absurd (let q : true ≡ false = h in cc)
 ordinary_part Part.Or h = refl
 ordinary_part Part.OrTail h = absurd (let q : true ≡ false = h in cc)
 ordinary_part Part.And h = refl
@@ -130,24 +130,24 @@ ordinary_part Part.Prefix h = refl
 ordinary_part Part.Postfix h = absurd (let q : true ≡ false = h in cc)
 ordinary_part Part.Member h = refl
 ordinary_part Part.Primary h = refl
-ordinary_part Part.Paren h = refl
-ordinary_part Part.Set h = refl
-ordinary_part Part.Map h = refl
+ordinary_part Part.Paren h = absurd (let q : true ≡ false = h in cc)
+ordinary_part Part.Set h = absurd (let q : true ≡ false = h in cc)
+ordinary_part Part.Map h = absurd (let q : true ≡ false = h in cc)
 ordinary_part Part.Pairs h = refl
 ordinary_part Part.Pair h = refl
 ordinary_part Part.NewArgs h = refl
 
-closing_part : (p : Part) → is_tail p ≡ false → closes language tails_of operands_of (part_number p) ≡ true
+closing_part : (p : Part) → is_piece p ≡ false → closes language tails_of operands_of (part_number p) ≡ true
 unfolding language tails_of operands_of
 closing_part Part.Module h = refl
 closing_part Part.Decls h = refl
 closing_part Part.Decl h = refl
-closing_part Part.Public h = refl
+closing_part Part.Public h = absurd (let q : true ≡ false = h in cc)
 closing_part Part.OnPath h = refl
-closing_part Part.OnName h = refl
+closing_part Part.OnName h = absurd (let q : true ≡ false = h in cc)
 closing_part Part.OptType h = refl
 closing_part Part.Hook h = refl
-closing_part Part.HookTail h = refl
+closing_part Part.HookTail h = absurd (let q : true ≡ false = h in cc)
 closing_part Part.OptParen h = refl
 closing_part Part.OptPriority h = refl
 closing_part Part.Path h = refl
@@ -161,7 +161,7 @@ closing_part Part.Types h = refl
 closing_part Part.Label h = refl
 closing_part Part.OptValue h = refl
 closing_part Part.Labels h = refl
-closing_part Part.MoreLabels h = refl
+closing_part Part.MoreLabels h = absurd (let q : true ≡ false = h in cc)
 closing_part Part.Ranges h = refl
 closing_part Part.Range h = refl
 closing_part Part.OptUpTo h = refl
@@ -170,14 +170,14 @@ closing_part Part.Item h = refl
 closing_part Part.ItemOn h = refl
 closing_part Part.OptSemi h = refl
 closing_part Part.UnitPart h = refl
-closing_part Part.Switch h = refl
+closing_part Part.Switch h = absurd (let q : true ≡ false = h in cc)
 closing_part Part.ValueArms h = refl
 closing_part Part.ValueArm h = refl
 closing_part Part.PlainArms h = refl
 closing_part Part.Arm h = refl
 closing_part Part.Parts h = refl
 closing_part Part.Field h = refl
-closing_part Part.FieldTail h = refl
+closing_part Part.FieldTail h = absurd (let q : true ≡ false = h in cc)
 closing_part Part.Counts h = refl
 closing_part Part.OptExpr h = refl
 closing_part Part.Attrs h = refl
@@ -187,8 +187,8 @@ closing_part Part.FieldEnd h = refl
 closing_part Part.FieldHooks h = refl
 closing_part Part.FieldHook h = refl
 closing_part Part.Base h = refl
-closing_part Part.BaseTail h = refl
-closing_part Part.OptNum h = refl
+closing_part Part.BaseTail h = absurd (let q : true ≡ false = h in cc)
+closing_part Part.OptNum h = absurd (let q : true ≡ false = h in cc)
 closing_part Part.Args h = refl
 closing_part Part.Exprs h = refl
 closing_part Part.Block h = refl
@@ -196,15 +196,15 @@ closing_part Part.Stmts h = refl
 closing_part Part.Stmt h = refl
 closing_part Part.Branch h = refl
 closing_part Part.OptElse h = refl
-closing_part Part.Else h = refl
+closing_part Part.Else h = absurd (let q : true ≡ false = h in cc)
 closing_part Part.Other h = refl
-closing_part Part.Local h = refl
+closing_part Part.Local h = absurd (let q : true ≡ false = h in cc)
 closing_part Part.Cases h = refl
 closing_part Part.OptDefault h = refl
 closing_part Part.OptText h = refl
-closing_part Part.OptAssign h = refl
+closing_part Part.OptAssign h = absurd (let q : true ≡ false = h in cc)
 closing_part Part.Expr h = refl
-closing_part Part.OptChoice h = refl
+closing_part Part.OptChoice h = absurd (let q : true ≡ false = h in cc)
 closing_part Part.Or h = refl
 closing_part Part.OrTail h = absurd (let q : true ≡ false = h in cc)
 closing_part Part.And h = refl
@@ -231,20 +231,20 @@ closing_part Part.Prefix h = refl
 closing_part Part.Postfix h = absurd (let q : true ≡ false = h in cc)
 closing_part Part.Member h = refl
 closing_part Part.Primary h = refl
-closing_part Part.Paren h = refl
-closing_part Part.Set h = refl
-closing_part Part.Map h = refl
+closing_part Part.Paren h = absurd (let q : true ≡ false = h in cc)
+closing_part Part.Set h = absurd (let q : true ≡ false = h in cc)
+closing_part Part.Map h = absurd (let q : true ≡ false = h in cc)
 closing_part Part.Pairs h = refl
 closing_part Part.Pair h = refl
 closing_part Part.NewArgs h = refl
 
-pub read_of_table : (p : Part) → is_tail p ≡ false → (w : List ℕ) (τ : List Event) → Derives language (part_number p) w τ → IsRead own (part_number p) w τ
-read_of_table p h w τ d = let r = read_if_derived language (part_number p) w τ d in (r.0, forth heads_of language own forth_tested (part_number p) 0 r.0 w [] τ [] (ordinary_part p h) r.1)
+pub read_of_table : (p : Part) → is_piece p ≡ false → (w : List ℕ) (τ : List Event) → Derives language (part_number p) w τ → IsRead own (part_number p) w τ
+read_of_table p h w τ d = let r = read_if_derived language (part_number p) w τ d in (r.0, forth roles_of language own forth_tested (part_number p) 0 r.0 w [] τ [] (ordinary_part p h) r.1)
 
-pub table_of_read : (p : Part) → is_tail p ≡ false → (w : List ℕ) (τ : List Event) → IsRead own (part_number p) w τ → Derives language (part_number p) w τ
+pub table_of_read : (p : Part) → is_piece p ≡ false → (w : List ℕ) (τ : List Event) → IsRead own (part_number p) w τ → Derives language (part_number p) w τ
 table_of_read p h w τ r = derived_if_read language (part_number p) w τ (r.0, back tails_of operands_of language own back_tested (part_number p) 0 r.0 w [] τ [] (closing_part p h) r.1)
 
-start_part : (s : Start) → is_tail (part_of s) ≡ false
+start_part : (s : Start) → is_piece (part_of s) ≡ false
 start_part start.Module = refl
 start_part start.Type = refl
 start_part start.Stmt = refl

@@ -18,7 +18,7 @@ append (half t r) k = half t (append r k)
 append (mark r) k = mark (append r k)
 append (part p a r s) k = part p a r (append s k)
 
-split_reads : {g : Table} {i j : ℕ} {w v : List ℕ} {ρ τ : List Event} (xs ys : List Symbol) → Reads g (xs ++ ys) i w ρ j v τ → (m : ℕ) × (u : List ℕ) × (σ : List Event) × Reads g xs i w ρ m u σ × Reads g ys m u σ j v τ
+pub split_reads : {g : Table} {i j : ℕ} {w v : List ℕ} {ρ τ : List Event} (xs ys : List Symbol) → Reads g (xs ++ ys) i w ρ j v τ → (m : ℕ) × (u : List ℕ) × (σ : List Event) × Reads g xs i w ρ m u σ × Reads g ys m u σ j v τ
 split_reads {i = i} {w = w} {ρ = ρ} [] ys r = (i, w, ρ, nothing, r)
 split_reads (Terminal e ∷ xs) ys (whole t r) = let a = split_reads xs ys r in (a.0, a.1, a.2, whole t a.3, a.4)
 split_reads (Terminal e ∷ xs) ys (half t r) = let a = split_reads xs ys r in (a.0, a.1, a.2, half t a.3, a.4)

@@ -4,7 +4,7 @@ ghost use Rattle.sp_parser.specs.declared.symbol.Event.{Event};
 ghost use Rattle.sp_parser.specs.Grammar.{Derives};
 ghost use Rattle.sp_grammar.specs.declared.language.Start.{Start};
 ghost use Rattle.sp_grammar.specs.Language.{language};
-ghost use Rattle.sp_grammar.specs.Own.{own, is_tail};
+ghost use Rattle.sp_grammar.specs.Own.{own, is_piece};
 ghost use Rattle.sp_grammar.specs.Reads.{IsRead};
 ghost use Rattle.sp_grammar.specs.Starts.{start_number};
 ghost use Rattle.sp_grammar.specs.Written.{Part, part_number, written, all_parts, right_sides};
@@ -18,8 +18,8 @@ pub fn table_is_written()
 /// binary level is left-recursive, and so groups to the left; an `else` belongs to the nearest `if`, and a `(` after
 /// `new` and a path begins the arguments.
 pub fn table_reads_the_grammar()
-    ensures derived { (p : Part) → is_tail p ≡ false → (kinds : List ℕ) (marks : List Event) → Derives language (part_number p) kinds marks → IsRead own (part_number p) kinds marks }
-    ensures read { (p : Part) → is_tail p ≡ false → (kinds : List ℕ) (marks : List Event) → IsRead own (part_number p) kinds marks → Derives language (part_number p) kinds marks }
+    ensures derived { (p : Part) → is_piece p ≡ false → (kinds : List ℕ) (marks : List Event) → Derives language (part_number p) kinds marks → IsRead own (part_number p) kinds marks }
+    ensures read { (p : Part) → is_piece p ≡ false → (kinds : List ℕ) (marks : List Event) → IsRead own (part_number p) kinds marks → Derives language (part_number p) kinds marks }
 {}
 
 /// The grammar in its own words is unambiguous: kinds of tokens are read as a module, a type, an expression or a statement
