@@ -1,4 +1,5 @@
--- Tails read what left recursion reads: a test of two tables under which each reads what the other does.
+-- Tails read what left recursion reads, and ends that are split off what whole alternatives read: a test of two tables under
+-- which each reads what the other does.
 use Rattle.std.proofs.Common.{◌≡◌, ℕ, zero, suc, ◌<◌, List, [], ◌∷◌, ◌++◌, length, get_or, Bool, true, false, ◌&&◌, ◌||◌, refl, sym, subst, inl, inr, arith}
 use Rattle.std.specs.Prelude.{◌==◌}
 use Rattle.std.specs.Int.{bit_at}

@@ -1,5 +1,7 @@
--- The grammar in its own words: an expression of a binary level is an operand of that level, its operator and an operand of
--- the next level, so that the levels group to the left; what stands after a postfix operand is a postfix operand again.
+-- The grammar in its own words, one production for each alternative. An expression of a binary level is an operand of that
+-- level, its operator and an operand of the next level, so that the levels group to the left; a choice `c ? a : b` groups to
+-- the right; what a postfix operator stands after is a postfix operand. Where the table has one prediction for alternatives
+-- that begin alike, here each is whole.
 use Rattle.std.specs.Prelude.{List, [], ◌∷◌, map, ◌^◌, Bool, true, false}
 use Rattle.sp_parser.specs.declared.symbol.Symbol.{Symbol}
 use Rattle.sp_parser.specs.Grammar.{Production, Table}

@@ -14,9 +14,10 @@ pub fn table_is_written()
     ensures { map right_sides language.productions ≡ map written all_parts }
 {}
 
-/// The table derives from each part exactly what the grammar in its own words reads, passing the same marks. There each
-/// binary level is left-recursive, and so groups to the left; an `else` belongs to the nearest `if`, and a `(` after
-/// `new` and a path begins the arguments.
+/// The table derives from each part (modules, types, expressions, statements and all that they consist of) exactly what
+/// the grammar in its own words reads, passing the same marks. There each binary level is left-recursive, and so groups
+/// to the left, and each alternative is whole; an `else` belongs to the nearest `if`, and a `(` after `new` and a path
+/// begins the arguments. Pieces that only the table has are left out.
 pub fn table_reads_the_grammar()
     ensures derived { (p : Part) → is_piece p ≡ false → (kinds : List ℕ) (marks : List Event) → Derives language (part_number p) kinds marks → IsRead own (part_number p) kinds marks }
     ensures read { (p : Part) → is_piece p ≡ false → (kinds : List ℕ) (marks : List Event) → IsRead own (part_number p) kinds marks → Derives language (part_number p) kinds marks }
