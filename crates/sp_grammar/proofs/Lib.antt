@@ -1,1 +1,4 @@
+pub mod OwnWords
+pub mod Recursion
+pub mod Spans
 pub mod Starting

@@ -1,5 +1,7 @@
 pub mod Language
 pub mod Marks
+pub mod Own
+pub mod Reads
 pub mod Sets
 pub mod Starts
 pub mod Terminals

@@ -1,9 +1,30 @@
 // What the table has to do with the written grammar.
-ghost use Rattle.std.specs.Prelude.{◌≡◌, map};
+ghost use Rattle.std.specs.Prelude.{◌≡◌, ℕ, List, map, false};
+ghost use Rattle.sp_parser.specs.declared.symbol.Event.{Event};
+ghost use Rattle.sp_parser.specs.Grammar.{Derives};
+ghost use Rattle.sp_grammar.specs.declared.language.Start.{Start};
 ghost use Rattle.sp_grammar.specs.Language.{language};
-ghost use Rattle.sp_grammar.specs.Written.{written, all_parts, right_sides};
+ghost use Rattle.sp_grammar.specs.Own.{own, is_piece};
+ghost use Rattle.sp_grammar.specs.Reads.{IsRead};
+ghost use Rattle.sp_grammar.specs.Starts.{start_number};
+ghost use Rattle.sp_grammar.specs.Written.{Part, part_number, written, all_parts, right_sides};
 
 /// The table has the productions of the written grammar, and no other.
 pub fn table_is_written()
     ensures { map right_sides language.productions ≡ map written all_parts }
+{}
+
+/// The table derives from each part (modules, types, expressions, statements and all that they consist of) exactly what
+/// the grammar in its own words reads, passing the same marks. There each binary level is left-recursive, and so groups
+/// to the left, and each alternative is whole; an `else` belongs to the nearest `if`, and a `(` after `new` and a path
+/// begins the arguments. Pieces that only the table has are left out.
+pub fn table_reads_the_grammar()
+    ensures derived { (p : Part) → is_piece p ≡ false → (kinds : List ℕ) (marks : List Event) → Derives language (part_number p) kinds marks → IsRead own (part_number p) kinds marks }
+    ensures read { (p : Part) → is_piece p ≡ false → (kinds : List ℕ) (marks : List Event) → IsRead own (part_number p) kinds marks → Derives language (part_number p) kinds marks }
+{}
+
+/// The grammar in its own words is unambiguous: kinds of tokens are read as a module, a type, an expression or a statement
+/// with at most one list of marks.
+pub fn grammar_is_unambiguous()
+    ensures { (s : Start) (kinds : List ℕ) (marks others : List Event) → IsRead own (start_number s) kinds marks → IsRead own (start_number s) kinds others → marks ≡ others }
 {}

@@ -10,7 +10,7 @@ mod terminals;
 mod tests;
 
 pub use language::{Language, Start, kinds_of, parse_kinds};
-pub use laws::table_is_written;
+pub use laws::{grammar_is_unambiguous, table_is_written, table_reads_the_grammar};
 pub use marks::Mark;
 pub use tables::{ROWS, SPANS, SYMBOLS};
 pub use terminals::Terminal;
