@@ -1,5 +1,5 @@
 -- Division by a signed integer that isn't 0.
-use Rattle.std.proofs.Common.{◌≡◌, ℕ, zero, suc, ◌<◌, ℤ, pos, negsuc, int_div, int_rem, refl, ap, ◌∙◌, arith, of_z, w64}
+use Rattle.std.proofs.Common.{◌≡◌, zero, suc, ◌<◌, ℤ, pos, negsuc, int_div, int_rem, ap, ◌∙◌, arith, of_z, w64}
 use Rattle.std.specs.Prelude.{Ok}
 use Rattle.sp_base.specs.declared.kinds.PKind.TheVariants.{Overflow}
 use Rattle.sp_numbers.specs.declared.width.Width.{Width}

@@ -1,7 +1,7 @@
 -- Operators on integers: whole numbers, the range of the result's type, and the error outside.
-use Rattle.std.specs.Prelude.{◌≡◌, ℕ, zero, suc, ◌+◌, ◌-◌, ◌*◌, ◌/◌, ◌%◌, ◌^◌, ℤ, pos, negsuc, ◌+ℤ◌, ◌-ℤ◌, ◌*ℤ◌, neg_ℤ, int_div, int_rem, int_le, int_lt, unsigned_abs, Bool, true, false, ◌&&◌, ◌==◌, nat_lt, if◌then◌else◌, Result, Ok, Err, bit_and, bit_or, bit_xor}
+use Rattle.std.specs.Prelude.{ℕ, ◌+◌, ◌-◌, ◌*◌, ◌/◌, ◌%◌, ◌^◌, ℤ, pos, ◌+ℤ◌, ◌-ℤ◌, ◌*ℤ◌, neg_ℤ, int_div, int_rem, int_le, int_lt, unsigned_abs, Bool, true, false, ◌&&◌, ◌==◌, nat_lt, if◌then◌else◌, Result, Ok, Err, bit_and, bit_or, bit_xor}
 use Rattle.sp_base.specs.declared.kinds.PKind.{PKind}
-use Rattle.sp_base.specs.declared.kinds.PKind.TheVariants.{Overflow, DivZero, BadShift, CastRange}
+use Rattle.sp_base.specs.declared.kinds.PKind.TheVariants.{Overflow, DivZero, BadShift}
 use Rattle.sp_numbers.specs.declared.width.Width.{Width}
 use Rattle.sp_numbers.specs.declared.width.Width.TheVariants.{W8, W16, W32, W64}
 use Rattle.sp_numbers.specs.declared.operators.Arithmetic.{Arithmetic}

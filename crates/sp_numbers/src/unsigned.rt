@@ -1,5 +1,5 @@
 // Operators on unsigned integers.
-ghost use Rattle.std.specs.Prelude.{◌≡◌, ◌-◌, ◌%◌, ◌^◌, ◌<◌, pos, MatchOption, Err};
+ghost use Rattle.std.specs.Prelude.{◌≡◌, ◌-◌, ◌%◌, ◌^◌, ◌<◌, pos, MatchOption, Err, IfOk, ℕ};
 ghost use Rattle.sp_base.specs.declared.kinds.PKind.TheVariants.{Overflow};
 ghost use Rattle.sp_numbers.specs.Numbers.{width_bits, unsigned_or, unsigned_arithmetic, bitwise, complement, shifted};
 
@@ -9,7 +9,8 @@ use sp_base::PKind;
 
 /// The whole number that an operator was found to have, where it is an unsigned integer of the width.
 fn kept(width: Width, found: Option<u64>, none: PKind) -> Result<u64, PKind>
-    ensures some { MatchOption found (result ≡ Err none) (λ value. result ≡ unsigned_or Overflow width (pos value)) }
+    ensures value { MatchOption found (result ≡ Err none) (λ value. result ≡ unsigned_or Overflow width (pos value)) }
+    ensures in_width { IfOk result (λ number. number < 2 ^ width_bits width) }
 {
     match found {
         Some(value) => in_unsigned(PKind::Overflow, width, value),
@@ -20,7 +21,8 @@ fn kept(width: Width, found: Option<u64>, none: PKind) -> Result<u64, PKind>
 /// The result of an operator on two unsigned integers of the width. Errors: `Overflow` where the whole number
 /// that it would be is no unsigned integer of the width, `DivZero` for a division by 0.
 pub fn unsigned_arithmetic(operator: Arithmetic, width: Width, a: u64, b: u64) -> Result<u64, PKind>
-    ensures { result ≡ unsigned_arithmetic operator width a b }
+    ensures value { result ≡ unsigned_arithmetic operator width a b }
+    ensures in_width { IfOk result (λ number. number < 2 ^ width_bits width) }
 {
     match operator {
         Arithmetic::Add => kept(width, a.checked_add(b), PKind::Overflow),
@@ -33,7 +35,8 @@ pub fn unsigned_arithmetic(operator: Arithmetic, width: Width, a: u64, b: u64) -
 
 /// The result of an operator on the bits of two unsigned integers of the width.
 pub fn bitwise(operator: BitOperator, a: u64, b: u64) -> u64
-    ensures { result ≡ bitwise operator a b }
+    ensures value { result ≡ bitwise operator a b }
+    ensures in_width { (bits : ℕ) → a < 2 ^ bits → b < 2 ^ bits → result < 2 ^ bits }
 {
     match operator {
         BitOperator::And => a & b,
@@ -45,7 +48,8 @@ pub fn bitwise(operator: BitOperator, a: u64, b: u64) -> u64
 /// The unsigned integer of the width whose bits are the other way round.
 pub fn complement(width: Width, a: u64) -> u64
     requires { a < 2 ^ width_bits width }
-    ensures { result ≡ complement width a }
+    ensures value { result ≡ complement width a }
+    ensures in_width { result < 2 ^ width_bits width }
 {
     width.greatest() - a
 }
@@ -60,7 +64,8 @@ fn without_bits_past(width: Width, value: u64) -> u64
 /// The unsigned integer of the width with its bits moved by so many places; those past the width are lost.
 /// Error: `BadShift` where the width has no more bits than that.
 pub fn shift(direction: Shift, width: Width, a: u64, count: u64) -> Result<u64, PKind>
-    ensures { result ≡ shifted direction width a count }
+    ensures value { result ≡ shifted direction width a count }
+    ensures in_width { a < 2 ^ width_bits width → IfOk result (λ number. number < 2 ^ width_bits width) }
 {
     if width.bits() as u64 <= count {
         return Err(PKind::BadShift);

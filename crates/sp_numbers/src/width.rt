@@ -1,7 +1,6 @@
 // The widths of integers, and the ranges of numbers that they have.
-ghost use Rattle.std.specs.Prelude.{◌≡◌, ◌+◌, ◌-◌, ◌%◌, ◌^◌, ◌<◌, ◌≤◌, pos};
-ghost use Rattle.sp_base.specs.declared.kinds.PKind.{PKind};
-ghost use Rattle.sp_numbers.specs.Numbers.{width_bits, unsigned_or, signed_or};
+ghost use Rattle.std.specs.Prelude.{◌≡◌, ◌-◌, ◌^◌, ◌<◌, pos, IfOk, IsTrue};
+ghost use Rattle.sp_numbers.specs.Numbers.{width_bits, fits_signed, unsigned_or, signed_or};
 
 use sp_base::PKind;
 
@@ -58,7 +57,8 @@ impl Width {
 
 /// The number where it is an unsigned integer of the width, else the error.
 pub(crate) fn in_unsigned(error: PKind, width: Width, value: u64) -> Result<u64, PKind>
-    ensures { result ≡ unsigned_or error width (pos value) }
+    ensures value { result ≡ unsigned_or error width (pos value) }
+    ensures in_width { IfOk result (λ number. number < 2 ^ width_bits width) }
 {
     if value <= width.greatest() {
         Ok(value)
@@ -69,7 +69,8 @@ pub(crate) fn in_unsigned(error: PKind, width: Width, value: u64) -> Result<u64,
 
 /// The number where it is a signed integer of the width, else the error.
 pub(crate) fn in_signed(error: PKind, width: Width, value: i64) -> Result<i64, PKind>
-    ensures { result ≡ signed_or error width value }
+    ensures value { result ≡ signed_or error width value }
+    ensures in_width { IfOk result (λ number. IsTrue (fits_signed width number)) }
 {
     let greatest = width.greatest_signed();
     if value <= greatest && -greatest - 1 <= value {
