@@ -22,7 +22,7 @@ width_bits W64 = 64
 abbrev pub fits_unsigned : Width → ℤ → Bool
 fits_unsigned width z = int_le (pos 0) z && int_lt z (pos (2 ^ width_bits width))
 
--- a whole number is one of the signed integers of the width: half of the powers are below 0, half from 0 up
+-- a whole number is one of the signed integers of the width: from minus one half of 2 to the power of its bits to below that half
 abbrev pub fits_signed : Width → ℤ → Bool
 fits_signed width z = int_le (neg_ℤ (pos (2 ^ (width_bits width - 1)))) z && int_lt z (pos (2 ^ (width_bits width - 1)))
 
@@ -34,12 +34,12 @@ unsigned_or error width z = if fits_unsigned width z then Ok (unsigned_abs z) el
 abbrev pub signed_or : PKind → Width → ℤ → Result ℤ PKind
 signed_or error width z = if fits_signed width z then Ok z else Err error
 
--- what an operator has as its result where the operands allow one, or their error
+-- a whole number goes through the test of its range, and an error of the operands stays
 abbrev pub ranged : {A : Type 0} → (ℤ → Result A PKind) → Result ℤ PKind → Result A PKind
 ranged range (Ok z) = range z
 ranged range (Err error) = Err error
 
--- a division's answer: there is none by 0
+-- what a division by b answers: an error where b is 0
 abbrev pub divided_by : ℤ → ℤ → Result ℤ PKind
 divided_by b z = if unsigned_abs b == 0 then Err DivZero else Ok z
 
