@@ -4,7 +4,7 @@
 // In the text `\n`, `\t` and `\\` stand for bytes.
 #![tactic(auto)]
 
-use sp_base::place_of;
+use sp_base::{Place, place_of};
 use sp_grammar::Start;
 use sp_lex::{ReadFault, Token, Tokens, lex};
 use sp_read_expr::{Numbers, read_from};
@@ -67,17 +67,25 @@ fn read(alloc: Global, source: &[u8], start: Start, at: u32) -> Result<u32, Read
     Ok(byte_at(source, tokens.as_slice(), parsed.to))
 }
 
+/// The line and column of a byte, or 0:0 where there is none.
+fn place(source: &[u8], at: u32) -> Place {
+    if at as usize > source.len() || at == u32::MAX {
+        return Place { line: 0, col: 0 };
+    }
+    place_of(source, at)
+}
+
 /// The answer in the form of the lines.
 fn answer(alloc: Global, source: &[u8], start: Start, at: u32) -> Result<String, AllocError> {
     match read(alloc, source, start, at) {
         Ok(to) => {
-            let place = place_of(source, to);
+            let place = place(source, to);
             let line = place.line;
             let col = place.col;
             format!(in alloc; "text {line}:{col}")
         }
         Err(ReadFault::Diag(span, kind)) => {
-            let place = place_of(source, span.from);
+            let place = place(source, span.from);
             let number = kind.number();
             let line = place.line;
             let col = place.col;
