@@ -11,6 +11,8 @@ use Rattle.sp_grammar.specs.declared.language.Start.{Start}
 use Rattle.sp_grammar.specs.Language.{language}
 use Rattle.sp_grammar.specs.Starts.{start_number}
 use Rattle.sp_read_expr.specs.Kinds.{token_number, numbers_of}
+use Rattle.std.proofs.Common.{zero, suc}
+use Rattle.sp_base.specs.declared.kinds.MKind.{MKind}
 use Rattle.sp_lex.specs.Faults.{OnDiag}
 use Rattle.sp_lex.specs.declared.tokens.ReadFault.{ReadFault}
 use Rattle.sp_lex.specs.declared.tokens.ReadFault.TheVariants as fault
@@ -58,3 +60,16 @@ pub refused_of : (start : Start) (tokens : List Token) (at end m to : ℕ) (r : 
 refused_of start tokens at end m to r e z l none =
     subst (λ f. OnDiag (λ span kind. IsRefused start tokens at end span kind) f) (sym e)
     (m, l, none, ap (λ j. refused_at end (drop j tokens)) z, ap (λ j. refused_with (drop j tokens)) z)
+
+-- what is refused stands in the source
+place_inside : (at j : ℕ) (tokens : List Token) (len : ℕ) → InOrder at tokens len → (refused_at len (drop j tokens)).from ≤ len
+place_inside at zero [] len h = omega arith
+place_inside at (suc j) [] len h = omega arith
+place_inside at zero (t ∷ tokens) len h =
+    let more : t.span.from < t.span.to = h.1 in
+    let rest : t.span.to + length tokens ≤ len = count_in_order t.span.to tokens len h.2 in
+    omega arith
+place_inside at (suc j) (t ∷ tokens) len h = place_inside t.span.to j tokens len h.2
+
+pub inside_of : (tokens : List Token) (len to : ℕ) (k : MKind) (r : ReadFault) → r ≡ fault.Diag (refused_at len (drop to tokens)) k → InOrder 0 tokens len → OnDiag (λ span _. span.from ≤ len) r
+inside_of tokens len to k r e h = subst (λ f. OnDiag (λ span _. span.from ≤ len) f) (sym e) (place_inside 0 to tokens len h)

@@ -4,11 +4,13 @@
 
 mod laws;
 mod numbered;
+mod passed;
 mod read;
 mod refusals;
 mod terminals;
 
 pub use laws::no_production_has_other_words;
 pub use numbered::Numbers;
+pub use passed::{Passed, mark_of};
 pub use read::{Parsed, read_from};
 pub use terminals::terminal_of;
