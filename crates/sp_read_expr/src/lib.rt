@@ -9,7 +9,7 @@ mod read;
 mod refusals;
 mod terminals;
 
-pub use laws::no_production_has_other_words;
+pub use laws::{derivation_is_one, longest_run_is_one, no_production_has_other_words};
 pub use numbered::Numbers;
 pub use passed::{Passed, mark_of};
 pub use read::{Parsed, read_from};
