@@ -1,0 +1,15 @@
+# Texts and times of the scripts beside it, which read this file. $program is what is timed, and $work a folder.
+
+build() { # CRATE: the program, built where it is missing
+    program=$top/crates/$1/out/$1
+    [ -x "$program" ] || (cd "$top/crates/$1" && rt run <stdin >/dev/null 2>&1)
+}
+repeat() { # TEXT BYTES: the text, over and over, up to so many bytes in whole texts
+    awk -v text="$1" -v bytes="$2" 'BEGIN { n = int(bytes / length(text)); for (i = 0; i < n; i++) printf "%s", text }'
+}
+row() { # NAME FILE: the seconds, and what came out
+    start=$(date +%s.%N)
+    said=$("$program" <"$2")
+    end=$(date +%s.%N)
+    printf '%-22s %9d bytes  %s s  %s\n' "$1" "$(wc -c <"$2")" "$(echo "$end $start" | awk '{ printf "%.3f", $1 - $2 }')" "$said"
+}

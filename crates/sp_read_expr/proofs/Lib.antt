@@ -1,0 +1,4 @@
+pub mod Below
+pub mod Longest
+pub mod Marked
+pub mod Unique

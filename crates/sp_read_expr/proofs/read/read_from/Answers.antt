@@ -1,0 +1,50 @@
+use Rattle.std.proofs.Common.{◌≡◌, ◌≤◌, ◌+◌, length, drop, subst, sym, ap, ◌∙◌, arith}
+use Rattle.sp_parser.specs.Grammar.{AreKinds}
+use Rattle.sp_parser.specs.Outcome.{IsParsed}
+use Rattle.sp_parser.specs.declared.outcome.Outcome.TheVariants.{Text, Refused}
+use Rattle.sp_grammar.specs.Language.{language}
+use Rattle.sp_grammar.specs.Starts.{start_number}
+use Rattle.sp_lex.specs.declared.tokens.ReadFault.TheVariants as fault
+use Rattle.sp_read_expr.specs.Named.{AreNamed}
+use Rattle.sp_read_expr.specs.Runs.{IsText, refused_at, refused_with}
+use Rattle.sp_read_expr.proofs.Marked.{marks_named}
+use Rattle.sp_read_expr.proofs.Below.{are_kinds}
+use Rattle.sp_read_expr.proofs.Longest.{count_in_order, run_within, run_of, text_of, none_of, parsed_as, refused_of, inside_of}
+use Rattle.sp_read_expr.proofs.read.read_from.Goals as goal
+
+pub parse_kinds-requires-clause-kinds : goal.parse_kinds-requires-clause-kinds
+parse_kinds-requires-clause-kinds c = subst (λ ks. AreKinds ks) (sym (c.as_slice.ensures ∙ c.requires.numbers)) (are_kinds c.args.tokens.now)
+
+pub overflow_cast-result : goal.overflow_cast-result
+overflow_cast-result c =
+    let p : IsParsed language (start_number c.args.start) (drop c.args.at c.as_slice.result.now) c.args.at (Text c.in-Text.events c.in-Text.to) = parsed_as c.args.start _ c.args.at _ _ c.in-Text.is c.in_ok-events.ensures in
+    let place : c.in-Text.to ≡ c.args.at + p.0 = p.1 in
+    let within : c.args.at + p.0 ≤ length c.args.tokens.now = run_within c.args.start c.args.tokens.now c.args.at p.0 c.requires.at (run_of c.args.start c.args.tokens.now c.as_slice.result.now c.args.at p.0 (c.as_slice.ensures ∙ c.requires.numbers) p.2) in
+    let fewer : 0 + length c.args.tokens.now ≤ length c.args.source.now = count_in_order 0 c.args.tokens.now (length c.args.source.now) c.requires.order in
+    let small : length c.args.source.now ≤ 1048576 = c.requires.small in
+    omega arith
+
+pub named-requires : goal.named-requires
+named-requires c =
+    let p : IsParsed language (start_number c.args.start) (drop c.args.at c.as_slice.result.now) c.args.at (Text c.in-Text.events c.in-Text.to) = parsed_as c.args.start _ c.args.at _ _ c.in-Text.is c.in_ok-events.ensures in
+    subst (λ es. AreNamed es) (sym c.as_slice-in-Text.ensures.value) (marks_named (start_number c.args.start) _ c.in-Text.events.items p.3)
+
+pub returns-in_ok-named-in-Text-clause-read : goal.returns-in_ok-named-in-Text-clause-read
+returns-in_ok-named-in-Text-clause-read c =
+    let p : IsParsed language (start_number c.args.start) (drop c.args.at c.as_slice.result.now) c.args.at (Text c.in-Text.events c.in-Text.to) = parsed_as c.args.start _ c.args.at _ _ c.in-Text.is c.in_ok-events.ensures in
+    let e = c.as_slice.ensures ∙ c.requires.numbers in
+    let d = text_of c.args.start c.args.tokens.now c.as_slice.result.now c.args.at p.0 c.in-Text.events.items e p.3 in
+    (p.0, p.1, run_of c.args.start c.args.tokens.now c.as_slice.result.now c.args.at p.0 e p.2, subst (λ es. IsText c.args.start (drop c.args.at c.args.tokens.now) p.0 es) (sym (c.in_ok-named-in-Text.ensures ∙ c.as_slice-in-Text.ensures.value)) d)
+
+pub returns-in-Refused-clause-refused : goal.returns-in-Refused-clause-refused
+returns-in-Refused-clause-refused c =
+    let p : IsParsed language (start_number c.args.start) (drop c.args.at c.as_slice.result.now) c.args.at (Refused c.in-Refused.to) = parsed_as c.args.start _ c.args.at _ _ c.in-Refused.is c.in_ok-events.ensures in
+    let e = c.as_slice.ensures ∙ c.requires.numbers in
+    refused_of c.args.start c.args.tokens.now c.args.at (length c.args.source.now) p.0 c.in-Refused.to c.refusal.result
+    (c.refusal.ensures ∙ ap (λ ts. fault.Diag (refused_at (length c.args.source.now) (drop c.in-Refused.to ts)) (refused_with (drop c.in-Refused.to ts))) c.as_slice-in-Refused.ensures) p.1
+    (run_of c.args.start c.args.tokens.now c.as_slice.result.now c.args.at p.0 e p.2) (none_of c.args.start c.args.tokens.now c.as_slice.result.now c.args.at p.0 e p.3)
+
+pub returns-in-Refused-clause-inside : goal.returns-in-Refused-clause-inside
+returns-in-Refused-clause-inside c =
+    inside_of c.args.tokens.now (length c.args.source.now) c.in-Refused.to (refused_with (drop c.in-Refused.to c.args.tokens.now)) c.refusal.result
+    (c.refusal.ensures ∙ ap (λ ts. fault.Diag (refused_at (length c.args.source.now) (drop c.in-Refused.to ts)) (refused_with (drop c.in-Refused.to ts))) c.as_slice-in-Refused.ensures) c.requires.order
