@@ -4,7 +4,7 @@ ghost use Rattle.sp_grammar.specs.Marks.{mark_number};
 
 /// What is built where a derivation passes a mark. `Begin` opens a tree. A mark with the name of an alternative closes it, or
 /// makes it of one token or of the trees before it.
-#[derive(Clone, Copy)]
+#[derive(Clone, Copy, Debug)]
 pub enum Mark {
     Begin,
     Name,

@@ -1,13 +1,14 @@
 // Reads texts with the answers that they must have, and tells which have another. A line is the answer, ` | `, what is
 // read, ` | ` and the text. The answer is `text` or the refusal's number, and the place behind the text or of the refusal.
 // What is read is `type`, `expr`, `stmt` or `module`, with the number of tokens before it behind an `@`, if there are any.
+// Of `marks` and such a word the answer is `marks` and the marks of the derivation, those of names, paths and rows left out.
 // In the text `\n`, `\t` and `\\` stand for bytes.
 #![tactic(auto)]
 
 use sp_base::{Place, place_of};
-use sp_grammar::Start;
+use sp_grammar::{Mark, Start};
 use sp_lex::{ReadFault, Token, Tokens, lex};
-use sp_read_expr::{Numbers, read_from};
+use sp_read_expr::{Numbers, Parsed, read_from};
 use std::alloc::{AllocError, Global};
 use std::io;
 
@@ -67,6 +68,31 @@ fn read(alloc: Global, source: &[u8], start: Start, at: u32) -> Result<u32, Read
     Ok(byte_at(source, tokens.as_slice(), parsed.to))
 }
 
+/// What is read of the text.
+fn parsed(alloc: Global, source: &[u8], start: Start) -> Result<Parsed, ReadFault> {
+    let tokens = lex(alloc, source)?;
+    let numbers = Numbers::new(alloc, &tokens)?;
+    read_from(alloc, source, &tokens, &numbers, start, 0)
+}
+
+/// The marks of the text's derivation by their names.
+fn marks(alloc: Global, source: &[u8], start: Start) -> Result<String, AllocError> {
+    let mut words = format!(in alloc; "marks")?;
+    match parsed(alloc, source, start) {
+        Ok(parsed) => {
+            for passed in parsed.events.as_slice() {
+                match passed.mark {
+                    Mark::Begin | Mark::Name | Mark::Path | Mark::Row | Mark::Absent => {}
+                    mark => words = format!(in alloc; "{words} {mark:?}")?,
+                }
+            }
+            Ok(words)
+        }
+        Err(ReadFault::Diag(..)) => Ok(words),
+        Err(ReadFault::NoMemory) => Err(AllocError),
+    }
+}
+
 /// The line and column of a byte, or 0:0 where there is none.
 fn place(source: &[u8], at: u32) -> Place {
     if at as usize > source.len() || at == u32::MAX {
@@ -98,6 +124,9 @@ fn answer(alloc: Global, source: &[u8], start: Start, at: u32) -> Result<String,
 /// The answer to a line's question.
 fn asked(alloc: Global, what: &str, text: &str) -> Result<String, AllocError> {
     let source = bytes_of(alloc, text.as_bytes())?;
+    if let Some((_, word)) = what.split_once(" ") {
+        return marks(alloc, source.as_slice(), start_of(word));
+    }
     match what.split_once("@") {
         Some((word, at)) => answer(
             alloc,
