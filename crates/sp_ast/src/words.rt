@@ -1,6 +1,6 @@
 // The words of integer types, attributes and hooks.
 ghost use Rattle.std.specs.Prelude.{◌≡◌};
-ghost use Rattle.sp_ast.specs.Words.{int_text, width, is_signed, attribute_text, hook_text};
+ghost use Rattle.sp_ast.specs.Words.{width, is_signed};
 
 /// An integer type.
 #[derive(Clone, Copy, Debug, PartialEq, Eq)]
@@ -24,22 +24,6 @@ pub enum IntWord {
 }
 
 impl IntWord {
-    /// How it is written.
-    pub fn text(self) -> &'static str
-        ensures { result.now ≡ int_text self }
-    {
-        match self {
-            IntWord::Uint8 => "uint8",
-            IntWord::Uint16 => "uint16",
-            IntWord::Uint32 => "uint32",
-            IntWord::Uint64 => "uint64",
-            IntWord::Int8 => "int8",
-            IntWord::Int16 => "int16",
-            IntWord::Int32 => "int32",
-            IntWord::Int64 => "int64",
-        }
-    }
-
     /// The number of its bits.
     pub fn width(self) -> u8
         ensures { result ≡ width self }
@@ -98,31 +82,6 @@ pub enum AttributeName {
     Synchronize,
 }
 
-impl AttributeName {
-    /// How it is written.
-    pub fn text(self) -> &'static str
-        ensures { result.now ≡ attribute_text self }
-    {
-        match self {
-            AttributeName::Size => "&size",
-            AttributeName::MaxSize => "&max-size",
-            AttributeName::Eod => "&eod",
-            AttributeName::Until => "&until",
-            AttributeName::UntilIncluding => "&until-including",
-            AttributeName::While => "&while",
-            AttributeName::Convert => "&convert",
-            AttributeName::Requires => "&requires",
-            AttributeName::Default => "&default",
-            AttributeName::ByteOrder => "&byte-order",
-            AttributeName::BitOrder => "&bit-order",
-            AttributeName::ParseFrom => "&parse-from",
-            AttributeName::ParseAt => "&parse-at",
-            AttributeName::Try => "&try",
-            AttributeName::Synchronize => "&synchronize",
-        }
-    }
-}
-
 /// An event of a unit or a sink, to which hooks belong.
 #[derive(Clone, Copy, Debug, PartialEq, Eq)]
 pub enum HookName {
@@ -148,25 +107,4 @@ pub enum HookName {
     Overlap,
     /// `%undelivered`
     Undelivered,
-}
-
-impl HookName {
-    /// How it is written.
-    pub fn text(self) -> &'static str
-        ensures { result.now ≡ hook_text self }
-    {
-        match self {
-            HookName::Init => "%init",
-            HookName::Done => "%done",
-            HookName::Error => "%error",
-            HookName::Finally => "%finally",
-            HookName::Synced => "%synced",
-            HookName::Confirmed => "%confirmed",
-            HookName::Rejected => "%rejected",
-            HookName::Gap => "%gap",
-            HookName::Skipped => "%skipped",
-            HookName::Overlap => "%overlap",
-            HookName::Undelivered => "%undelivered",
-        }
-    }
 }
