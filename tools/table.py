@@ -72,11 +72,26 @@ s="-- The numbers of the kinds of tokens in the table.\nuse Rattle.std.specs.Pre
 for n,k,v in tn: s+=f"terminal_number kind.{n} = {v}\n"
 open(OUT+'/specs/Terminals.antt','w').write(s)
 cam=lambda m:''.join(x[:1].upper()+x[1:] for x in m.split('_'))
-s="// The marks of the grammar, which a script writes from tools/grammar.txt.\nghost use Rattle.std.specs.Prelude.{◌≡◌};\nghost use Rattle.sp_grammar.specs.Marks.{mark_number};\n\n/// What is built where a derivation passes a mark. `Begin` opens a tree. A mark with the name of an alternative closes it, or\n/// makes it of one token or of the trees before it.\n#[derive(Clone, Copy, Debug)]\npub enum Mark {\n"
+s="// The marks of the grammar, which a script writes from tools/grammar.txt.\nghost use Rattle.std.specs.Prelude.{◌≡◌};\nghost use Rattle.sp_grammar.specs.Marks.{mark_number, mark_with};\n\n/// What is built where a derivation passes a mark. `Begin` opens a tree. A mark with the name of an alternative closes it, or\n/// makes it of one token or of the trees before it.\n#[derive(Clone, Copy, Debug)]\npub enum Mark {\n"
 for m in MARKS: s+=f"    {cam(m)},\n"
 s+="}\n\nimpl Mark {\n    /// Its number in the table.\n    pub fn number(self) -> u8\n        ensures { result ≡ mark_number self }\n    {\n        match self {\n"
 for i,m in enumerate(MARKS): s+=f"            Mark::{cam(m)} => {i},\n"
-s+="        }\n    }\n}\n"
+s+="        }\n    }\n}\n\n/// The marks in the order of their numbers.\n#[rattlefmt::skip]\nstatic MARKS: [Mark; %d] = [\n"%len(MARKS)
+for i in range(0,len(MARKS),5): s+='    '+', '.join('Mark::'+cam(m) for m in MARKS[i:i+5])+',\n'
+s+="""];
+
+/// The mark with a number in the table, if there is one.
+pub fn mark_of(number: u8) -> Option<Mark>
+    ensures { result ≡ mark_with number }
+{
+    let place = number as usize;
+    if place < MARKS.len() {
+        Some(MARKS[place])
+    } else {
+        None
+    }
+}
+"""
 open(OUT+'/src/marks.rt','w').write(s)
 print({p:P[p] for p in ('Module','TypeTree','Expr','Stmt')}, len(parts), MARKS)
 inv={v:k for k,v in K.items()}
@@ -133,6 +148,8 @@ for p in F['parts']:
 w+="\n-- the parts in the order of the table\nabbrev pub all_parts : List Part\nall_parts = "+lst('Part.'+p for p in F['parts'])+"\n"
 w+="\nabbrev pub right_sides : List Production → List (List Symbol)\nright_sides ps = map (λ p. p.symbols) ps\n"
 open(OUT+'/specs/Written.antt','w').write(w)
-s="-- The numbers of the marks in the table.\nuse Rattle.std.specs.Prelude.{ℕ}\nuse Rattle.sp_grammar.specs.declared.marks.Mark.{Mark}\nuse Rattle.sp_grammar.specs.declared.marks.Mark.TheVariants as build\n\nabbrev pub mark_number : Mark → ℕ\n"
+s="-- The numbers of the marks in the table.\nuse Rattle.std.specs.Prelude.{ℕ, List, [], ◌∷◌, Option, Some, None}\nuse Rattle.std.proofs.Common.{get_or}\nuse Rattle.std.specs.Prelude.{map}\nuse Rattle.sp_grammar.specs.declared.marks.Mark.{Mark}\nuse Rattle.sp_grammar.specs.declared.marks.Mark.TheVariants as build\n\nabbrev pub mark_number : Mark → ℕ\n"
 for i,m in enumerate(MARKS): s+=f"mark_number build.{cam(m)} = {i}\n"
+s+="\n-- the marks in the order of their numbers\nabbrev pub all_marks : List Mark\nall_marks = "+lst('build.'+cam(m) for m in MARKS)+"\n"
+s+="\n-- the mark with a number, if there is one\nabbrev pub mark_with : ℕ → Option Mark\nmark_with n = get_or (map Some all_marks) n None\n"
 open(OUT+'/specs/Marks.antt','w').write(s)

@@ -1,11 +1,14 @@
 -- The tree that each of the code's trees is, apart from memory and from places in a text.
 use Rattle.std.specs.Prelude.{List, [], ◌∷◌, map, Option, Some, None, option_map, Box}
 use Rattle.std.specs.declared.alloc.Global.{Global}
+use Rattle.sp_base.specs.declared.places.Span.{Span}
 use Rattle.sp_ast.specs.Trees
-use Rattle.sp_ast.specs.Trees.{Tree, tree, maybe}
-use Rattle.sp_ast.specs.declared.words.HookName.{HookName}
+use Rattle.sp_ast.specs.Trees.{Tree, tree, in_row, absent, span_of}
 use Rattle.sp_ast.specs.declared.names.Name.{Name}
 use Rattle.sp_ast.specs.declared.names.Path.{Path}
+use Rattle.sp_ast.specs.declared.names.TextLiteral.{TextLiteral}
+use Rattle.sp_ast.specs.declared.names.NumberLiteral.{NumberLiteral}
+use Rattle.sp_ast.specs.declared.names.EventName.{EventName}
 use Rattle.sp_ast.specs.declared.types.BitRange.{BitRange}
 use Rattle.sp_ast.specs.declared.unit.HookTarget.{HookTarget}
 use Rattle.sp_ast.specs.declared.unit.HookTarget.TheVariants as target
@@ -36,31 +39,35 @@ use Rattle.sp_ast.specs.declared.unit.Unit.{Unit, fold-Unit}
 use Rattle.sp_ast.specs.declared.expr.Expr.TheOpen.{Expr-F, Stmt-F, TypeTree-F, ArmBody-F, Base-F, Guard-F, Item-F, Part-F, Pair-F, Block-F, Branch-F, Case-F, Label-F, Param-F, Arm-F, Attr-F, Count-F, Field-F, Hook-F, HookBody-F, Unit-F}
 
 abbrev pub name_view : Name → Tree
-name_view n = tree (Trees.name n.text) []
-
-abbrev pub names_view : List Name → Tree
-names_view ns = tree Trees.path (map name_view ns)
+name_view n = tree (Trees.name n.text) n.span []
 
 abbrev pub path_view : Path → Tree
-path_view p = names_view p.names.items
+path_view p = tree Trees.path p.span (map name_view p.names.items)
 
-abbrev pub parts : List Tree → Tree
-parts ts = tree Trees.row ts
+abbrev pub text_view : TextLiteral → Tree
+text_view t = tree (Trees.text t.value) t.span []
+
+abbrev pub number_view : NumberLiteral → Tree
+number_view n = tree (Trees.number n.value) n.span []
+
+abbrev pub event_view : EventName → Tree
+event_view e = tree (Trees.event e.hook) e.span []
+
+-- a part that may be left out
+abbrev pub maybe : Option Tree → Tree
+maybe None = absent
+maybe (Some t) = t
 
 abbrev pub boxed : Option (Box Tree Global) → Tree
-boxed None = maybe None
+boxed None = absent
 boxed (Some b) = b.value
 
-abbrev pub named : Option Name → Tree
-named None = maybe None
-named (Some n) = name_view n
-
 abbrev pub range_view : BitRange → Tree
-range_view r = tree (Trees.bits r.first r.last) (name_view r.name ∷ [])
+range_view r = tree Trees.bits r.span (name_view r.name ∷ number_view r.first ∷ maybe (option_map number_view r.last) ∷ [])
 
 abbrev pub target_view : HookTarget → Tree
-target_view (target.Name n) = name_view n
-target_view (target.Event h span) = tree (Trees.event h) []
+target_view (target.Name n) = tree (Trees.target (Trees.name_target n.text)) n.span []
+target_view (target.Event e) = tree (Trees.target (Trees.event_target e.hook)) e.span []
 
 -- One level of a tree, with each tree inside already seen as what it is.
 abbrev pub ExprLevel : Type 0
@@ -126,141 +133,156 @@ HookBodyLevel = HookBody-F Tree Tree Tree Tree Tree Tree Tree Tree Tree Tree Tre
 abbrev pub UnitLevel : Type 0
 UnitLevel = Unit-F Tree Tree Tree Tree Tree Tree Tree Tree Tree Tree Tree Tree Tree Tree Tree Tree Tree Tree Tree Tree Tree
 
+abbrev pub expr_tree : Trees.ExprForm → Span → List Tree → Tree
+expr_tree form = tree (Trees.expr form)
+
+abbrev pub stmt_tree : Trees.StmtForm → Span → List Tree → Tree
+stmt_tree form = tree (Trees.stmt form)
+
+abbrev pub type_tree : Trees.TypeForm → Span → List Tree → Tree
+type_tree form = tree (Trees.type_tree form)
+
+abbrev pub item_tree : Trees.ItemForm → Span → List Tree → Tree
+item_tree form = tree (Trees.item form)
+
+abbrev pub base_tree : Trees.BaseForm → Span → List Tree → Tree
+base_tree form = tree (Trees.base form)
+
 abbrev pub expr_step : ExprLevel → Tree
-expr_step (Expr-F.Expr::Path p) = tree Trees.path_expr (path_view p ∷ [])
-expr_step (Expr-F.Itself span) = tree Trees.self_expr []
-expr_step (Expr-F.Current span) = tree Trees.current_expr []
-expr_step (Expr-F.Expr::Number x span) = tree (Trees.number_expr x) []
-expr_step (Expr-F.Expr::String x span) = tree (Trees.string_expr x) []
-expr_step (Expr-F.Expr::Bytes x span) = tree (Trees.bytes_expr x) []
-expr_step (Expr-F.Expr::Regex x span) = tree (Trees.regex_expr x) []
-expr_step (Expr-F.True span) = tree Trees.true_expr []
-expr_step (Expr-F.False span) = tree Trees.false_expr []
-expr_step (Expr-F.Expr::Tuple es span) = tree Trees.tuple_expr es.items
-expr_step (Expr-F.Expr::Vector es span) = tree Trees.vector_expr es.items
-expr_step (Expr-F.Expr::Set es span) = tree Trees.set_expr es.items
-expr_step (Expr-F.Expr::Map ps span) = tree Trees.map_expr ps.items
-expr_step (Expr-F.EmptyVector t span) = tree Trees.empty_vector_expr (t.value ∷ [])
-expr_step (Expr-F.EmptySet t span) = tree Trees.empty_set_expr (t.value ∷ [])
-expr_step (Expr-F.EmptyMap k v span) = tree Trees.empty_map_expr (k.value ∷ v.value ∷ [])
-expr_step (Expr-F.TypedNumber w x span) = tree (Trees.typed_number_expr w x) []
-expr_step (Expr-F.Cast t e span) = tree Trees.cast_expr (t.value ∷ e.value ∷ [])
-expr_step (Expr-F.New u es span) = tree Trees.new_expr (path_view u ∷ parts es.items ∷ [])
-expr_step (Expr-F.Size e span) = tree Trees.size_expr (e.value ∷ [])
-expr_step (Expr-F.Unary op e span) = tree (Trees.unary_expr op) (e.value ∷ [])
-expr_step (Expr-F.Binary op l r span) = tree (Trees.binary_expr op) (l.value ∷ r.value ∷ [])
-expr_step (Expr-F.Choice c a b span) = tree Trees.choice_expr (c.value ∷ a.value ∷ b.value ∷ [])
-expr_step (Expr-F.Member e x span) = tree Trees.member_expr (e.value ∷ name_view x ∷ [])
-expr_step (Expr-F.SetMember e x span) = tree Trees.set_member_expr (e.value ∷ name_view x ∷ [])
-expr_step (Expr-F.Index e i span) = tree Trees.index_expr (e.value ∷ i.value ∷ [])
-expr_step (Expr-F.Call f es span) = tree Trees.call_expr (f.value ∷ parts es.items ∷ [])
+expr_step (Expr-F.Expr::Path p) = expr_tree Trees.path_expr p.span (path_view p ∷ [])
+expr_step (Expr-F.Itself span) = expr_tree Trees.self_expr span []
+expr_step (Expr-F.Current span) = expr_tree Trees.current_expr span []
+expr_step (Expr-F.Expr::Number x span) = expr_tree (Trees.number_expr x) span []
+expr_step (Expr-F.Expr::String x span) = expr_tree (Trees.string_expr x) span []
+expr_step (Expr-F.Expr::Bytes x span) = expr_tree (Trees.bytes_expr x) span []
+expr_step (Expr-F.Expr::Regex x span) = expr_tree (Trees.regex_expr x) span []
+expr_step (Expr-F.True span) = expr_tree Trees.true_expr span []
+expr_step (Expr-F.False span) = expr_tree Trees.false_expr span []
+expr_step (Expr-F.Expr::Tuple es span) = expr_tree Trees.tuple_expr span es.items
+expr_step (Expr-F.Expr::Vector es span) = expr_tree Trees.vector_expr span es.items
+expr_step (Expr-F.Expr::Set es span) = expr_tree Trees.set_expr span es.items
+expr_step (Expr-F.Expr::Map ps span) = expr_tree Trees.map_expr span ps.items
+expr_step (Expr-F.EmptyVector t span) = expr_tree Trees.empty_vector_expr span (t.value ∷ [])
+expr_step (Expr-F.EmptySet t span) = expr_tree Trees.empty_set_expr span (t.value ∷ [])
+expr_step (Expr-F.EmptyMap k v span) = expr_tree Trees.empty_map_expr span (k.value ∷ v.value ∷ [])
+expr_step (Expr-F.TypedNumber w n span) = expr_tree (Trees.typed_number_expr w) span (number_view n ∷ [])
+expr_step (Expr-F.Cast t e span) = expr_tree Trees.cast_expr span (t.value ∷ e.value ∷ [])
+expr_step (Expr-F.New u es span) = expr_tree Trees.new_expr span (path_view u ∷ in_row es.items ∷ [])
+expr_step (Expr-F.Size e span) = expr_tree Trees.size_expr span (e.value ∷ [])
+expr_step (Expr-F.Unary op e span) = expr_tree (Trees.unary_expr op) span (e.value ∷ [])
+expr_step (Expr-F.Binary op l r span) = expr_tree (Trees.binary_expr op) span (l.value ∷ r.value ∷ [])
+expr_step (Expr-F.Choice c a b span) = expr_tree Trees.choice_expr span (c.value ∷ a.value ∷ b.value ∷ [])
+expr_step (Expr-F.Member e x span) = expr_tree Trees.member_expr span (e.value ∷ name_view x ∷ [])
+expr_step (Expr-F.SetMember e x span) = expr_tree Trees.set_member_expr span (e.value ∷ name_view x ∷ [])
+expr_step (Expr-F.Index e i span) = expr_tree Trees.index_expr span (e.value ∷ i.value ∷ [])
+expr_step (Expr-F.Call f es span) = expr_tree Trees.call_expr span (f.value ∷ in_row es.items ∷ [])
 
 abbrev pub stmt_step : StmtLevel → Tree
-stmt_step (Stmt-F.Block b) = b
-stmt_step (Stmt-F.Local x t e span) = tree Trees.local_stmt (name_view x ∷ boxed t ∷ maybe e ∷ [])
-stmt_step (Stmt-F.If bs s span) = tree Trees.if_stmt (parts bs.items ∷ boxed s ∷ [])
-stmt_step (Stmt-F.While c s span) = tree Trees.while_stmt (c ∷ s.value ∷ [])
-stmt_step (Stmt-F.For x e s span) = tree Trees.for_stmt (name_view x ∷ e ∷ s.value ∷ [])
-stmt_step (Stmt-F.Stmt::Switch e cs s span) = tree Trees.switch_stmt (e ∷ parts cs.items ∷ boxed s ∷ [])
-stmt_step (Stmt-F.Return e span) = tree Trees.return_stmt (maybe e ∷ [])
-stmt_step (Stmt-F.Break span) = tree Trees.break_stmt []
-stmt_step (Stmt-F.Continue span) = tree Trees.continue_stmt []
-stmt_step (Stmt-F.Stop span) = tree Trees.stop_stmt []
-stmt_step (Stmt-F.Confirm span) = tree Trees.confirm_stmt []
-stmt_step (Stmt-F.Reject span) = tree Trees.reject_stmt []
-stmt_step (Stmt-F.Print es span) = tree Trees.print_stmt es.items
-stmt_step (Stmt-F.Throw e span) = tree Trees.throw_stmt (e ∷ [])
-stmt_step (Stmt-F.Assert c x span) = tree (Trees.assert_stmt x) (c ∷ [])
-stmt_step (Stmt-F.Add e span) = tree Trees.add_stmt (e ∷ [])
-stmt_step (Stmt-F.Delete e span) = tree Trees.delete_stmt (e ∷ [])
-stmt_step (Stmt-F.Expr e span) = tree Trees.expr_stmt (e ∷ [])
-stmt_step (Stmt-F.Assign op a b span) = tree (Trees.assign_stmt op) (a ∷ b ∷ [])
+stmt_step (Stmt-F.Block b) = stmt_tree Trees.block_stmt (span_of b) (b ∷ [])
+stmt_step (Stmt-F.Local x t e span) = stmt_tree Trees.local_stmt span (name_view x ∷ boxed t ∷ maybe e ∷ [])
+stmt_step (Stmt-F.If bs s span) = stmt_tree Trees.if_stmt span (in_row bs.items ∷ boxed s ∷ [])
+stmt_step (Stmt-F.While c s span) = stmt_tree Trees.while_stmt span (c ∷ s.value ∷ [])
+stmt_step (Stmt-F.For x e s span) = stmt_tree Trees.for_stmt span (name_view x ∷ e ∷ s.value ∷ [])
+stmt_step (Stmt-F.Stmt::Switch e cs s span) = stmt_tree Trees.switch_stmt span (e ∷ in_row cs.items ∷ boxed s ∷ [])
+stmt_step (Stmt-F.Return e span) = stmt_tree Trees.return_stmt span (maybe e ∷ [])
+stmt_step (Stmt-F.Break span) = stmt_tree Trees.break_stmt span []
+stmt_step (Stmt-F.Continue span) = stmt_tree Trees.continue_stmt span []
+stmt_step (Stmt-F.Stop span) = stmt_tree Trees.stop_stmt span []
+stmt_step (Stmt-F.Confirm span) = stmt_tree Trees.confirm_stmt span []
+stmt_step (Stmt-F.Reject span) = stmt_tree Trees.reject_stmt span []
+stmt_step (Stmt-F.Print es span) = stmt_tree Trees.print_stmt span es.items
+stmt_step (Stmt-F.Throw e span) = stmt_tree Trees.throw_stmt span (e ∷ [])
+stmt_step (Stmt-F.Assert c x span) = stmt_tree Trees.assert_stmt span (c ∷ maybe (option_map text_view x) ∷ [])
+stmt_step (Stmt-F.Add e span) = stmt_tree Trees.add_stmt span (e ∷ [])
+stmt_step (Stmt-F.Delete e span) = stmt_tree Trees.delete_stmt span (e ∷ [])
+stmt_step (Stmt-F.Expr e span) = stmt_tree Trees.expr_stmt span (e ∷ [])
+stmt_step (Stmt-F.Assign op a b span) = stmt_tree (Trees.assign_stmt op) span (a ∷ b ∷ [])
 
 abbrev pub type_step : TypeTreeLevel → Tree
-type_step (TypeTree-F.TypeTree::Path p) = tree Trees.path_type (path_view p ∷ [])
-type_step (TypeTree-F.Bool span) = tree Trees.bool_type []
-type_step (TypeTree-F.TypeTree::Bytes span) = tree Trees.bytes_type []
-type_step (TypeTree-F.TypeTree::String span) = tree Trees.string_type []
-type_step (TypeTree-F.Void span) = tree Trees.void_type []
-type_step (TypeTree-F.Int w span) = tree (Trees.int_type w) []
-type_step (TypeTree-F.TypeTree::Tuple ts span) = tree Trees.tuple_type ts.items
-type_step (TypeTree-F.TypeTree::Vector t span) = tree Trees.vector_type (t.value ∷ [])
-type_step (TypeTree-F.TypeTree::Set t span) = tree Trees.set_type (t.value ∷ [])
-type_step (TypeTree-F.TypeTree::Map k v span) = tree Trees.map_type (k.value ∷ v.value ∷ [])
-type_step (TypeTree-F.Enum ls span) = tree Trees.enum_type ls.items
-type_step (TypeTree-F.Bitfield w at rs span) = tree (Trees.bitfield_type w) (map range_view rs.items)
+type_step (TypeTree-F.TypeTree::Path p) = type_tree Trees.path_type p.span (path_view p ∷ [])
+type_step (TypeTree-F.Bool span) = type_tree Trees.bool_type span []
+type_step (TypeTree-F.TypeTree::Bytes span) = type_tree Trees.bytes_type span []
+type_step (TypeTree-F.TypeTree::String span) = type_tree Trees.string_type span []
+type_step (TypeTree-F.Void span) = type_tree Trees.void_type span []
+type_step (TypeTree-F.Int w span) = type_tree (Trees.int_type w) span []
+type_step (TypeTree-F.TypeTree::Tuple ts span) = type_tree Trees.tuple_type span ts.items
+type_step (TypeTree-F.TypeTree::Vector t span) = type_tree Trees.vector_type span (t.value ∷ [])
+type_step (TypeTree-F.TypeTree::Set t span) = type_tree Trees.set_type span (t.value ∷ [])
+type_step (TypeTree-F.TypeTree::Map k v span) = type_tree Trees.map_type span (k.value ∷ v.value ∷ [])
+type_step (TypeTree-F.Enum ls span) = type_tree Trees.enum_type span ls.items
+type_step (TypeTree-F.Bitfield w rs span) = type_tree Trees.bitfield_type span (number_view w ∷ in_row (map range_view rs.items) ∷ [])
 type_step (TypeTree-F.TypeTree::Unit u) = u.value
 
 abbrev pub arm_body_step : ArmBodyLevel → Tree
-arm_body_step ArmBody-F.Nothing = tree Trees.nothing_body []
-arm_body_step (ArmBody-F.One x) = tree Trees.one_body (x.value ∷ [])
-arm_body_step (ArmBody-F.Many xs) = tree Trees.many_body xs.items
+arm_body_step (ArmBody-F.Nothing span) = tree (Trees.body Trees.nothing_body) span []
+arm_body_step (ArmBody-F.One x span) = tree (Trees.body Trees.one_body) span (x.value ∷ [])
+arm_body_step (ArmBody-F.Many xs span) = tree (Trees.body Trees.many_body) span xs.items
 
 abbrev pub base_step : BaseLevel → Tree
-base_step (Base-F.«Type» t) = tree Trees.type_base (t ∷ [])
-base_step (Base-F.Base::Unit u es span) = tree Trees.unit_base (path_view u ∷ parts es.items ∷ [])
-base_step (Base-F.Base::Bytes x span) = tree (Trees.bytes_base x) []
-base_step (Base-F.Base::Regex x span) = tree (Trees.regex_base x) []
-base_step (Base-F.Base::Number w x span) = tree (Trees.number_base w x) []
-base_step (Base-F.Group b cs attrs span) = tree Trees.group_base (b.value ∷ parts cs.items ∷ parts attrs.items ∷ [])
+base_step (Base-F.«Type» t) = base_tree Trees.type_base (span_of t) (t ∷ [])
+base_step (Base-F.Base::Unit p es span) = base_tree Trees.unit_base span (path_view p ∷ in_row es.items ∷ [])
+base_step (Base-F.Base::Bytes x span) = base_tree (Trees.bytes_base x) span []
+base_step (Base-F.Base::Regex x span) = base_tree (Trees.regex_base x) span []
+base_step (Base-F.Base::Number w n span) = base_tree (Trees.number_base w) span (number_view n ∷ [])
+base_step (Base-F.Group b cs xs span) = base_tree Trees.group_base span (b.value ∷ in_row cs.items ∷ in_row xs.items ∷ [])
 
 abbrev pub guard_step : GuardLevel → Tree
-guard_step (Guard-F.Otherwise span) = tree Trees.otherwise_guard []
-guard_step (Guard-F.Values es) = tree Trees.values_guard es.items
-guard_step Guard-F.LookAhead = tree Trees.look_ahead_guard []
+guard_step (Guard-F.Otherwise span) = tree (Trees.guard Trees.otherwise_guard) span []
+guard_step (Guard-F.Values es span) = tree (Trees.guard Trees.values_guard) span es.items
+guard_step (Guard-F.LookAhead span) = tree (Trees.guard Trees.look_ahead_guard) span []
 
 abbrev pub item_step : ItemLevel → Tree
-item_step (Item-F.Filter span) = tree Trees.filter_item []
-item_step (Item-F.ByteOrder o span) = tree Trees.byte_order_item (path_view o ∷ [])
-item_step (Item-F.MimeType x span) = tree (Trees.mime_type_item x) []
-item_step (Item-F.Description x span) = tree (Trees.description_item x) []
-item_step (Item-F.Variable x t e span) = tree Trees.variable_item (name_view x ∷ t ∷ maybe e ∷ [])
-item_step (Item-F.Sink x span) = tree Trees.sink_item (name_view x ∷ [])
-item_step (Item-F.On x h span) = tree Trees.on_item (target_view x ∷ h ∷ [])
-item_step (Item-F.Part x) = x
+item_step (Item-F.Filter span) = item_tree Trees.filter_item span []
+item_step (Item-F.ByteOrder o span) = item_tree Trees.byte_order_item span (path_view o ∷ [])
+item_step (Item-F.MimeType x span) = item_tree Trees.mime_type_item span (text_view x ∷ [])
+item_step (Item-F.Description x span) = item_tree Trees.description_item span (text_view x ∷ [])
+item_step (Item-F.Variable x t e span) = item_tree Trees.variable_item span (name_view x ∷ t ∷ maybe e ∷ [])
+item_step (Item-F.Sink x span) = item_tree Trees.sink_item span (name_view x ∷ [])
+item_step (Item-F.On x h span) = item_tree Trees.on_item span (target_view x ∷ h ∷ [])
+item_step (Item-F.Part x) = item_tree Trees.part_item (span_of x) (x ∷ [])
 
 abbrev pub part_step : PartLevel → Tree
 part_step (Part-F.Field f) = f.value
-part_step (Part-F.Part::Switch e xs span) = tree Trees.switch_part (maybe e ∷ parts xs.items ∷ [])
+part_step (Part-F.Part::Switch e xs span) = tree (Trees.part Trees.switch_part) span (maybe e ∷ in_row xs.items ∷ [])
 
 abbrev pub pair_step : PairLevel → Tree
-pair_step p = tree Trees.pair (p.key ∷ p.value ∷ [])
+pair_step p = tree Trees.pair p.span (p.key ∷ p.value ∷ [])
 
 abbrev pub block_step : BlockLevel → Tree
-block_step b = tree Trees.block b.statements.items
+block_step b = tree Trees.block b.span b.statements.items
 
 abbrev pub branch_step : BranchLevel → Tree
-branch_step b = tree Trees.branch (b.condition ∷ b.body ∷ [])
+branch_step b = tree Trees.branch b.span (b.condition ∷ b.body ∷ [])
 
 abbrev pub case_step : CaseLevel → Tree
-case_step c = tree Trees.case (parts c.values.items ∷ c.body ∷ [])
+case_step c = tree Trees.case c.span (in_row c.values.items ∷ c.body ∷ [])
 
 abbrev pub label_step : LabelLevel → Tree
-label_step l = tree Trees.label (name_view l.name ∷ maybe l.number ∷ [])
+label_step l = tree Trees.label l.span (name_view l.name ∷ maybe l.number ∷ [])
 
 abbrev pub param_step : ParamLevel → Tree
-param_step p = tree (Trees.parameter p.inout) (name_view p.name ∷ p.type_tree ∷ [])
+param_step p = tree (Trees.parameter p.inout) p.span (name_view p.name ∷ p.type_tree ∷ [])
 
 abbrev pub arm_step : ArmLevel → Tree
-arm_step a = tree Trees.arm (a.guard ∷ a.body ∷ [])
+arm_step a = tree Trees.arm a.span (a.guard ∷ a.body ∷ [])
 
 abbrev pub attr_step : AttrLevel → Tree
-attr_step a = tree (Trees.attribute a.name) (maybe a.value ∷ [])
+attr_step a = tree (Trees.attribute a.name) a.span (maybe a.value ∷ [])
 
 abbrev pub count_step : CountLevel → Tree
-count_step c = tree Trees.count (maybe c.number ∷ [])
+count_step c = tree Trees.count c.span (maybe c.number ∷ [])
 
 abbrev pub field_step : FieldLevel → Tree
-field_step f = tree Trees.field (named f.name ∷ f.base ∷ parts f.counts.items ∷ parts f.attributes.items ∷ maybe f.condition ∷ maybe f.sink ∷ parts f.hooks.items ∷ [])
+field_step f = tree (Trees.part Trees.field_part) f.span (maybe (option_map name_view f.name) ∷ f.base ∷ in_row f.counts.items ∷ in_row f.attributes.items ∷ maybe f.condition ∷ maybe f.sink ∷ in_row f.hooks.items ∷ [])
 
 abbrev pub hook_step : HookLevel → Tree
-hook_step h = tree Trees.hook (parts h.parameters.items ∷ h.body ∷ [])
+hook_step h = tree Trees.hook h.span (in_row h.parameters.items ∷ h.body ∷ [])
 
 abbrev pub hook_body_step : HookBodyLevel → Tree
-hook_body_step h = tree (Trees.hook_body h.each) (maybe h.priority ∷ h.block ∷ [])
+hook_body_step h = tree (Trees.hook_body h.each) h.span (maybe h.priority ∷ h.block ∷ [])
 
 abbrev pub unit_step : UnitLevel → Tree
-unit_step u = tree Trees.unit_type (parts u.parameters.items ∷ parts u.items.items ∷ [])
+unit_step u = type_tree Trees.unit_type u.span (in_row u.parameters.items ∷ in_row u.items.items ∷ [])
 
 abbrev pub expr_view : Expr → Tree
 expr_view = fold-Expr Tree Tree Tree Tree Tree Tree Tree Tree Tree Tree Tree Tree Tree Tree Tree Tree Tree Tree Tree Tree Tree expr_step stmt_step type_step arm_body_step base_step guard_step item_step part_step pair_step block_step branch_step case_step label_step param_step arm_step attr_step count_step field_step hook_step hook_body_step unit_step
@@ -325,20 +347,18 @@ hook_body_view = fold-HookBody Tree Tree Tree Tree Tree Tree Tree Tree Tree Tree
 abbrev pub unit_view : Unit → Tree
 unit_view = fold-Unit Tree Tree Tree Tree Tree Tree Tree Tree Tree Tree Tree Tree Tree Tree Tree Tree Tree Tree Tree Tree Tree expr_step stmt_step type_step arm_body_step base_step guard_step item_step part_step pair_step block_step branch_step case_step label_step param_step arm_step attr_step count_step field_step hook_step hook_body_step unit_step
 
--- the name of an event, if a hook is of one
-abbrev pub event_view : Option HookName → Tree
-event_view None = maybe None
-event_view (Some h) = tree (Trees.event h) []
+abbrev pub decl_tree : Trees.DeclForm → Span → List Tree → Tree
+decl_tree form = tree (Trees.decl form)
 
 abbrev pub decl_view : Decl → Tree
-decl_view (decl.Import x span) = tree Trees.import_decl (name_view x ∷ [])
-decl_view (decl.ByteOrder o span) = tree Trees.byte_order_decl (path_view o ∷ [])
-decl_view (decl.SpicyVersion x span) = tree (Trees.version_decl x) []
-decl_view (decl.Type public x t span) = tree (Trees.type_decl public) (name_view x ∷ type_view t ∷ [])
-decl_view (decl.Const public x t e span) = tree (Trees.const_decl public) (name_view x ∷ maybe (option_map type_view t) ∷ expr_view e ∷ [])
-decl_view (decl.Function public x ps t b span) = tree (Trees.function_decl public) (name_view x ∷ parts (map param_view ps.items) ∷ maybe (option_map type_view t) ∷ block_view b ∷ [])
-decl_view (decl.On p event h span) = tree Trees.on_decl (path_view p ∷ event_view event ∷ hook_view h ∷ [])
+decl_view (decl.Import x span) = decl_tree Trees.import_decl span (name_view x ∷ [])
+decl_view (decl.ByteOrder o span) = decl_tree Trees.byte_order_decl span (path_view o ∷ [])
+decl_view (decl.SpicyVersion x span) = decl_tree Trees.version_decl span (text_view x ∷ [])
+decl_view (decl.Type public x t span) = decl_tree (Trees.type_decl public) span (name_view x ∷ type_view t ∷ [])
+decl_view (decl.Const public x t e span) = decl_tree (Trees.const_decl public) span (name_view x ∷ maybe (option_map type_view t) ∷ expr_view e ∷ [])
+decl_view (decl.Function public x ps t b span) = decl_tree (Trees.function_decl public) span (name_view x ∷ in_row (map param_view ps.items) ∷ maybe (option_map type_view t) ∷ block_view b ∷ [])
+decl_view (decl.On p event h span) = decl_tree Trees.on_decl span (path_view p ∷ maybe (option_map event_view event) ∷ hook_view h ∷ [])
 
 -- the tree of a module: its name and its declarations
 abbrev pub module_view : Module → Tree
-module_view m = tree Trees.module_decl (name_view m.name ∷ parts (map decl_view m.declarations.items) ∷ [])
+module_view m = tree Trees.module_tree m.span (name_view m.name ∷ in_row (map decl_view m.declarations.items) ∷ [])

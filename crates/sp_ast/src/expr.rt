@@ -4,10 +4,10 @@
 // expressions and statements. So the types of these trees form one cycle.
 ghost use Rattle.std.specs.Prelude.{◌≡◌, ◌∷◌, [], IfOk};
 ghost use Rattle.sp_ast.specs.Spans.{expr_span};
-ghost use Rattle.sp_ast.specs.Trees.{tree, binary_expr};
+ghost use Rattle.sp_ast.specs.Trees.{tree, expr, binary_expr};
 ghost use Rattle.sp_ast.specs.Views.{expr_view};
 
-use crate::names::{Name, Path};
+use crate::names::{Name, NumberLiteral, Path};
 use crate::operators::{BinaryOp, UnaryOp};
 use crate::types::TypeTree;
 use crate::words::IntWord;
@@ -89,7 +89,7 @@ pub enum Expr {
     /// `uint8(1)`
     TypedNumber {
         word: IntWord,
-        value: u64,
+        number: NumberLiteral,
         span: Span,
     },
     /// `cast<T>(e)`
@@ -164,7 +164,7 @@ impl Expr {
         right: Expr,
         span: Span,
     ) -> Result<Expr, NoMemory>
-        ensures view { IfOk result (λ e. expr_view e ≡ tree (binary_expr op) (expr_view left ∷ expr_view right ∷ [])) }
+        ensures view { IfOk result (λ e. expr_view e ≡ tree (expr (binary_expr op)) span (expr_view left ∷ expr_view right ∷ [])) }
         ensures span { IfOk result (λ e. expr_span e ≡ span) }
     {
         let left = Box::new(alloc, left)?;
@@ -218,4 +218,5 @@ impl Expr {
 pub struct Pair {
     pub key: Expr,
     pub value: Expr,
+    pub span: Span,
 }

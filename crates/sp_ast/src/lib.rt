@@ -12,7 +12,7 @@ mod words;
 
 pub use expr::{Expr, Pair};
 pub use module::{Decl, Module};
-pub use names::{Name, Path};
+pub use names::{EventName, Name, NumberLiteral, Path, TextLiteral};
 pub use operators::{AssignOp, BinaryOp, UnaryOp};
 pub use stmt::{Block, Branch, Case, Stmt};
 pub use types::{BitRange, Label, Param, TypeTree};

@@ -1,11 +1,10 @@
 // Modules and their declarations.
 use crate::expr::Expr;
-use crate::names::{Name, Path};
+use crate::names::{EventName, Name, Path, TextLiteral};
 use crate::stmt::Block;
 use crate::types::{Param, TypeTree};
 use crate::unit::Hook;
-use crate::words::HookName;
-use sp_base::{Span, Text};
+use sp_base::Span;
 
 /// A module: its name, and its declarations in order.
 #[derive(Drop)]
@@ -30,7 +29,7 @@ pub enum Decl {
     },
     /// `%spicy-version = "text";`
     SpicyVersion {
-        text: Text,
+        text: TextLiteral,
         span: Span,
     },
     /// `public type T = ..;`
@@ -60,7 +59,7 @@ pub enum Decl {
     /// `on U::field { .. }`, `on M::U::%init { .. }`
     On {
         path: Path,
-        event: Option<HookName>,
+        event: Option<EventName>,
         hook: Hook,
         span: Span,
     },

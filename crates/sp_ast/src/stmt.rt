@@ -1,9 +1,9 @@
 // Statements.
 use crate::expr::Expr;
-use crate::names::Name;
+use crate::names::{Name, TextLiteral};
 use crate::operators::AssignOp;
 use crate::types::TypeTree;
-use sp_base::{Span, Text};
+use sp_base::Span;
 
 /// A statement.
 ///
@@ -75,7 +75,7 @@ pub enum Stmt {
     /// `assert e;`, `assert e : "text";`
     Assert {
         condition: Expr,
-        message: Option<Text>,
+        message: Option<TextLiteral>,
         span: Span,
     },
     /// `add e;`
@@ -116,6 +116,7 @@ pub struct Block {
 pub struct Branch {
     pub condition: Expr,
     pub body: Stmt,
+    pub span: Span,
 }
 
 /// Values of a `switch`, one or more, and what is done at one of them.

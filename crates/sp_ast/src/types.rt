@@ -1,6 +1,6 @@
 // Types.
 use crate::expr::Expr;
-use crate::names::{Name, Path};
+use crate::names::{Name, NumberLiteral, Path};
 use crate::unit::Unit;
 use crate::words::IntWord;
 use sp_base::Span;
@@ -54,8 +54,7 @@ pub enum TypeTree {
     },
     /// `bitfield(8) { a: 0..3; }`
     Bitfield {
-        width: u64,
-        width_span: Span,
+        width: NumberLiteral,
         ranges: Vec<BitRange>,
         span: Span,
     },
@@ -76,10 +75,8 @@ pub struct Label {
 #[derive(Drop)]
 pub struct BitRange {
     pub name: Name,
-    pub first: u64,
-    pub first_span: Span,
-    pub last: Option<u64>,
-    pub last_span: Span,
+    pub first: NumberLiteral,
+    pub last: Option<NumberLiteral>,
     pub span: Span,
 }
 

@@ -1,9 +1,9 @@
 // Units: their items, fields and hooks.
 use crate::expr::Expr;
-use crate::names::{Name, Path};
+use crate::names::{EventName, Name, NumberLiteral, Path, TextLiteral};
 use crate::stmt::Block;
 use crate::types::{Param, TypeTree};
-use crate::words::{AttributeName, HookName, IntWord};
+use crate::words::{AttributeName, IntWord};
 use sp_base::{ByteList, Span, Text};
 
 /// A unit: its parameters, and its items in order.
@@ -30,12 +30,12 @@ pub enum Item {
     },
     /// `%mime-type = "text";`
     MimeType {
-        text: Text,
+        text: TextLiteral,
         span: Span,
     },
     /// `%description = "text";`
     Description {
-        text: Text,
+        text: TextLiteral,
         span: Span,
     },
     /// `var x: T = e;`
@@ -89,9 +89,12 @@ pub enum Guard {
     /// `*`: where no other arm is.
     Otherwise(Span),
     /// At one of these values, of which there is one or more.
-    Values(Vec<Expr>),
-    /// Where the input goes on with a token of this arm.
-    LookAhead,
+    Values {
+        values: Vec<Expr>,
+        span: Span,
+    },
+    /// Where the input goes on with a token of this arm. It stands on the arm's `->`.
+    LookAhead(Span),
 }
 
 /// What an arm reads.
@@ -99,11 +102,17 @@ pub enum Guard {
 #[cycle(tree)]
 pub enum ArmBody {
     /// `;`
-    Nothing,
+    Nothing(Span),
     /// One part.
-    One(Box<Part>),
+    One {
+        part: Box<Part>,
+        span: Span,
+    },
     /// Parts in braces.
-    Many(Vec<Part>),
+    Many {
+        parts: Vec<Part>,
+        span: Span,
+    },
 }
 
 /// A field of a unit.
@@ -144,7 +153,7 @@ pub enum Base {
     /// `uint8(1)`
     Number {
         word: IntWord,
-        value: u64,
+        number: NumberLiteral,
         span: Span,
     },
     /// `( base [n] attributes )`
@@ -177,7 +186,7 @@ pub struct Attr {
 #[derive(Drop)]
 pub enum HookTarget {
     Name(Name),
-    Event { name: HookName, span: Span },
+    Event(EventName),
 }
 
 /// A hook: its parameters, and what it does.
@@ -186,6 +195,7 @@ pub enum HookTarget {
 pub struct Hook {
     pub parameters: Vec<Param>,
     pub body: HookBody,
+    pub span: Span,
 }
 
 /// What a hook does, whether at each element, and with which priority.

@@ -1,3 +1,4 @@
+mod MarkNumbers
 pub mod OwnWords
 pub mod Recursion
 pub mod Spans

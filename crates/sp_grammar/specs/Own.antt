@@ -65,10 +65,10 @@ alternatives Part.Field =
     ∷ []
 alternatives Part.Base =
     alternative (mark build.Begin ∷ part Part.Path ∷ kind token.LeftParen ∷ mark build.Begin ∷ part Part.Args ∷ kind token.RightParen ∷ mark build.Row ∷ mark build.UnitBase ∷ [])
-    ∷ alternative (mark build.Begin ∷ part Part.Path ∷ mark build.PathBase ∷ [])
+    ∷ alternative (mark build.Begin ∷ part Part.Path ∷ mark build.PathType ∷ mark build.TypeBase ∷ [])
     ∷ alternative (mark build.Begin ∷ kind token.IntWord ∷ kind token.LeftParen ∷ mark build.Number ∷ kind token.Number ∷ kind token.RightParen ∷ mark build.NumberBase ∷ [])
-    ∷ alternative (mark build.Begin ∷ kind token.IntWord ∷ mark build.IntBase ∷ [])
-    ∷ alternative (mark build.Begin ∷ part Part.Plain ∷ mark build.TypeBase ∷ [])
+    ∷ alternative (mark build.Begin ∷ kind token.IntWord ∷ mark build.IntBase ∷ mark build.TypeBase ∷ [])
+    ∷ alternative (part Part.Plain ∷ mark build.TypeBase ∷ [])
     ∷ alternative (mark build.BytesBase ∷ kind token.ByteText ∷ [])
     ∷ alternative (mark build.RegexBase ∷ kind token.Regex ∷ [])
     ∷ alternative (mark build.Begin ∷ kind token.LeftParen ∷ part Part.Base ∷ mark build.Begin ∷ part Part.Counts ∷ mark build.Row ∷ mark build.Begin ∷ part Part.Attrs ∷ mark build.Row ∷ kind token.RightParen ∷ mark build.GroupBase ∷ [])
@@ -80,7 +80,7 @@ alternatives Part.OptElse =
     ∷ unless_before token.Else (mark build.Row ∷ mark build.Absent ∷ mark build.IfStmt ∷ [])
     ∷ []
 alternatives Part.Other =
-    alternative (part Part.Block ∷ [])
+    alternative (part Part.Block ∷ mark build.BlockStmt ∷ [])
     ∷ alternative (mark build.Begin ∷ kind token.Local ∷ mark build.Name ∷ kind token.Id ∷ kind token.Colon ∷ part Part.TypeTree ∷ part Part.OptValue ∷ kind token.Semicolon ∷ mark build.LocalStmt ∷ [])
     ∷ alternative (mark build.Begin ∷ kind token.Local ∷ mark build.Name ∷ kind token.Id ∷ mark build.Absent ∷ kind token.Equal ∷ part Part.Expr ∷ kind token.Semicolon ∷ mark build.LocalStmt ∷ [])
     ∷ alternative (mark build.Begin ∷ kind token.While ∷ kind token.LeftParen ∷ part Part.Expr ∷ kind token.RightParen ∷ part Part.Stmt ∷ mark build.WhileStmt ∷ [])

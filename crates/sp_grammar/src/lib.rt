@@ -11,6 +11,6 @@ mod tests;
 
 pub use language::{Language, Start, kinds_of, parse_kinds};
 pub use laws::{grammar_is_unambiguous, table_is_written, table_reads_the_grammar};
-pub use marks::Mark;
+pub use marks::{Mark, mark_of};
 pub use tables::{ROWS, SPANS, SYMBOLS};
 pub use terminals::Terminal;

@@ -4,7 +4,7 @@ use sp_parser::{Row, Span, Symbol};
 
 /// The right sides of the productions, one after another.
 #[rattlefmt::skip]
-pub static SYMBOLS: [Symbol; 897] = [
+pub static SYMBOLS: [Symbol; 902] = [
     Mark(0), Terminal(0), Mark(1), Terminal(1), Terminal(2), Mark(0),
     Nonterminal(1), Mark(2), Mark(3), Nonterminal(2), Nonterminal(1), Mark(0),
     Terminal(3), Mark(1), Terminal(1), Terminal(2), Mark(4), Mark(0),
@@ -40,121 +40,122 @@ pub static SYMBOLS: [Symbol; 897] = [
     Mark(31), Mark(0), Terminal(31), Terminal(28), Nonterminal(16), Terminal(20),
     Nonterminal(16), Terminal(123), Mark(32), Mark(0), Terminal(32), Terminal(33),
     Nonterminal(19), Nonterminal(21), Terminal(34), Mark(33), Mark(0), Terminal(35),
-    Terminal(12), Mark(34), Terminal(36), Terminal(13), Terminal(33), Nonterminal(23),
-    Terminal(34), Mark(35), Mark(0), Terminal(37), Nonterminal(9), Terminal(33),
-    Mark(0), Nonterminal(26), Mark(2), Terminal(34), Mark(36), Terminal(20),
-    Nonterminal(16), Nonterminal(18), Mark(0), Mark(1), Terminal(1), Nonterminal(20),
-    Mark(37), Terminal(5), Nonterminal(64), Mark(16), Terminal(20), Nonterminal(22),
-    Nonterminal(19), Nonterminal(21), Nonterminal(24), Nonterminal(23), Mark(0), Mark(1),
-    Terminal(1), Terminal(17), Mark(34), Terminal(36), Nonterminal(25), Terminal(2),
-    Mark(38), Terminal(38), Mark(34), Terminal(36), Mark(16), Nonterminal(27),
-    Nonterminal(26), Mark(0), Terminal(39), Terminal(2), Mark(39), Mark(0),
-    Terminal(4), Terminal(5), Nonterminal(11), Terminal(2), Mark(40), Mark(0),
-    Terminal(40), Terminal(5), Mark(6), Terminal(7), Terminal(2), Mark(41),
-    Mark(0), Terminal(41), Terminal(5), Mark(6), Terminal(7), Terminal(2),
-    Mark(42), Mark(0), Terminal(42), Mark(1), Terminal(1), Terminal(17),
-    Nonterminal(16), Nonterminal(20), Terminal(2), Mark(43), Mark(0), Terminal(43),
-    Mark(1), Terminal(1), Terminal(2), Mark(44), Mark(0), Terminal(14),
-    Nonterminal(28), Nonterminal(7), Nonterminal(29), Mark(45), Nonterminal(30), Mark(1),
-    Terminal(1), Mark(17), Terminal(16), Terminal(2), Nonterminal(37), Mark(0),
-    Terminal(44), Nonterminal(31), Terminal(12), Nonterminal(64), Terminal(13), Terminal(33),
-    Mark(0), Nonterminal(32), Mark(2), Terminal(34), Nonterminal(29), Mark(46),
-    Mark(16), Terminal(33), Mark(0), Nonterminal(34), Mark(2), Terminal(34),
-    Nonterminal(29), Mark(46), Nonterminal(33), Nonterminal(32), Mark(0), Mark(47),
-    Terminal(45), Terminal(46), Nonterminal(35), Mark(48), Mark(0), Mark(0),
-    Nonterminal(64), Nonterminal(51), Mark(49), Terminal(46), Nonterminal(35), Mark(48),
-    Mark(0), Mark(50), Terminal(46), Nonterminal(35), Mark(48), Nonterminal(34),
-    Mark(51), Terminal(2), Mark(0), Nonterminal(30), Mark(52), Mark(0),
-    Terminal(33), Nonterminal(36), Terminal(34), Nonterminal(29), Mark(53), Nonterminal(30),
-    Nonterminal(36), Mark(0), Mark(1), Terminal(1), Nonterminal(38), Mark(0),
-    Mark(16), Nonterminal(38), Terminal(17), Nonterminal(47), Mark(0), Nonterminal(39),
-    Mark(2), Mark(0), Nonterminal(41), Mark(2), Nonterminal(42), Nonterminal(43),
-    Nonterminal(44), Mark(54), Mark(0), Terminal(47), Nonterminal(40), Terminal(48),
-    Mark(55), Nonterminal(39), Nonterminal(64), Mark(16), Mark(0), Terminal(49),
-    Nonterminal(20), Mark(56), Nonterminal(41), Terminal(50), Terminal(12), Nonterminal(64),
-    Terminal(13), Mark(16), Terminal(46), Nonterminal(64), Mark(16), Mark(0),
-    Terminal(2), Mark(2), Mark(0), Nonterminal(46), Nonterminal(45), Nonterminal(29),
-    Mark(2), Nonterminal(46), Nonterminal(45), Mark(0), Terminal(18), Nonterminal(10),
-    Nonterminal(52), Mark(19), Mark(0), Terminal(19), Terminal(5), Nonterminal(64),
-    Nonterminal(52), Mark(20), Mark(0), Mark(16), Nonterminal(52), Mark(20),
-    Mark(0), Nonterminal(11), Nonterminal(48), Mark(0), Terminal(22), Nonterminal(49),
-    Mark(0), Nonterminal(17), Mark(57), Mark(58), Terminal(51), Mark(59),
-    Terminal(52), Mark(0), Terminal(12), Nonterminal(47), Mark(0), Nonterminal(39),
-    Mark(2), Mark(0), Nonterminal(41), Mark(2), Terminal(13), Mark(60),
-    Terminal(12), Mark(0), Nonterminal(50), Terminal(13), Mark(2), Mark(61),
-    Mark(62), Terminal(12), Mark(34), Terminal(36), Terminal(13), Mark(63),
-    Mark(64), Nonterminal(64), Nonterminal(51), Terminal(20), Nonterminal(64), Nonterminal(51),
-    Mark(0), Terminal(33), Nonterminal(53), Terminal(34), Mark(65), Nonterminal(54),
-    Nonterminal(53), Mark(0), Terminal(50), Mark(0), Nonterminal(55), Nonterminal(56),
-    Nonterminal(58), Mark(0), Terminal(12), Nonterminal(64), Terminal(13), Nonterminal(54),
-    Mark(66), Terminal(53), Nonterminal(57), Mark(2), Mark(16), Mark(67),
-    Terminal(50), Nonterminal(55), Nonterminal(56), Mark(2), Nonterminal(58), Mark(67),
-    Nonterminal(52), Mark(0), Terminal(54), Mark(1), Terminal(1), Nonterminal(59),
-    Terminal(2), Mark(68), Mark(0), Terminal(55), Terminal(12), Nonterminal(64),
-    Terminal(13), Nonterminal(54), Mark(69), Mark(0), Terminal(56), Terminal(12),
-    Mark(1), Terminal(1), Terminal(57), Nonterminal(64), Terminal(13), Nonterminal(54),
-    Mark(70), Mark(0), Terminal(44), Terminal(12), Nonterminal(64), Terminal(13),
-    Terminal(33), Mark(0), Nonterminal(60), Mark(2), Nonterminal(61), Terminal(34),
-    Mark(71), Mark(0), Terminal(58), Nonterminal(40), Terminal(2), Mark(72),
-    Mark(0), Terminal(59), Terminal(2), Mark(73), Mark(0), Terminal(60),
-    Terminal(2), Mark(74), Mark(0), Terminal(61), Terminal(2), Mark(75),
-    Mark(0), Terminal(62), Terminal(2), Mark(76), Mark(0), Terminal(63),
-    Terminal(2), Mark(77), Mark(0), Terminal(64), Nonterminal(64), Nonterminal(51),
-    Terminal(2), Mark(78), Mark(0), Terminal(65), Nonterminal(64), Terminal(2),
-    Mark(79), Mark(0), Terminal(66), Nonterminal(64), Nonterminal(62), Terminal(2),
-    Mark(80), Mark(0), Terminal(67), Nonterminal(64), Terminal(2), Mark(81),
-    Mark(0), Terminal(68), Nonterminal(64), Terminal(2), Mark(82), Mark(0),
-    Nonterminal(64), Nonterminal(63), Terminal(17), Nonterminal(16), Nonterminal(20), Mark(16),
-    Terminal(5), Nonterminal(64), Mark(0), Terminal(69), Mark(0), Nonterminal(64),
-    Nonterminal(51), Mark(2), Terminal(17), Nonterminal(54), Mark(83), Nonterminal(60),
-    Terminal(70), Terminal(17), Nonterminal(54), Mark(16), Terminal(17), Mark(6),
-    Terminal(7), Mark(16), Terminal(5), Nonterminal(64), Terminal(2), Mark(84),
-    Terminal(71), Nonterminal(64), Terminal(2), Mark(85), Terminal(72), Nonterminal(64),
-    Terminal(2), Mark(86), Terminal(2), Mark(87), Nonterminal(66), Nonterminal(65),
-    Terminal(73), Nonterminal(64), Terminal(17), Nonterminal(64), Mark(88), Nonterminal(68),
-    Nonterminal(67), Terminal(74), Nonterminal(68), Mark(89), Nonterminal(67), Nonterminal(70),
-    Nonterminal(69), Terminal(75), Nonterminal(70), Mark(90), Nonterminal(69), Nonterminal(72),
-    Nonterminal(71), Terminal(57), Nonterminal(72), Mark(91), Nonterminal(71), Terminal(76),
-    Nonterminal(72), Mark(92), Nonterminal(71), Nonterminal(74), Nonterminal(73), Terminal(77),
-    Nonterminal(74), Mark(93), Nonterminal(73), Terminal(78), Nonterminal(74), Mark(94),
-    Nonterminal(73), Nonterminal(76), Nonterminal(75), Terminal(28), Nonterminal(76), Mark(95),
-    Nonterminal(75), Terminal(79), Nonterminal(76), Mark(96), Nonterminal(75), Terminal(120),
-    Nonterminal(76), Mark(97), Nonterminal(75), Terminal(80), Nonterminal(76), Mark(98),
-    Nonterminal(75), Nonterminal(78), Nonterminal(77), Terminal(81), Nonterminal(78), Mark(99),
-    Nonterminal(77), Nonterminal(80), Nonterminal(79), Terminal(82), Nonterminal(80), Mark(100),
-    Nonterminal(79), Nonterminal(82), Nonterminal(81), Terminal(83), Nonterminal(82), Mark(101),
-    Nonterminal(81), Nonterminal(84), Nonterminal(83), Terminal(84), Nonterminal(84), Mark(102),
-    Nonterminal(83), Terminal(121), Nonterminal(84), Mark(103), Nonterminal(83), Nonterminal(86),
-    Nonterminal(85), Terminal(85), Nonterminal(86), Mark(104), Nonterminal(85), Terminal(86),
-    Nonterminal(86), Mark(105), Nonterminal(85), Nonterminal(88), Nonterminal(87), Terminal(45),
-    Nonterminal(88), Mark(106), Nonterminal(87), Terminal(87), Nonterminal(88), Mark(107),
-    Nonterminal(87), Terminal(88), Nonterminal(88), Mark(108), Nonterminal(87), Mark(0),
-    Terminal(89), Nonterminal(88), Mark(109), Mark(0), Terminal(86), Nonterminal(88),
-    Mark(110), Mark(0), Terminal(90), Nonterminal(88), Mark(111), Nonterminal(91),
-    Nonterminal(89), Terminal(91), Nonterminal(90), Mark(112), Nonterminal(89), Terminal(92),
-    Mark(1), Terminal(1), Mark(113), Nonterminal(89), Terminal(47), Nonterminal(64),
-    Terminal(48), Mark(114), Nonterminal(89), Terminal(12), Mark(0), Nonterminal(50),
-    Terminal(13), Mark(2), Mark(115), Nonterminal(89), Mark(1), Terminal(1),
-    Mark(1), Terminal(93), Mark(0), Nonterminal(11), Mark(116), Mark(117),
-    Terminal(94), Mark(118), Terminal(95), Mark(119), Terminal(36), Mark(120),
-    Terminal(7), Mark(121), Terminal(51), Mark(122), Terminal(52), Mark(123),
-    Terminal(96), Mark(124), Terminal(97), Mark(0), Terminal(12), Nonterminal(64),
-    Nonterminal(92), Mark(0), Terminal(47), Nonterminal(64), Nonterminal(51), Terminal(48),
-    Mark(125), Mark(0), Terminal(30), Nonterminal(93), Mark(0), Terminal(31),
-    Nonterminal(94), Mark(0), Terminal(29), Terminal(28), Nonterminal(16), Terminal(123),
-    Terminal(12), Terminal(13), Mark(126), Mark(0), Terminal(22), Terminal(12),
-    Mark(34), Terminal(36), Terminal(13), Mark(127), Mark(0), Terminal(98),
-    Terminal(28), Nonterminal(16), Terminal(123), Terminal(12), Nonterminal(64), Terminal(13),
-    Mark(128), Mark(0), Terminal(99), Nonterminal(11), Nonterminal(97), Mark(129),
-    Mark(0), Terminal(81), Nonterminal(78), Terminal(81), Mark(130), Terminal(13),
-    Mark(131), Terminal(20), Nonterminal(64), Nonterminal(51), Terminal(13), Mark(132),
-    Terminal(12), Nonterminal(64), Nonterminal(51), Terminal(13), Mark(133), Terminal(28),
-    Nonterminal(16), Terminal(123), Terminal(12), Terminal(13), Mark(134), Terminal(12),
-    Nonterminal(96), Nonterminal(95), Terminal(13), Mark(135), Terminal(28), Nonterminal(16),
-    Terminal(20), Nonterminal(16), Terminal(123), Terminal(12), Terminal(13), Mark(136),
-    Terminal(20), Nonterminal(96), Nonterminal(95), Mark(0), Nonterminal(64), Terminal(17),
-    Nonterminal(64), Mark(137), Terminal(12), Mark(0), Nonterminal(50), Terminal(13),
-    Mark(2), Mark(0), Mark(2),
+    Terminal(12), Mark(34), Terminal(36), Terminal(13), Terminal(33), Mark(0),
+    Nonterminal(23), Mark(2), Terminal(34), Mark(35), Mark(0), Terminal(37),
+    Nonterminal(9), Terminal(33), Mark(0), Nonterminal(26), Mark(2), Terminal(34),
+    Mark(36), Terminal(20), Nonterminal(16), Nonterminal(18), Mark(0), Mark(1),
+    Terminal(1), Nonterminal(20), Mark(37), Terminal(5), Nonterminal(64), Mark(16),
+    Terminal(20), Nonterminal(22), Nonterminal(19), Nonterminal(21), Nonterminal(24), Nonterminal(23),
+    Mark(0), Mark(1), Terminal(1), Terminal(17), Mark(34), Terminal(36),
+    Nonterminal(25), Terminal(2), Mark(38), Terminal(38), Mark(34), Terminal(36),
+    Mark(16), Nonterminal(27), Nonterminal(26), Mark(0), Terminal(39), Terminal(2),
+    Mark(39), Mark(0), Terminal(4), Terminal(5), Nonterminal(11), Terminal(2),
+    Mark(40), Mark(0), Terminal(40), Terminal(5), Mark(6), Terminal(7),
+    Terminal(2), Mark(41), Mark(0), Terminal(41), Terminal(5), Mark(6),
+    Terminal(7), Terminal(2), Mark(42), Mark(0), Terminal(42), Mark(1),
+    Terminal(1), Terminal(17), Nonterminal(16), Nonterminal(20), Terminal(2), Mark(43),
+    Mark(0), Terminal(43), Mark(1), Terminal(1), Terminal(2), Mark(44),
+    Mark(0), Terminal(14), Nonterminal(28), Nonterminal(7), Nonterminal(29), Mark(45),
+    Nonterminal(30), Mark(46), Mark(47), Terminal(1), Mark(48), Terminal(16),
+    Terminal(2), Nonterminal(37), Mark(0), Terminal(44), Nonterminal(31), Terminal(12),
+    Nonterminal(64), Terminal(13), Terminal(33), Mark(0), Nonterminal(32), Mark(2),
+    Terminal(34), Nonterminal(29), Mark(49), Mark(16), Terminal(33), Mark(0),
+    Nonterminal(34), Mark(2), Terminal(34), Nonterminal(29), Mark(49), Nonterminal(33),
+    Nonterminal(32), Mark(0), Mark(50), Terminal(45), Terminal(46), Nonterminal(35),
+    Mark(51), Mark(0), Mark(0), Nonterminal(64), Nonterminal(51), Mark(52),
+    Terminal(46), Nonterminal(35), Mark(51), Mark(0), Mark(53), Terminal(46),
+    Nonterminal(35), Mark(51), Nonterminal(34), Mark(54), Terminal(2), Mark(0),
+    Nonterminal(30), Mark(55), Mark(0), Terminal(33), Nonterminal(36), Terminal(34),
+    Nonterminal(29), Mark(56), Nonterminal(30), Nonterminal(36), Mark(0), Mark(1),
+    Terminal(1), Nonterminal(38), Mark(0), Mark(16), Nonterminal(38), Terminal(17),
+    Nonterminal(47), Mark(0), Nonterminal(39), Mark(2), Mark(0), Nonterminal(41),
+    Mark(2), Nonterminal(42), Nonterminal(43), Nonterminal(44), Mark(57), Mark(0),
+    Terminal(47), Nonterminal(40), Terminal(48), Mark(58), Nonterminal(39), Nonterminal(64),
+    Mark(16), Mark(0), Terminal(49), Nonterminal(20), Mark(59), Nonterminal(41),
+    Terminal(50), Terminal(12), Nonterminal(64), Terminal(13), Mark(16), Terminal(46),
+    Nonterminal(64), Mark(16), Mark(0), Terminal(2), Mark(2), Mark(0),
+    Nonterminal(46), Nonterminal(45), Nonterminal(29), Mark(2), Nonterminal(46), Nonterminal(45),
+    Mark(0), Terminal(18), Nonterminal(10), Nonterminal(52), Mark(19), Mark(0),
+    Terminal(19), Terminal(5), Nonterminal(64), Nonterminal(52), Mark(20), Mark(0),
+    Mark(16), Nonterminal(52), Mark(20), Mark(0), Nonterminal(11), Nonterminal(48),
+    Mark(0), Terminal(22), Nonterminal(49), Nonterminal(17), Mark(60), Mark(61),
+    Terminal(51), Mark(62), Terminal(52), Mark(0), Terminal(12), Nonterminal(47),
+    Mark(0), Nonterminal(39), Mark(2), Mark(0), Nonterminal(41), Mark(2),
+    Terminal(13), Mark(63), Terminal(12), Mark(0), Nonterminal(50), Terminal(13),
+    Mark(2), Mark(64), Mark(23), Mark(60), Terminal(12), Mark(34),
+    Terminal(36), Terminal(13), Mark(65), Mark(66), Mark(60), Nonterminal(64),
+    Nonterminal(51), Terminal(20), Nonterminal(64), Nonterminal(51), Mark(0), Terminal(33),
+    Nonterminal(53), Terminal(34), Mark(67), Nonterminal(54), Nonterminal(53), Mark(0),
+    Terminal(50), Mark(0), Nonterminal(55), Nonterminal(56), Nonterminal(58), Mark(0),
+    Terminal(12), Nonterminal(64), Terminal(13), Nonterminal(54), Mark(68), Terminal(53),
+    Nonterminal(57), Mark(2), Mark(16), Mark(69), Terminal(50), Nonterminal(55),
+    Nonterminal(56), Mark(2), Nonterminal(58), Mark(69), Nonterminal(52), Mark(70),
+    Mark(0), Terminal(54), Mark(1), Terminal(1), Nonterminal(59), Terminal(2),
+    Mark(71), Mark(0), Terminal(55), Terminal(12), Nonterminal(64), Terminal(13),
+    Nonterminal(54), Mark(72), Mark(0), Terminal(56), Terminal(12), Mark(1),
+    Terminal(1), Terminal(57), Nonterminal(64), Terminal(13), Nonterminal(54), Mark(73),
+    Mark(0), Terminal(44), Terminal(12), Nonterminal(64), Terminal(13), Terminal(33),
+    Mark(0), Nonterminal(60), Mark(2), Nonterminal(61), Terminal(34), Mark(74),
+    Mark(0), Terminal(58), Nonterminal(40), Terminal(2), Mark(75), Mark(0),
+    Terminal(59), Terminal(2), Mark(76), Mark(0), Terminal(60), Terminal(2),
+    Mark(77), Mark(0), Terminal(61), Terminal(2), Mark(78), Mark(0),
+    Terminal(62), Terminal(2), Mark(79), Mark(0), Terminal(63), Terminal(2),
+    Mark(80), Mark(0), Terminal(64), Nonterminal(64), Nonterminal(51), Terminal(2),
+    Mark(81), Mark(0), Terminal(65), Nonterminal(64), Terminal(2), Mark(82),
+    Mark(0), Terminal(66), Nonterminal(64), Nonterminal(62), Terminal(2), Mark(83),
+    Mark(0), Terminal(67), Nonterminal(64), Terminal(2), Mark(84), Mark(0),
+    Terminal(68), Nonterminal(64), Terminal(2), Mark(85), Mark(0), Nonterminal(64),
+    Nonterminal(63), Terminal(17), Nonterminal(16), Nonterminal(20), Mark(16), Terminal(5),
+    Nonterminal(64), Mark(0), Terminal(69), Mark(0), Nonterminal(64), Nonterminal(51),
+    Mark(2), Terminal(17), Nonterminal(54), Mark(86), Nonterminal(60), Terminal(70),
+    Terminal(17), Nonterminal(54), Mark(16), Terminal(17), Mark(6), Terminal(7),
+    Mark(16), Terminal(5), Nonterminal(64), Terminal(2), Mark(87), Terminal(71),
+    Nonterminal(64), Terminal(2), Mark(88), Terminal(72), Nonterminal(64), Terminal(2),
+    Mark(89), Terminal(2), Mark(90), Nonterminal(66), Nonterminal(65), Terminal(73),
+    Nonterminal(64), Terminal(17), Nonterminal(64), Mark(91), Nonterminal(68), Nonterminal(67),
+    Terminal(74), Nonterminal(68), Mark(92), Nonterminal(67), Nonterminal(70), Nonterminal(69),
+    Terminal(75), Nonterminal(70), Mark(93), Nonterminal(69), Nonterminal(72), Nonterminal(71),
+    Terminal(57), Nonterminal(72), Mark(94), Nonterminal(71), Terminal(76), Nonterminal(72),
+    Mark(95), Nonterminal(71), Nonterminal(74), Nonterminal(73), Terminal(77), Nonterminal(74),
+    Mark(96), Nonterminal(73), Terminal(78), Nonterminal(74), Mark(97), Nonterminal(73),
+    Nonterminal(76), Nonterminal(75), Terminal(28), Nonterminal(76), Mark(98), Nonterminal(75),
+    Terminal(79), Nonterminal(76), Mark(99), Nonterminal(75), Terminal(120), Nonterminal(76),
+    Mark(100), Nonterminal(75), Terminal(80), Nonterminal(76), Mark(101), Nonterminal(75),
+    Nonterminal(78), Nonterminal(77), Terminal(81), Nonterminal(78), Mark(102), Nonterminal(77),
+    Nonterminal(80), Nonterminal(79), Terminal(82), Nonterminal(80), Mark(103), Nonterminal(79),
+    Nonterminal(82), Nonterminal(81), Terminal(83), Nonterminal(82), Mark(104), Nonterminal(81),
+    Nonterminal(84), Nonterminal(83), Terminal(84), Nonterminal(84), Mark(105), Nonterminal(83),
+    Terminal(121), Nonterminal(84), Mark(106), Nonterminal(83), Nonterminal(86), Nonterminal(85),
+    Terminal(85), Nonterminal(86), Mark(107), Nonterminal(85), Terminal(86), Nonterminal(86),
+    Mark(108), Nonterminal(85), Nonterminal(88), Nonterminal(87), Terminal(45), Nonterminal(88),
+    Mark(109), Nonterminal(87), Terminal(87), Nonterminal(88), Mark(110), Nonterminal(87),
+    Terminal(88), Nonterminal(88), Mark(111), Nonterminal(87), Mark(0), Terminal(89),
+    Nonterminal(88), Mark(112), Mark(0), Terminal(86), Nonterminal(88), Mark(113),
+    Mark(0), Terminal(90), Nonterminal(88), Mark(114), Nonterminal(91), Nonterminal(89),
+    Terminal(91), Nonterminal(90), Mark(115), Nonterminal(89), Terminal(92), Mark(1),
+    Terminal(1), Mark(116), Nonterminal(89), Terminal(47), Nonterminal(64), Terminal(48),
+    Mark(117), Nonterminal(89), Terminal(12), Mark(0), Nonterminal(50), Terminal(13),
+    Mark(2), Mark(118), Nonterminal(89), Mark(1), Terminal(1), Mark(1),
+    Terminal(93), Mark(0), Nonterminal(11), Mark(119), Mark(120), Terminal(94),
+    Mark(121), Terminal(95), Mark(122), Terminal(36), Mark(123), Terminal(7),
+    Mark(124), Terminal(51), Mark(125), Terminal(52), Mark(126), Terminal(96),
+    Mark(127), Terminal(97), Mark(0), Terminal(12), Nonterminal(64), Nonterminal(92),
+    Mark(0), Terminal(47), Nonterminal(64), Nonterminal(51), Terminal(48), Mark(128),
+    Mark(0), Terminal(30), Nonterminal(93), Mark(0), Terminal(31), Nonterminal(94),
+    Mark(0), Terminal(29), Terminal(28), Nonterminal(16), Terminal(123), Terminal(12),
+    Terminal(13), Mark(129), Mark(0), Terminal(22), Terminal(12), Mark(34),
+    Terminal(36), Terminal(13), Mark(130), Mark(0), Terminal(98), Terminal(28),
+    Nonterminal(16), Terminal(123), Terminal(12), Nonterminal(64), Terminal(13), Mark(131),
+    Mark(0), Terminal(99), Nonterminal(11), Nonterminal(97), Mark(132), Mark(0),
+    Terminal(81), Nonterminal(78), Terminal(81), Mark(133), Terminal(13), Mark(134),
+    Terminal(20), Nonterminal(64), Nonterminal(51), Terminal(13), Mark(135), Terminal(12),
+    Nonterminal(64), Nonterminal(51), Terminal(13), Mark(136), Terminal(28), Nonterminal(16),
+    Terminal(123), Terminal(12), Terminal(13), Mark(137), Terminal(12), Nonterminal(96),
+    Nonterminal(95), Terminal(13), Mark(138), Terminal(28), Nonterminal(16), Terminal(20),
+    Nonterminal(16), Terminal(123), Terminal(12), Terminal(13), Mark(139), Terminal(20),
+    Nonterminal(96), Nonterminal(95), Mark(0), Nonterminal(64), Terminal(17), Nonterminal(64),
+    Mark(140), Terminal(12), Mark(0), Nonterminal(50), Terminal(13), Mark(2),
+    Mark(0), Mark(2),
 ];
 
 /// The productions.
@@ -208,209 +209,209 @@ pub static ROWS: [Row; 251] = [
     Row { select: 0x40000000, avoid: 0x0, from: 187, to: 193 }, // Plain = @begin set < TypeTree CLOSE @set_type
     Row { select: 0x80000000, avoid: 0x0, from: 193, to: 201 }, // Plain = @begin map < TypeTree , TypeTree CLOSE @map_type
     Row { select: 0x100000000, avoid: 0x0, from: 201, to: 208 }, // Plain = @begin enum { Label Labels } @enum_type
-    Row { select: 0x800000000, avoid: 0x0, from: 208, to: 218 }, // Plain = @begin bitfield ( @number NUM ) { Ranges } @bitfield_type
-    Row { select: 0x2000000000, avoid: 0x0, from: 218, to: 227 }, // Plain = @begin unit OptParen { @begin Items @row } @unit_type
-    Row { select: 0x100000, avoid: 0x0, from: 227, to: 230 }, // Types = , TypeTree Types
-    Row { select: 0x7000000000000000000000000000000, avoid: 0x0, from: 230, to: 230 }, // Types = nothing
-    Row { select: 0x2, avoid: 0x0, from: 230, to: 235 }, // Label = @begin @name ID OptValue @label
-    Row { select: 0x20, avoid: 0x0, from: 235, to: 237 }, // OptValue = = Expr
-    Row { select: 0x64006001c2004, avoid: 0x0, from: 237, to: 238 }, // OptValue = @absent
-    Row { select: 0x100000, avoid: 0x0, from: 238, to: 240 }, // Labels = , MoreLabels
-    Row { select: 0x400000000, avoid: 0x0, from: 240, to: 240 }, // Labels = nothing
-    Row { select: 0x2, avoid: 0x0, from: 240, to: 242 }, // MoreLabels = Label Labels
-    Row { select: 0x400000000, avoid: 0x0, from: 242, to: 242 }, // MoreLabels = nothing
-    Row { select: 0x2, avoid: 0x0, from: 242, to: 244 }, // Ranges = Range Ranges
-    Row { select: 0x400000000, avoid: 0x0, from: 244, to: 244 }, // Ranges = nothing
-    Row { select: 0x2, avoid: 0x0, from: 244, to: 253 }, // Range = @begin @name ID : @number NUM OptUpTo ; @bits
-    Row { select: 0x4000000000, avoid: 0x0, from: 253, to: 256 }, // OptUpTo = .. @number NUM
-    Row { select: 0x4, avoid: 0x0, from: 256, to: 257 }, // OptUpTo = @absent
-    Row { select: 0x1f8000024012, avoid: 0x0, from: 257, to: 259 }, // Items = Item Items
-    Row { select: 0x400000000, avoid: 0x0, from: 259, to: 259 }, // Items = nothing
-    Row { select: 0x8000000000, avoid: 0x0, from: 259, to: 263 }, // Item = @begin %filter ; @filter_item
-    Row { select: 0x10, avoid: 0x0, from: 263, to: 269 }, // Item = @begin %byte-order = Path ; @byte_order_item
-    Row { select: 0x10000000000, avoid: 0x0, from: 269, to: 276 }, // Item = @begin %mime-type = @text STRING ; @mime_type_item
-    Row { select: 0x20000000000, avoid: 0x0, from: 276, to: 283 }, // Item = @begin %description = @text STRING ; @description_item
-    Row { select: 0x40000000000, avoid: 0x0, from: 283, to: 292 }, // Item = @begin var @name ID : TypeTree OptValue ; @variable_item
-    Row { select: 0x80000000000, avoid: 0x0, from: 292, to: 298 }, // Item = @begin sink @name ID ; @sink_item
-    Row { select: 0x4000, avoid: 0x0, from: 298, to: 304 }, // Item = @begin on ItemOn Hook OptSemi @on_item
-    Row { select: 0x100000020002, avoid: 0x0, from: 304, to: 305 }, // Item = UnitPart
-    Row { select: 0x2, avoid: 0x0, from: 305, to: 307 }, // ItemOn = @name ID
-    Row { select: 0x10000, avoid: 0x0, from: 307, to: 309 }, // ItemOn = @event HOOK
-    Row { select: 0x4, avoid: 0x0, from: 309, to: 310 }, // OptSemi = ;
-    Row { select: 0xfc64200000018ff94e0425092, avoid: 0x0, from: 310, to: 310 }, // OptSemi = nothing
-    Row { select: 0x20002, avoid: 0x0, from: 310, to: 311 }, // UnitPart = Field
-    Row { select: 0x100000000000, avoid: 0x0, from: 311, to: 314 }, // UnitPart = @begin switch Switch
-    Row { select: 0x1000, avoid: 0x0, from: 314, to: 324 }, // Switch = ( Expr ) { @begin ValueArms @row } OptSemi @switch_part
-    Row { select: 0x200000000, avoid: 0x0, from: 324, to: 332 }, // Switch = @absent { @begin PlainArms @row } OptSemi @switch_part
-    Row { select: 0xfc64200000018a010e0401082, avoid: 0x0, from: 332, to: 334 }, // ValueArms = ValueArm ValueArms
-    Row { select: 0x400000000, avoid: 0x0, from: 334, to: 334 }, // ValueArms = nothing
-    Row { select: 0x200000000000, avoid: 0x0, from: 334, to: 340 }, // ValueArm = @begin @otherwise_guard * -> Arm @arm
-    Row { select: 0xfc642000000188010e0401082, avoid: 0x0, from: 340, to: 348 }, // ValueArm = @begin @begin Expr Exprs @values_guard -> Arm @arm
-    Row { select: 0x400000000000, avoid: 0x0, from: 348, to: 354 }, // PlainArms = @begin @look_ahead_guard -> Arm @arm PlainArms
-    Row { select: 0x400000000, avoid: 0x0, from: 354, to: 354 }, // PlainArms = nothing
-    Row { select: 0x4, avoid: 0x0, from: 354, to: 356 }, // Arm = @nothing_body ;
-    Row { select: 0x100000020002, avoid: 0x0, from: 356, to: 359 }, // Arm = @begin UnitPart @one_body
-    Row { select: 0x200000000, avoid: 0x0, from: 359, to: 365 }, // Arm = @begin { Parts } OptSemi @many_body
-    Row { select: 0x100000020002, avoid: 0x0, from: 365, to: 367 }, // Parts = UnitPart Parts
-    Row { select: 0x400000000, avoid: 0x0, from: 367, to: 367 }, // Parts = nothing
-    Row { select: 0x2, avoid: 0x0, from: 367, to: 371 }, // Field = @begin @name ID FieldTail
-    Row { select: 0x20000, avoid: 0x0, from: 371, to: 374 }, // Field = @begin @absent FieldTail
-    Row { select: 0x20000, avoid: 0x0, from: 374, to: 386 }, // FieldTail = : Base @begin Counts @row @begin Attrs @row OptIf OptSink FieldEnd @field
-    Row { select: 0x800000000000, avoid: 0x0, from: 386, to: 392 }, // Counts = @begin [ OptExpr ] @count Counts
-    Row { select: 0x64002000c2004, avoid: 0x0, from: 392, to: 392 }, // Counts = nothing
-    Row { select: 0xfc642000000188010e0401082, avoid: 0x0, from: 392, to: 393 }, // OptExpr = Expr
-    Row { select: 0x1000000000004, avoid: 0x0, from: 393, to: 394 }, // OptExpr = @absent
-    Row { select: 0x2000000000000, avoid: 0x0, from: 394, to: 399 }, // Attrs = @begin ATTR OptValue @attribute Attrs
-    Row { select: 0x44002000c2004, avoid: 0x0, from: 399, to: 399 }, // Attrs = nothing
-    Row { select: 0x4000000000000, avoid: 0x0, from: 399, to: 403 }, // OptIf = if ( Expr )
-    Row { select: 0x4002000c0004, avoid: 0x0, from: 403, to: 404 }, // OptIf = @absent
-    Row { select: 0x400000000000, avoid: 0x0, from: 404, to: 406 }, // OptSink = -> Expr
-    Row { select: 0x2000c0004, avoid: 0x0, from: 406, to: 407 }, // OptSink = @absent
-    Row { select: 0x4, avoid: 0x0, from: 407, to: 410 }, // FieldEnd = @begin ; @row
-    Row { select: 0x2000c0000, avoid: 0x0, from: 410, to: 415 }, // FieldEnd = @begin FieldHook FieldHooks OptSemi @row
-    Row { select: 0x2000c0000, avoid: 0x0, from: 415, to: 417 }, // FieldHooks = FieldHook FieldHooks
-    Row { select: 0xfc64200000018ff94e0425096, avoid: 0x0, from: 417, to: 417 }, // FieldHooks = nothing
-    Row { select: 0x40000, avoid: 0x0, from: 417, to: 422 }, // FieldHook = @begin foreach OptPriority Block @each_body
-    Row { select: 0x80000, avoid: 0x0, from: 422, to: 428 }, // FieldHook = @begin &priority = Expr Block @hook_body
-    Row { select: 0x200000000, avoid: 0x0, from: 428, to: 432 }, // FieldHook = @begin @absent Block @hook_body
-    Row { select: 0x2, avoid: 0x0, from: 432, to: 435 }, // Base = @begin Path BaseTail
-    Row { select: 0x400000, avoid: 0x0, from: 435, to: 438 }, // Base = @begin INT OptNum
-    Row { select: 0x29ef800000, avoid: 0x0, from: 438, to: 441 }, // Base = @begin Plain @type_base
-    Row { select: 0x8000000000000, avoid: 0x0, from: 441, to: 443 }, // Base = @bytes_base BYTES
-    Row { select: 0x10000000000000, avoid: 0x0, from: 443, to: 445 }, // Base = @regex_base REGEX
-    Row { select: 0x1000, avoid: 0x0, from: 445, to: 456 }, // Base = @begin ( Base @begin Counts @row @begin Attrs @row ) @group_base
-    Row { select: 0x1000, avoid: 0x0, from: 456, to: 462 }, // BaseTail = ( @begin Args ) @row @unit_base
-    Row { select: 0x6c002000c2004, avoid: 0x0, from: 462, to: 463 }, // BaseTail = @path_base
-    Row { select: 0x1000, avoid: 0x0, from: 463, to: 468 }, // OptNum = ( @number NUM ) @number_base
-    Row { select: 0x6c002000c2004, avoid: 0x0, from: 468, to: 469 }, // OptNum = @int_base
-    Row { select: 0xfc642000000188010e0401082, avoid: 0x0, from: 469, to: 471 }, // Args = Expr Exprs
-    Row { select: 0x2000, avoid: 0x0, from: 471, to: 471 }, // Args = nothing
-    Row { select: 0x100000, avoid: 0x0, from: 471, to: 474 }, // Exprs = , Expr Exprs
-    Row { select: 0x1400000022004, avoid: 0x0, from: 474, to: 474 }, // Exprs = nothing
-    Row { select: 0x200000000, avoid: 0x0, from: 474, to: 479 }, // Block = @begin { Stmts } @block
-    Row { select: 0xfc642001ffddc9012e0401082, avoid: 0x0, from: 479, to: 481 }, // Stmts = Stmt Stmts
-    Row { select: 0x400000000, avoid: 0x0, from: 481, to: 481 }, // Stmts = nothing
-    Row { select: 0x4000000000000, avoid: 0x0, from: 481, to: 486 }, // Stmt = @begin if @begin Branch OptElse
-    Row { select: 0xfc642001ffdd89012e0401082, avoid: 0x0, from: 486, to: 487 }, // Stmt = Other
-    Row { select: 0x1000, avoid: 0x0, from: 487, to: 493 }, // Branch = @begin ( Expr ) Stmt @branch
-    Row { select: 0x20000000000000, avoid: 0x0, from: 493, to: 495 }, // OptElse = else Else
-    Row { select: 0x1000000fc642007ffddc9016e0401082, avoid: 0x20000000000000, from: 495, to: 498 }, // OptElse = @row @absent @if_stmt
-    Row { select: 0x4000000000000, avoid: 0x0, from: 498, to: 501 }, // Else = if Branch OptElse
-    Row { select: 0xfc642001ffdd89012e0401082, avoid: 0x0, from: 501, to: 504 }, // Else = @row Other @if_stmt
-    Row { select: 0x200000000, avoid: 0x0, from: 504, to: 505 }, // Other = Block
-    Row { select: 0x40000000000000, avoid: 0x0, from: 505, to: 512 }, // Other = @begin local @name ID Local ; @local_stmt
-    Row { select: 0x80000000000000, avoid: 0x0, from: 512, to: 519 }, // Other = @begin while ( Expr ) Stmt @while_stmt
-    Row { select: 0x100000000000000, avoid: 0x0, from: 519, to: 529 }, // Other = @begin for ( @name ID in Expr ) Stmt @for_stmt
-    Row { select: 0x100000000000, avoid: 0x0, from: 529, to: 541 }, // Other = @begin switch ( Expr ) { @begin Cases @row OptDefault } @switch_stmt
-    Row { select: 0x400000000000000, avoid: 0x0, from: 541, to: 546 }, // Other = @begin return OptExpr ; @return_stmt
-    Row { select: 0x800000000000000, avoid: 0x0, from: 546, to: 550 }, // Other = @begin break ; @break_stmt
-    Row { select: 0x1000000000000000, avoid: 0x0, from: 550, to: 554 }, // Other = @begin continue ; @continue_stmt
-    Row { select: 0x2000000000000000, avoid: 0x0, from: 554, to: 558 }, // Other = @begin stop ; @stop_stmt
-    Row { select: 0x4000000000000000, avoid: 0x0, from: 558, to: 562 }, // Other = @begin confirm ; @confirm_stmt
-    Row { select: 0x8000000000000000, avoid: 0x0, from: 562, to: 566 }, // Other = @begin reject ; @reject_stmt
-    Row { select: 0x10000000000000000, avoid: 0x0, from: 566, to: 572 }, // Other = @begin print Expr Exprs ; @print_stmt
-    Row { select: 0x20000000000000000, avoid: 0x0, from: 572, to: 577 }, // Other = @begin throw Expr ; @throw_stmt
-    Row { select: 0x40000000000000000, avoid: 0x0, from: 577, to: 583 }, // Other = @begin assert Expr OptText ; @assert_stmt
-    Row { select: 0x80000000000000000, avoid: 0x0, from: 583, to: 588 }, // Other = @begin add Expr ; @add_stmt
-    Row { select: 0x100000000000000000, avoid: 0x0, from: 588, to: 593 }, // Other = @begin delete Expr ; @delete_stmt
-    Row { select: 0xfc642000000188010e0401082, avoid: 0x0, from: 593, to: 596 }, // Other = @begin Expr OptAssign
-    Row { select: 0x20000, avoid: 0x0, from: 596, to: 599 }, // Local = : TypeTree OptValue
-    Row { select: 0x20, avoid: 0x0, from: 599, to: 602 }, // Local = @absent = Expr
-    Row { select: 0x200000000000000000, avoid: 0x0, from: 602, to: 612 }, // Cases = @begin case @begin Expr Exprs @row : Stmt @case Cases
-    Row { select: 0x400000000400000000, avoid: 0x0, from: 612, to: 612 }, // Cases = nothing
-    Row { select: 0x400000000000000000, avoid: 0x0, from: 612, to: 615 }, // OptDefault = default : Stmt
-    Row { select: 0x400000000, avoid: 0x0, from: 615, to: 616 }, // OptDefault = @absent
-    Row { select: 0x20000, avoid: 0x0, from: 616, to: 619 }, // OptText = : @text STRING
-    Row { select: 0x4, avoid: 0x0, from: 619, to: 620 }, // OptText = @absent
-    Row { select: 0x20, avoid: 0x0, from: 620, to: 624 }, // OptAssign = = Expr ; @set_stmt
-    Row { select: 0x800000000000000000, avoid: 0x0, from: 624, to: 628 }, // OptAssign = += Expr ; @add_to_stmt
-    Row { select: 0x1000000000000000000, avoid: 0x0, from: 628, to: 632 }, // OptAssign = -= Expr ; @subtract_from_stmt
-    Row { select: 0x4, avoid: 0x0, from: 632, to: 634 }, // OptAssign = ; @expr_stmt
-    Row { select: 0xfc642000000188010e0401082, avoid: 0x0, from: 634, to: 636 }, // Expr = Or OptChoice
-    Row { select: 0x2000000000000000000, avoid: 0x0, from: 636, to: 641 }, // OptChoice = ? Expr : Expr @choice
-    Row { select: 0x100000000000018000074006001e2024, avoid: 0x0, from: 641, to: 641 }, // OptChoice = nothing
-    Row { select: 0xfc642000000188010e0401082, avoid: 0x0, from: 641, to: 643 }, // Or = And OrTail
-    Row { select: 0x4000000000000000000, avoid: 0x0, from: 643, to: 647 }, // OrTail = || And @or OrTail
-    Row { select: 0x100000000000038000074006001e2024, avoid: 0x0, from: 647, to: 647 }, // OrTail = nothing
-    Row { select: 0xfc642000000188010e0401082, avoid: 0x0, from: 647, to: 649 }, // And = Membership AndTail
-    Row { select: 0x8000000000000000000, avoid: 0x0, from: 649, to: 653 }, // AndTail = && Membership @and AndTail
-    Row { select: 0x100000000000078000074006001e2024, avoid: 0x0, from: 653, to: 653 }, // AndTail = nothing
-    Row { select: 0xfc642000000188010e0401082, avoid: 0x0, from: 653, to: 655 }, // Membership = Equality MembershipTail
-    Row { select: 0x200000000000000, avoid: 0x0, from: 655, to: 659 }, // MembershipTail = in Equality @in MembershipTail
-    Row { select: 0x10000000000000000000, avoid: 0x0, from: 659, to: 663 }, // MembershipTail = !in Equality @not_in MembershipTail
-    Row { select: 0x1000000000000f8000074006001e2024, avoid: 0x0, from: 663, to: 663 }, // MembershipTail = nothing
-    Row { select: 0xfc642000000188010e0401082, avoid: 0x0, from: 663, to: 665 }, // Equality = Order EqualityTail
-    Row { select: 0x20000000000000000000, avoid: 0x0, from: 665, to: 669 }, // EqualityTail = == Order @equal EqualityTail
-    Row { select: 0x40000000000000000000, avoid: 0x0, from: 669, to: 673 }, // EqualityTail = != Order @not_equal EqualityTail
-    Row { select: 0x1000000000001f8002074006001e2024, avoid: 0x0, from: 673, to: 673 }, // EqualityTail = nothing
-    Row { select: 0xfc642000000188010e0401082, avoid: 0x0, from: 673, to: 675 }, // Order = BitOr OrderTail
-    Row { select: 0x10000000, avoid: 0x0, from: 675, to: 679 }, // OrderTail = < BitOr @less OrderTail
-    Row { select: 0x80000000000000000000, avoid: 0x0, from: 679, to: 683 }, // OrderTail = <= BitOr @less_equal OrderTail
-    Row { select: 0x1000000000000000000000000000000, avoid: 0x0, from: 683, to: 687 }, // OrderTail = > BitOr @greater OrderTail
-    Row { select: 0x100000000000000000000, avoid: 0x0, from: 687, to: 691 }, // OrderTail = >= BitOr @greater_equal OrderTail
-    Row { select: 0x1000000000007f8002074006001e2024, avoid: 0x0, from: 691, to: 691 }, // OrderTail = nothing
-    Row { select: 0xfc642000000188010e0401082, avoid: 0x0, from: 691, to: 693 }, // BitOr = BitXor BitOrTail
-    Row { select: 0x200000000000000000000, avoid: 0x0, from: 693, to: 697 }, // BitOrTail = | BitXor @bit_or BitOrTail
-    Row { select: 0x110000000001ff8002074006101e2024, avoid: 0x0, from: 697, to: 697 }, // BitOrTail = nothing
-    Row { select: 0xfc642000000188010e0401082, avoid: 0x0, from: 697, to: 699 }, // BitXor = BitAnd BitXorTail
-    Row { select: 0x400000000000000000000, avoid: 0x0, from: 699, to: 703 }, // BitXorTail = ^ BitAnd @bit_xor BitXorTail
-    Row { select: 0x110000000003ff8002074006101e2024, avoid: 0x0, from: 703, to: 703 }, // BitXorTail = nothing
-    Row { select: 0xfc642000000188010e0401082, avoid: 0x0, from: 703, to: 705 }, // BitAnd = Shift BitAndTail
-    Row { select: 0x800000000000000000000, avoid: 0x0, from: 705, to: 709 }, // BitAndTail = & Shift @bit_and BitAndTail
-    Row { select: 0x110000000007ff8002074006101e2024, avoid: 0x0, from: 709, to: 709 }, // BitAndTail = nothing
-    Row { select: 0xfc642000000188010e0401082, avoid: 0x0, from: 709, to: 711 }, // Shift = Sum ShiftTail
-    Row { select: 0x1000000000000000000000, avoid: 0x0, from: 711, to: 715 }, // ShiftTail = << Sum @shift_left ShiftTail
-    Row { select: 0x2000000000000000000000000000000, avoid: 0x0, from: 715, to: 719 }, // ShiftTail = >> Sum @shift_right ShiftTail
-    Row { select: 0x11000000000fff8002074006101e2024, avoid: 0x0, from: 719, to: 719 }, // ShiftTail = nothing
-    Row { select: 0xfc642000000188010e0401082, avoid: 0x0, from: 719, to: 721 }, // Sum = Product SumTail
-    Row { select: 0x2000000000000000000000, avoid: 0x0, from: 721, to: 725 }, // SumTail = + Product @add SumTail
-    Row { select: 0x4000000000000000000000, avoid: 0x0, from: 725, to: 729 }, // SumTail = - Product @subtract SumTail
-    Row { select: 0x13000000001fff8002074006101e2024, avoid: 0x0, from: 729, to: 729 }, // SumTail = nothing
-    Row { select: 0xfc642000000188010e0401082, avoid: 0x0, from: 729, to: 731 }, // Product = Prefix ProductTail
-    Row { select: 0x200000000000, avoid: 0x0, from: 731, to: 735 }, // ProductTail = * Prefix @multiply ProductTail
-    Row { select: 0x8000000000000000000000, avoid: 0x0, from: 735, to: 739 }, // ProductTail = / Prefix @divide ProductTail
-    Row { select: 0x10000000000000000000000, avoid: 0x0, from: 739, to: 743 }, // ProductTail = % Prefix @remainder ProductTail
-    Row { select: 0x13000000007fff8002074006101e2024, avoid: 0x0, from: 743, to: 743 }, // ProductTail = nothing
-    Row { select: 0x20000000000000000000000, avoid: 0x0, from: 743, to: 747 }, // Prefix = @begin ! Prefix @not
-    Row { select: 0x4000000000000000000000, avoid: 0x0, from: 747, to: 751 }, // Prefix = @begin - Prefix @negate
-    Row { select: 0x40000000000000000000000, avoid: 0x0, from: 751, to: 755 }, // Prefix = @begin ~ Prefix @complement
-    Row { select: 0xfc002000000188010e0401082, avoid: 0x0, from: 755, to: 757 }, // Prefix = Primary Postfix
-    Row { select: 0x80000000000000000000000, avoid: 0x0, from: 757, to: 761 }, // Postfix = . Member @member Postfix
-    Row { select: 0x100000000000000000000000, avoid: 0x0, from: 761, to: 766 }, // Postfix = ?. @name ID @set_member Postfix
-    Row { select: 0x800000000000, avoid: 0x0, from: 766, to: 771 }, // Postfix = [ Expr ] @index Postfix
-    Row { select: 0x1000, avoid: 0x0, from: 771, to: 778 }, // Postfix = ( @begin Args ) @row @call Postfix
-    Row { select: 0x1300000001ffff8002076006101e2024, avoid: 0x0, from: 778, to: 778 }, // Postfix = nothing
-    Row { select: 0x2, avoid: 0x0, from: 778, to: 780 }, // Member = @name ID
-    Row { select: 0x200000000000000000000000, avoid: 0x0, from: 780, to: 782 }, // Member = @name skip
-    Row { select: 0x2, avoid: 0x0, from: 782, to: 785 }, // Primary = @begin Path @path_expr
-    Row { select: 0x400000000000000000000000, avoid: 0x0, from: 785, to: 787 }, // Primary = @self_expr self
-    Row { select: 0x800000000000000000000000, avoid: 0x0, from: 787, to: 789 }, // Primary = @current_expr $$
-    Row { select: 0x1000000000, avoid: 0x0, from: 789, to: 791 }, // Primary = @number_expr NUM
-    Row { select: 0x80, avoid: 0x0, from: 791, to: 793 }, // Primary = @string_expr STRING
-    Row { select: 0x8000000000000, avoid: 0x0, from: 793, to: 795 }, // Primary = @bytes_expr BYTES
-    Row { select: 0x10000000000000, avoid: 0x0, from: 795, to: 797 }, // Primary = @regex_expr REGEX
-    Row { select: 0x1000000000000000000000000, avoid: 0x0, from: 797, to: 799 }, // Primary = @true_expr True
-    Row { select: 0x2000000000000000000000000, avoid: 0x0, from: 799, to: 801 }, // Primary = @false_expr False
-    Row { select: 0x1000, avoid: 0x0, from: 801, to: 805 }, // Primary = @begin ( Expr Paren
-    Row { select: 0x800000000000, avoid: 0x0, from: 805, to: 811 }, // Primary = @begin [ Expr Exprs ] @vector_expr
-    Row { select: 0x40000000, avoid: 0x0, from: 811, to: 814 }, // Primary = @begin set Set
-    Row { select: 0x80000000, avoid: 0x0, from: 814, to: 817 }, // Primary = @begin map Map
-    Row { select: 0x20000000, avoid: 0x0, from: 817, to: 825 }, // Primary = @begin vector < TypeTree CLOSE ( ) @empty_vector_expr
-    Row { select: 0x400000, avoid: 0x0, from: 825, to: 832 }, // Primary = @begin INT ( @number NUM ) @typed_number_expr
-    Row { select: 0x4000000000000000000000000, avoid: 0x0, from: 832, to: 841 }, // Primary = @begin cast < TypeTree CLOSE ( Expr ) @cast_expr
-    Row { select: 0x8000000000000000000000000, avoid: 0x0, from: 841, to: 846 }, // Primary = @begin new Path NewArgs @new_expr
-    Row { select: 0x200000000000000000000, avoid: 0x0, from: 846, to: 851 }, // Primary = @begin | BitXor | @size_expr
-    Row { select: 0x2000, avoid: 0x0, from: 851, to: 853 }, // Paren = ) @paren
-    Row { select: 0x100000, avoid: 0x0, from: 853, to: 858 }, // Paren = , Expr Exprs ) @tuple_expr
-    Row { select: 0x1000, avoid: 0x0, from: 858, to: 863 }, // Set = ( Expr Exprs ) @set_expr
-    Row { select: 0x10000000, avoid: 0x0, from: 863, to: 869 }, // Set = < TypeTree CLOSE ( ) @empty_set_expr
-    Row { select: 0x1000, avoid: 0x0, from: 869, to: 874 }, // Map = ( Pair Pairs ) @map_expr
-    Row { select: 0x10000000, avoid: 0x0, from: 874, to: 882 }, // Map = < TypeTree , TypeTree CLOSE ( ) @empty_map_expr
-    Row { select: 0x100000, avoid: 0x0, from: 882, to: 885 }, // Pairs = , Pair Pairs
-    Row { select: 0x2000, avoid: 0x0, from: 885, to: 885 }, // Pairs = nothing
-    Row { select: 0xfc642000000188010e0401082, avoid: 0x0, from: 885, to: 890 }, // Pair = @begin Expr : Expr @pair
-    Row { select: 0x1000, avoid: 0x0, from: 890, to: 895 }, // NewArgs = ( @begin Args ) @row
-    Row { select: 0x1300000019ffff800207e006101e2024, avoid: 0x1000, from: 895, to: 897 }, // NewArgs = @begin @row
+    Row { select: 0x800000000, avoid: 0x0, from: 208, to: 220 }, // Plain = @begin bitfield ( @number NUM ) { @begin Ranges @row } @bitfield_type
+    Row { select: 0x2000000000, avoid: 0x0, from: 220, to: 229 }, // Plain = @begin unit OptParen { @begin Items @row } @unit_type
+    Row { select: 0x100000, avoid: 0x0, from: 229, to: 232 }, // Types = , TypeTree Types
+    Row { select: 0x7000000000000000000000000000000, avoid: 0x0, from: 232, to: 232 }, // Types = nothing
+    Row { select: 0x2, avoid: 0x0, from: 232, to: 237 }, // Label = @begin @name ID OptValue @label
+    Row { select: 0x20, avoid: 0x0, from: 237, to: 239 }, // OptValue = = Expr
+    Row { select: 0x64006001c2004, avoid: 0x0, from: 239, to: 240 }, // OptValue = @absent
+    Row { select: 0x100000, avoid: 0x0, from: 240, to: 242 }, // Labels = , MoreLabels
+    Row { select: 0x400000000, avoid: 0x0, from: 242, to: 242 }, // Labels = nothing
+    Row { select: 0x2, avoid: 0x0, from: 242, to: 244 }, // MoreLabels = Label Labels
+    Row { select: 0x400000000, avoid: 0x0, from: 244, to: 244 }, // MoreLabels = nothing
+    Row { select: 0x2, avoid: 0x0, from: 244, to: 246 }, // Ranges = Range Ranges
+    Row { select: 0x400000000, avoid: 0x0, from: 246, to: 246 }, // Ranges = nothing
+    Row { select: 0x2, avoid: 0x0, from: 246, to: 255 }, // Range = @begin @name ID : @number NUM OptUpTo ; @bits
+    Row { select: 0x4000000000, avoid: 0x0, from: 255, to: 258 }, // OptUpTo = .. @number NUM
+    Row { select: 0x4, avoid: 0x0, from: 258, to: 259 }, // OptUpTo = @absent
+    Row { select: 0x1f8000024012, avoid: 0x0, from: 259, to: 261 }, // Items = Item Items
+    Row { select: 0x400000000, avoid: 0x0, from: 261, to: 261 }, // Items = nothing
+    Row { select: 0x8000000000, avoid: 0x0, from: 261, to: 265 }, // Item = @begin %filter ; @filter_item
+    Row { select: 0x10, avoid: 0x0, from: 265, to: 271 }, // Item = @begin %byte-order = Path ; @byte_order_item
+    Row { select: 0x10000000000, avoid: 0x0, from: 271, to: 278 }, // Item = @begin %mime-type = @text STRING ; @mime_type_item
+    Row { select: 0x20000000000, avoid: 0x0, from: 278, to: 285 }, // Item = @begin %description = @text STRING ; @description_item
+    Row { select: 0x40000000000, avoid: 0x0, from: 285, to: 294 }, // Item = @begin var @name ID : TypeTree OptValue ; @variable_item
+    Row { select: 0x80000000000, avoid: 0x0, from: 294, to: 300 }, // Item = @begin sink @name ID ; @sink_item
+    Row { select: 0x4000, avoid: 0x0, from: 300, to: 306 }, // Item = @begin on ItemOn Hook OptSemi @on_item
+    Row { select: 0x100000020002, avoid: 0x0, from: 306, to: 308 }, // Item = UnitPart @part_item
+    Row { select: 0x2, avoid: 0x0, from: 308, to: 310 }, // ItemOn = @name_target ID
+    Row { select: 0x10000, avoid: 0x0, from: 310, to: 312 }, // ItemOn = @event_target HOOK
+    Row { select: 0x4, avoid: 0x0, from: 312, to: 313 }, // OptSemi = ;
+    Row { select: 0xfc64200000018ff94e0425092, avoid: 0x0, from: 313, to: 313 }, // OptSemi = nothing
+    Row { select: 0x20002, avoid: 0x0, from: 313, to: 314 }, // UnitPart = Field
+    Row { select: 0x100000000000, avoid: 0x0, from: 314, to: 317 }, // UnitPart = @begin switch Switch
+    Row { select: 0x1000, avoid: 0x0, from: 317, to: 327 }, // Switch = ( Expr ) { @begin ValueArms @row } OptSemi @switch_part
+    Row { select: 0x200000000, avoid: 0x0, from: 327, to: 335 }, // Switch = @absent { @begin PlainArms @row } OptSemi @switch_part
+    Row { select: 0xfc64200000018a010e0401082, avoid: 0x0, from: 335, to: 337 }, // ValueArms = ValueArm ValueArms
+    Row { select: 0x400000000, avoid: 0x0, from: 337, to: 337 }, // ValueArms = nothing
+    Row { select: 0x200000000000, avoid: 0x0, from: 337, to: 343 }, // ValueArm = @begin @otherwise_guard * -> Arm @arm
+    Row { select: 0xfc642000000188010e0401082, avoid: 0x0, from: 343, to: 351 }, // ValueArm = @begin @begin Expr Exprs @values_guard -> Arm @arm
+    Row { select: 0x400000000000, avoid: 0x0, from: 351, to: 357 }, // PlainArms = @begin @look_ahead_guard -> Arm @arm PlainArms
+    Row { select: 0x400000000, avoid: 0x0, from: 357, to: 357 }, // PlainArms = nothing
+    Row { select: 0x4, avoid: 0x0, from: 357, to: 359 }, // Arm = @nothing_body ;
+    Row { select: 0x100000020002, avoid: 0x0, from: 359, to: 362 }, // Arm = @begin UnitPart @one_body
+    Row { select: 0x200000000, avoid: 0x0, from: 362, to: 368 }, // Arm = @begin { Parts } OptSemi @many_body
+    Row { select: 0x100000020002, avoid: 0x0, from: 368, to: 370 }, // Parts = UnitPart Parts
+    Row { select: 0x400000000, avoid: 0x0, from: 370, to: 370 }, // Parts = nothing
+    Row { select: 0x2, avoid: 0x0, from: 370, to: 374 }, // Field = @begin @name ID FieldTail
+    Row { select: 0x20000, avoid: 0x0, from: 374, to: 377 }, // Field = @begin @absent FieldTail
+    Row { select: 0x20000, avoid: 0x0, from: 377, to: 389 }, // FieldTail = : Base @begin Counts @row @begin Attrs @row OptIf OptSink FieldEnd @field
+    Row { select: 0x800000000000, avoid: 0x0, from: 389, to: 395 }, // Counts = @begin [ OptExpr ] @count Counts
+    Row { select: 0x64002000c2004, avoid: 0x0, from: 395, to: 395 }, // Counts = nothing
+    Row { select: 0xfc642000000188010e0401082, avoid: 0x0, from: 395, to: 396 }, // OptExpr = Expr
+    Row { select: 0x1000000000004, avoid: 0x0, from: 396, to: 397 }, // OptExpr = @absent
+    Row { select: 0x2000000000000, avoid: 0x0, from: 397, to: 402 }, // Attrs = @begin ATTR OptValue @attribute Attrs
+    Row { select: 0x44002000c2004, avoid: 0x0, from: 402, to: 402 }, // Attrs = nothing
+    Row { select: 0x4000000000000, avoid: 0x0, from: 402, to: 406 }, // OptIf = if ( Expr )
+    Row { select: 0x4002000c0004, avoid: 0x0, from: 406, to: 407 }, // OptIf = @absent
+    Row { select: 0x400000000000, avoid: 0x0, from: 407, to: 409 }, // OptSink = -> Expr
+    Row { select: 0x2000c0004, avoid: 0x0, from: 409, to: 410 }, // OptSink = @absent
+    Row { select: 0x4, avoid: 0x0, from: 410, to: 413 }, // FieldEnd = @begin ; @row
+    Row { select: 0x2000c0000, avoid: 0x0, from: 413, to: 418 }, // FieldEnd = @begin FieldHook FieldHooks OptSemi @row
+    Row { select: 0x2000c0000, avoid: 0x0, from: 418, to: 420 }, // FieldHooks = FieldHook FieldHooks
+    Row { select: 0xfc64200000018ff94e0425096, avoid: 0x0, from: 420, to: 420 }, // FieldHooks = nothing
+    Row { select: 0x40000, avoid: 0x0, from: 420, to: 425 }, // FieldHook = @begin foreach OptPriority Block @each_body
+    Row { select: 0x80000, avoid: 0x0, from: 425, to: 431 }, // FieldHook = @begin &priority = Expr Block @hook_body
+    Row { select: 0x200000000, avoid: 0x0, from: 431, to: 435 }, // FieldHook = @begin @absent Block @hook_body
+    Row { select: 0x2, avoid: 0x0, from: 435, to: 438 }, // Base = @begin Path BaseTail
+    Row { select: 0x400000, avoid: 0x0, from: 438, to: 441 }, // Base = @begin INT OptNum
+    Row { select: 0x29ef800000, avoid: 0x0, from: 441, to: 443 }, // Base = Plain @type_base
+    Row { select: 0x8000000000000, avoid: 0x0, from: 443, to: 445 }, // Base = @bytes_base BYTES
+    Row { select: 0x10000000000000, avoid: 0x0, from: 445, to: 447 }, // Base = @regex_base REGEX
+    Row { select: 0x1000, avoid: 0x0, from: 447, to: 458 }, // Base = @begin ( Base @begin Counts @row @begin Attrs @row ) @group_base
+    Row { select: 0x1000, avoid: 0x0, from: 458, to: 464 }, // BaseTail = ( @begin Args ) @row @unit_base
+    Row { select: 0x6c002000c2004, avoid: 0x0, from: 464, to: 466 }, // BaseTail = @path_type @type_base
+    Row { select: 0x1000, avoid: 0x0, from: 466, to: 471 }, // OptNum = ( @number NUM ) @number_base
+    Row { select: 0x6c002000c2004, avoid: 0x0, from: 471, to: 473 }, // OptNum = @int_base @type_base
+    Row { select: 0xfc642000000188010e0401082, avoid: 0x0, from: 473, to: 475 }, // Args = Expr Exprs
+    Row { select: 0x2000, avoid: 0x0, from: 475, to: 475 }, // Args = nothing
+    Row { select: 0x100000, avoid: 0x0, from: 475, to: 478 }, // Exprs = , Expr Exprs
+    Row { select: 0x1400000022004, avoid: 0x0, from: 478, to: 478 }, // Exprs = nothing
+    Row { select: 0x200000000, avoid: 0x0, from: 478, to: 483 }, // Block = @begin { Stmts } @block
+    Row { select: 0xfc642001ffddc9012e0401082, avoid: 0x0, from: 483, to: 485 }, // Stmts = Stmt Stmts
+    Row { select: 0x400000000, avoid: 0x0, from: 485, to: 485 }, // Stmts = nothing
+    Row { select: 0x4000000000000, avoid: 0x0, from: 485, to: 490 }, // Stmt = @begin if @begin Branch OptElse
+    Row { select: 0xfc642001ffdd89012e0401082, avoid: 0x0, from: 490, to: 491 }, // Stmt = Other
+    Row { select: 0x1000, avoid: 0x0, from: 491, to: 497 }, // Branch = @begin ( Expr ) Stmt @branch
+    Row { select: 0x20000000000000, avoid: 0x0, from: 497, to: 499 }, // OptElse = else Else
+    Row { select: 0x1000000fc642007ffddc9016e0401082, avoid: 0x20000000000000, from: 499, to: 502 }, // OptElse = @row @absent @if_stmt
+    Row { select: 0x4000000000000, avoid: 0x0, from: 502, to: 505 }, // Else = if Branch OptElse
+    Row { select: 0xfc642001ffdd89012e0401082, avoid: 0x0, from: 505, to: 508 }, // Else = @row Other @if_stmt
+    Row { select: 0x200000000, avoid: 0x0, from: 508, to: 510 }, // Other = Block @block_stmt
+    Row { select: 0x40000000000000, avoid: 0x0, from: 510, to: 517 }, // Other = @begin local @name ID Local ; @local_stmt
+    Row { select: 0x80000000000000, avoid: 0x0, from: 517, to: 524 }, // Other = @begin while ( Expr ) Stmt @while_stmt
+    Row { select: 0x100000000000000, avoid: 0x0, from: 524, to: 534 }, // Other = @begin for ( @name ID in Expr ) Stmt @for_stmt
+    Row { select: 0x100000000000, avoid: 0x0, from: 534, to: 546 }, // Other = @begin switch ( Expr ) { @begin Cases @row OptDefault } @switch_stmt
+    Row { select: 0x400000000000000, avoid: 0x0, from: 546, to: 551 }, // Other = @begin return OptExpr ; @return_stmt
+    Row { select: 0x800000000000000, avoid: 0x0, from: 551, to: 555 }, // Other = @begin break ; @break_stmt
+    Row { select: 0x1000000000000000, avoid: 0x0, from: 555, to: 559 }, // Other = @begin continue ; @continue_stmt
+    Row { select: 0x2000000000000000, avoid: 0x0, from: 559, to: 563 }, // Other = @begin stop ; @stop_stmt
+    Row { select: 0x4000000000000000, avoid: 0x0, from: 563, to: 567 }, // Other = @begin confirm ; @confirm_stmt
+    Row { select: 0x8000000000000000, avoid: 0x0, from: 567, to: 571 }, // Other = @begin reject ; @reject_stmt
+    Row { select: 0x10000000000000000, avoid: 0x0, from: 571, to: 577 }, // Other = @begin print Expr Exprs ; @print_stmt
+    Row { select: 0x20000000000000000, avoid: 0x0, from: 577, to: 582 }, // Other = @begin throw Expr ; @throw_stmt
+    Row { select: 0x40000000000000000, avoid: 0x0, from: 582, to: 588 }, // Other = @begin assert Expr OptText ; @assert_stmt
+    Row { select: 0x80000000000000000, avoid: 0x0, from: 588, to: 593 }, // Other = @begin add Expr ; @add_stmt
+    Row { select: 0x100000000000000000, avoid: 0x0, from: 593, to: 598 }, // Other = @begin delete Expr ; @delete_stmt
+    Row { select: 0xfc642000000188010e0401082, avoid: 0x0, from: 598, to: 601 }, // Other = @begin Expr OptAssign
+    Row { select: 0x20000, avoid: 0x0, from: 601, to: 604 }, // Local = : TypeTree OptValue
+    Row { select: 0x20, avoid: 0x0, from: 604, to: 607 }, // Local = @absent = Expr
+    Row { select: 0x200000000000000000, avoid: 0x0, from: 607, to: 617 }, // Cases = @begin case @begin Expr Exprs @row : Stmt @case Cases
+    Row { select: 0x400000000400000000, avoid: 0x0, from: 617, to: 617 }, // Cases = nothing
+    Row { select: 0x400000000000000000, avoid: 0x0, from: 617, to: 620 }, // OptDefault = default : Stmt
+    Row { select: 0x400000000, avoid: 0x0, from: 620, to: 621 }, // OptDefault = @absent
+    Row { select: 0x20000, avoid: 0x0, from: 621, to: 624 }, // OptText = : @text STRING
+    Row { select: 0x4, avoid: 0x0, from: 624, to: 625 }, // OptText = @absent
+    Row { select: 0x20, avoid: 0x0, from: 625, to: 629 }, // OptAssign = = Expr ; @set_stmt
+    Row { select: 0x800000000000000000, avoid: 0x0, from: 629, to: 633 }, // OptAssign = += Expr ; @add_to_stmt
+    Row { select: 0x1000000000000000000, avoid: 0x0, from: 633, to: 637 }, // OptAssign = -= Expr ; @subtract_from_stmt
+    Row { select: 0x4, avoid: 0x0, from: 637, to: 639 }, // OptAssign = ; @expr_stmt
+    Row { select: 0xfc642000000188010e0401082, avoid: 0x0, from: 639, to: 641 }, // Expr = Or OptChoice
+    Row { select: 0x2000000000000000000, avoid: 0x0, from: 641, to: 646 }, // OptChoice = ? Expr : Expr @choice
+    Row { select: 0x100000000000018000074006001e2024, avoid: 0x0, from: 646, to: 646 }, // OptChoice = nothing
+    Row { select: 0xfc642000000188010e0401082, avoid: 0x0, from: 646, to: 648 }, // Or = And OrTail
+    Row { select: 0x4000000000000000000, avoid: 0x0, from: 648, to: 652 }, // OrTail = || And @or OrTail
+    Row { select: 0x100000000000038000074006001e2024, avoid: 0x0, from: 652, to: 652 }, // OrTail = nothing
+    Row { select: 0xfc642000000188010e0401082, avoid: 0x0, from: 652, to: 654 }, // And = Membership AndTail
+    Row { select: 0x8000000000000000000, avoid: 0x0, from: 654, to: 658 }, // AndTail = && Membership @and AndTail
+    Row { select: 0x100000000000078000074006001e2024, avoid: 0x0, from: 658, to: 658 }, // AndTail = nothing
+    Row { select: 0xfc642000000188010e0401082, avoid: 0x0, from: 658, to: 660 }, // Membership = Equality MembershipTail
+    Row { select: 0x200000000000000, avoid: 0x0, from: 660, to: 664 }, // MembershipTail = in Equality @in MembershipTail
+    Row { select: 0x10000000000000000000, avoid: 0x0, from: 664, to: 668 }, // MembershipTail = !in Equality @not_in MembershipTail
+    Row { select: 0x1000000000000f8000074006001e2024, avoid: 0x0, from: 668, to: 668 }, // MembershipTail = nothing
+    Row { select: 0xfc642000000188010e0401082, avoid: 0x0, from: 668, to: 670 }, // Equality = Order EqualityTail
+    Row { select: 0x20000000000000000000, avoid: 0x0, from: 670, to: 674 }, // EqualityTail = == Order @equal EqualityTail
+    Row { select: 0x40000000000000000000, avoid: 0x0, from: 674, to: 678 }, // EqualityTail = != Order @not_equal EqualityTail
+    Row { select: 0x1000000000001f8002074006001e2024, avoid: 0x0, from: 678, to: 678 }, // EqualityTail = nothing
+    Row { select: 0xfc642000000188010e0401082, avoid: 0x0, from: 678, to: 680 }, // Order = BitOr OrderTail
+    Row { select: 0x10000000, avoid: 0x0, from: 680, to: 684 }, // OrderTail = < BitOr @less OrderTail
+    Row { select: 0x80000000000000000000, avoid: 0x0, from: 684, to: 688 }, // OrderTail = <= BitOr @less_equal OrderTail
+    Row { select: 0x1000000000000000000000000000000, avoid: 0x0, from: 688, to: 692 }, // OrderTail = > BitOr @greater OrderTail
+    Row { select: 0x100000000000000000000, avoid: 0x0, from: 692, to: 696 }, // OrderTail = >= BitOr @greater_equal OrderTail
+    Row { select: 0x1000000000007f8002074006001e2024, avoid: 0x0, from: 696, to: 696 }, // OrderTail = nothing
+    Row { select: 0xfc642000000188010e0401082, avoid: 0x0, from: 696, to: 698 }, // BitOr = BitXor BitOrTail
+    Row { select: 0x200000000000000000000, avoid: 0x0, from: 698, to: 702 }, // BitOrTail = | BitXor @bit_or BitOrTail
+    Row { select: 0x110000000001ff8002074006101e2024, avoid: 0x0, from: 702, to: 702 }, // BitOrTail = nothing
+    Row { select: 0xfc642000000188010e0401082, avoid: 0x0, from: 702, to: 704 }, // BitXor = BitAnd BitXorTail
+    Row { select: 0x400000000000000000000, avoid: 0x0, from: 704, to: 708 }, // BitXorTail = ^ BitAnd @bit_xor BitXorTail
+    Row { select: 0x110000000003ff8002074006101e2024, avoid: 0x0, from: 708, to: 708 }, // BitXorTail = nothing
+    Row { select: 0xfc642000000188010e0401082, avoid: 0x0, from: 708, to: 710 }, // BitAnd = Shift BitAndTail
+    Row { select: 0x800000000000000000000, avoid: 0x0, from: 710, to: 714 }, // BitAndTail = & Shift @bit_and BitAndTail
+    Row { select: 0x110000000007ff8002074006101e2024, avoid: 0x0, from: 714, to: 714 }, // BitAndTail = nothing
+    Row { select: 0xfc642000000188010e0401082, avoid: 0x0, from: 714, to: 716 }, // Shift = Sum ShiftTail
+    Row { select: 0x1000000000000000000000, avoid: 0x0, from: 716, to: 720 }, // ShiftTail = << Sum @shift_left ShiftTail
+    Row { select: 0x2000000000000000000000000000000, avoid: 0x0, from: 720, to: 724 }, // ShiftTail = >> Sum @shift_right ShiftTail
+    Row { select: 0x11000000000fff8002074006101e2024, avoid: 0x0, from: 724, to: 724 }, // ShiftTail = nothing
+    Row { select: 0xfc642000000188010e0401082, avoid: 0x0, from: 724, to: 726 }, // Sum = Product SumTail
+    Row { select: 0x2000000000000000000000, avoid: 0x0, from: 726, to: 730 }, // SumTail = + Product @add SumTail
+    Row { select: 0x4000000000000000000000, avoid: 0x0, from: 730, to: 734 }, // SumTail = - Product @subtract SumTail
+    Row { select: 0x13000000001fff8002074006101e2024, avoid: 0x0, from: 734, to: 734 }, // SumTail = nothing
+    Row { select: 0xfc642000000188010e0401082, avoid: 0x0, from: 734, to: 736 }, // Product = Prefix ProductTail
+    Row { select: 0x200000000000, avoid: 0x0, from: 736, to: 740 }, // ProductTail = * Prefix @multiply ProductTail
+    Row { select: 0x8000000000000000000000, avoid: 0x0, from: 740, to: 744 }, // ProductTail = / Prefix @divide ProductTail
+    Row { select: 0x10000000000000000000000, avoid: 0x0, from: 744, to: 748 }, // ProductTail = % Prefix @remainder ProductTail
+    Row { select: 0x13000000007fff8002074006101e2024, avoid: 0x0, from: 748, to: 748 }, // ProductTail = nothing
+    Row { select: 0x20000000000000000000000, avoid: 0x0, from: 748, to: 752 }, // Prefix = @begin ! Prefix @not
+    Row { select: 0x4000000000000000000000, avoid: 0x0, from: 752, to: 756 }, // Prefix = @begin - Prefix @negate
+    Row { select: 0x40000000000000000000000, avoid: 0x0, from: 756, to: 760 }, // Prefix = @begin ~ Prefix @complement
+    Row { select: 0xfc002000000188010e0401082, avoid: 0x0, from: 760, to: 762 }, // Prefix = Primary Postfix
+    Row { select: 0x80000000000000000000000, avoid: 0x0, from: 762, to: 766 }, // Postfix = . Member @member Postfix
+    Row { select: 0x100000000000000000000000, avoid: 0x0, from: 766, to: 771 }, // Postfix = ?. @name ID @set_member Postfix
+    Row { select: 0x800000000000, avoid: 0x0, from: 771, to: 776 }, // Postfix = [ Expr ] @index Postfix
+    Row { select: 0x1000, avoid: 0x0, from: 776, to: 783 }, // Postfix = ( @begin Args ) @row @call Postfix
+    Row { select: 0x1300000001ffff8002076006101e2024, avoid: 0x0, from: 783, to: 783 }, // Postfix = nothing
+    Row { select: 0x2, avoid: 0x0, from: 783, to: 785 }, // Member = @name ID
+    Row { select: 0x200000000000000000000000, avoid: 0x0, from: 785, to: 787 }, // Member = @name skip
+    Row { select: 0x2, avoid: 0x0, from: 787, to: 790 }, // Primary = @begin Path @path_expr
+    Row { select: 0x400000000000000000000000, avoid: 0x0, from: 790, to: 792 }, // Primary = @self_expr self
+    Row { select: 0x800000000000000000000000, avoid: 0x0, from: 792, to: 794 }, // Primary = @current_expr $$
+    Row { select: 0x1000000000, avoid: 0x0, from: 794, to: 796 }, // Primary = @number_expr NUM
+    Row { select: 0x80, avoid: 0x0, from: 796, to: 798 }, // Primary = @string_expr STRING
+    Row { select: 0x8000000000000, avoid: 0x0, from: 798, to: 800 }, // Primary = @bytes_expr BYTES
+    Row { select: 0x10000000000000, avoid: 0x0, from: 800, to: 802 }, // Primary = @regex_expr REGEX
+    Row { select: 0x1000000000000000000000000, avoid: 0x0, from: 802, to: 804 }, // Primary = @true_expr True
+    Row { select: 0x2000000000000000000000000, avoid: 0x0, from: 804, to: 806 }, // Primary = @false_expr False
+    Row { select: 0x1000, avoid: 0x0, from: 806, to: 810 }, // Primary = @begin ( Expr Paren
+    Row { select: 0x800000000000, avoid: 0x0, from: 810, to: 816 }, // Primary = @begin [ Expr Exprs ] @vector_expr
+    Row { select: 0x40000000, avoid: 0x0, from: 816, to: 819 }, // Primary = @begin set Set
+    Row { select: 0x80000000, avoid: 0x0, from: 819, to: 822 }, // Primary = @begin map Map
+    Row { select: 0x20000000, avoid: 0x0, from: 822, to: 830 }, // Primary = @begin vector < TypeTree CLOSE ( ) @empty_vector_expr
+    Row { select: 0x400000, avoid: 0x0, from: 830, to: 837 }, // Primary = @begin INT ( @number NUM ) @typed_number_expr
+    Row { select: 0x4000000000000000000000000, avoid: 0x0, from: 837, to: 846 }, // Primary = @begin cast < TypeTree CLOSE ( Expr ) @cast_expr
+    Row { select: 0x8000000000000000000000000, avoid: 0x0, from: 846, to: 851 }, // Primary = @begin new Path NewArgs @new_expr
+    Row { select: 0x200000000000000000000, avoid: 0x0, from: 851, to: 856 }, // Primary = @begin | BitXor | @size_expr
+    Row { select: 0x2000, avoid: 0x0, from: 856, to: 858 }, // Paren = ) @paren
+    Row { select: 0x100000, avoid: 0x0, from: 858, to: 863 }, // Paren = , Expr Exprs ) @tuple_expr
+    Row { select: 0x1000, avoid: 0x0, from: 863, to: 868 }, // Set = ( Expr Exprs ) @set_expr
+    Row { select: 0x10000000, avoid: 0x0, from: 868, to: 874 }, // Set = < TypeTree CLOSE ( ) @empty_set_expr
+    Row { select: 0x1000, avoid: 0x0, from: 874, to: 879 }, // Map = ( Pair Pairs ) @map_expr
+    Row { select: 0x10000000, avoid: 0x0, from: 879, to: 887 }, // Map = < TypeTree , TypeTree CLOSE ( ) @empty_map_expr
+    Row { select: 0x100000, avoid: 0x0, from: 887, to: 890 }, // Pairs = , Pair Pairs
+    Row { select: 0x2000, avoid: 0x0, from: 890, to: 890 }, // Pairs = nothing
+    Row { select: 0xfc642000000188010e0401082, avoid: 0x0, from: 890, to: 895 }, // Pair = @begin Expr : Expr @pair
+    Row { select: 0x1000, avoid: 0x0, from: 895, to: 900 }, // NewArgs = ( @begin Args ) @row
+    Row { select: 0x1300000019ffff800207e006101e2024, avoid: 0x1000, from: 900, to: 902 }, // NewArgs = @begin @row
 ];
 
 /// The nonterminals.

@@ -1,0 +1,151 @@
+-- The tree of a text: what the marks of its derivation build, one after another, on a stack of trees.
+use Rattle.std.specs.Prelude.{ℕ, ◌≡◌, ◌+◌, ◌-◌, zero, suc, List, [], ◌∷◌, ◌++◌, reverse, if◌then◌else◌, Option, Some, None, option_map}
+use Rattle.std.proofs.Common.{get_or}
+use Rattle.sp_base.specs.declared.places.Span.{Span}
+use Rattle.sp_lex.specs.declared.kinds.TokenKind.TheVariants as kind
+use Rattle.sp_lex.specs.declared.tokens.Token.{Token}
+use Rattle.sp_lex.specs.Readings.{bytes_of}
+use Rattle.sp_parser.specs.declared.symbol.Event.{Event}
+use Rattle.sp_grammar.specs.declared.marks.Mark.{Mark}
+use Rattle.sp_grammar.specs.Marks.{mark_with}
+use Rattle.sp_ast.specs.Trees.{Form, Tree, absent, tree, in_row, respan, span_of}
+use Rattle.sp_ast.specs.declared.words.IntWord.{IntWord}
+use Rattle.sp_ast.specs.declared.words.AttributeName.{AttributeName}
+use Rattle.sp_build.specs.Groups.{Group, Sort, one, is_of, fits, expressions}
+use Rattle.sp_build.specs.Rules.{Leaf, Slot, part, several, Rule, begins, leaves_out, takes, gathers, closes, closes_integer, closes_attribute, encloses, joins, wraps, rule}
+use Rattle.sp_build.specs.Tokens.{form_of, integer_of, attribute_of}
+
+-- what stands on the stack: a tree that began before so many tokens, or one that is built
+pub data Item : Type 0 where
+  begun : ℕ → Item
+  built : Tree → Item
+
+-- the last item first
+abbrev pub Stack : Type 0
+Stack = List Item
+
+-- an answer, and the stack that is left
+pub record Left (A : Type 0) : Type 0 where
+  pub value : A
+  pub rest : Stack
+
+abbrev pub left : {A : Type 0} → A → Stack → Left A
+left x s = record { value = x; rest = s }
+
+-- what is done with an answer, if there is one
+abbrev pub then_do : {A B : Type 0} → Option (Left A) → (A → Stack → Option B) → Option B
+then_do None go = None
+then_do (Some x) go = go x.value x.rest
+
+-- the last tree, if it may stand for such a part
+abbrev pub popped : Sort → Stack → Option (Left Tree)
+popped sort (built t ∷ s) = if fits sort t then Some (left t s) else None
+popped sort _ = None
+
+-- the trees of a group that stand last, in the order of the text
+abbrev pub gathered : Group → Stack → List Tree → Left (List Tree)
+gathered g [] ts = left ts []
+gathered g (begun p ∷ s) ts = left ts (begun p ∷ s)
+gathered g (built t ∷ s) ts = if is_of g t then gathered g s (t ∷ ts) else left ts (built t ∷ s)
+
+abbrev pub popped_group : Group → Stack → Left (List Tree)
+popped_group g s = gathered g s []
+
+-- all trees since one began, in the order of the text
+abbrev pub collected : Stack → List Tree → Left (List Tree)
+collected [] ts = left ts []
+collected (begun p ∷ s) ts = left ts (begun p ∷ s)
+collected (built t ∷ s) ts = collected s (t ∷ ts)
+
+abbrev pub popped_all : Stack → Left (List Tree)
+popped_all s = collected s []
+
+-- the place where the last tree began
+abbrev pub opened : Stack → Option (Left ℕ)
+opened (begun p ∷ s) = Some (left p s)
+opened _ = None
+
+-- The parts that the slots want, the last slot first, before those that are found.
+abbrev pub parts_of : List Slot → List Tree → Stack → Option (Left (List Tree))
+parts_of [] ts s = Some (left ts s)
+parts_of (part sort ∷ slots) ts s = then_do (popped sort s) (λ t rest. parts_of slots (t ∷ ts) rest)
+parts_of (several g ∷ slots) ts s = let found = popped_group g s in parts_of slots (found.value ++ ts) found.rest
+
+abbrev pub popped_parts : List Slot → Stack → Option (Left (List Tree))
+popped_parts slots s = parts_of (reverse slots) [] s
+
+abbrev pub no_token : Token
+no_token = record { kind = kind.Id; span = record { from = 0; to = 0 } }
+
+-- the token before which so many stand
+abbrev pub token_of : List Token → ℕ → Token
+token_of tokens n = get_or tokens n no_token
+
+-- where the token before this place ends
+abbrev pub end_before : List Token → ℕ → ℕ
+end_before tokens zero = 0
+end_before tokens (suc n) = (token_of tokens n).span.to
+
+-- the text from the token before which p stand, up to the place before which n stand
+abbrev pub stretch : List Token → ℕ → ℕ → Span
+stretch tokens p n = record { from = (token_of tokens p).span.from; to = end_before tokens n }
+
+-- the text from where these trees begin, up to a place
+abbrev pub stretch_from : List Token → List Tree → ℕ → Span
+stretch_from tokens [] n = record { from = 0; to = end_before tokens n }
+stretch_from tokens (t ∷ ts) n = record { from = (span_of t).from; to = end_before tokens n }
+
+abbrev pub push : Tree → Stack → Option Stack
+push t s = Some (built t ∷ s)
+
+-- the token as a tree
+abbrev pub leaf : List ℕ → Leaf → Token → Option Tree
+leaf text l token = option_map (λ form. tree form token.span []) (form_of l token.kind (bytes_of text token))
+
+abbrev pub push_if : Option Tree → Stack → Option Stack
+push_if None s = None
+push_if (Some t) s = push t s
+
+-- the parts since a tree began, and the place where it began
+abbrev pub close_with : List Slot → Stack → (ℕ → List Tree → Stack → Option Stack) → Option Stack
+close_with slots s go = then_do (popped_parts slots s) (λ ts rest. then_do (opened rest) (λ p below. go p ts below))
+
+-- a tree whose alternative is by a word, if there is one
+abbrev pub worded : {A : Type 0} → Option A → (A → Form) → Span → List Tree → Stack → Option Stack
+worded None form span ts s = None
+worded (Some word) form span ts s = push (tree (form word) span ts) s
+
+-- what a rule does at a place before which n tokens stand
+abbrev pub done_by : Rule → List ℕ → List Token → ℕ → Stack → Option Stack
+done_by begins text tokens n s = Some (begun n ∷ s)
+done_by leaves_out text tokens n s = push absent s
+done_by (takes l) text tokens n s = push_if (leaf text l (token_of tokens n)) s
+done_by gathers text tokens n s = let found = popped_all s in then_do (opened found.rest) (λ p below. push (in_row found.value) below)
+done_by (closes slots form) text tokens n s = close_with slots s (λ p ts below. push (tree form (stretch tokens p n) ts) below)
+done_by (closes_integer slots form) text tokens n s = close_with slots s (λ p ts below. worded (integer_of (token_of tokens p).kind) form (stretch tokens p n) ts below)
+done_by (closes_attribute slots form) text tokens n s = close_with slots s (λ p ts below. worded (attribute_of (token_of tokens p).kind) form (stretch tokens p n) ts below)
+done_by encloses text tokens n s = then_do (popped (one expressions) s) (λ t rest. then_do (opened rest) (λ p below. push (respan (stretch tokens p n) t) below))
+done_by (joins slots form) text tokens n s = then_do (popped_parts slots s) (λ ts rest. push (tree form (stretch_from tokens ts n) ts) rest)
+done_by (wraps g form) text tokens n s = then_do (popped (one g) s) (λ t rest. push (tree form (span_of t) (t ∷ [])) rest)
+
+-- what a mark does where it is passed
+abbrev pub marked : Mark → List ℕ → List Token → ℕ → Stack → Option Stack
+marked m text tokens n s = done_by (rule m) text tokens n s
+
+abbrev pub with_mark : Option Mark → (Mark → Option Stack) → Option Stack
+with_mark None go = None
+with_mark (Some m) go = go m
+
+abbrev pub go_on : Option Stack → (Stack → Option Stack) → Option Stack
+go_on None go = None
+go_on (Some next) go = go next
+
+-- What the marks of a derivation do, one after another. The tokens are those from the text's first on.
+abbrev pub all_done : List ℕ → List Token → List Event → Stack → Option Stack
+all_done text tokens [] s = Some s
+all_done text tokens (e ∷ events) s =
+    go_on (with_mark (mark_with e.mark) (λ m. marked m text tokens e.at s)) (λ next. all_done text tokens events next)
+
+-- the marks build this tree, and nothing else
+abbrev pub IsBuilt : List ℕ → List Token → List Event → Tree → Type 0
+IsBuilt text tokens events t = all_done text tokens events [] ≡ Some (built t ∷ [])

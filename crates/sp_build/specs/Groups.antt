@@ -1,0 +1,96 @@
+-- The groups of alternatives that can stand in one another's place, and what may stand where a part is wanted.
+use Rattle.std.specs.Prelude.{ℕ, Bool, true, false, ◌==◌, ◌&&◌}
+use Rattle.sp_ast.specs.Trees
+use Rattle.sp_ast.specs.Trees.{Form, Tree, Trees, node, absent, row, none, more}
+
+-- names, words, expressions, types and so on
+pub data Group : Type 0 where
+  names texts numbers events paths expressions pairs types labels ranges parameters : Group
+  statements blocks branches cases : Group
+  items targets parts arms guards bodies bases counts attributes hooks hook_bodies : Group
+  declarations modules : Group
+
+abbrev pub group_number : Group → ℕ
+group_number names = 0
+group_number texts = 1
+group_number numbers = 2
+group_number events = 3
+group_number paths = 4
+group_number expressions = 5
+group_number pairs = 6
+group_number types = 7
+group_number labels = 8
+group_number ranges = 9
+group_number parameters = 10
+group_number statements = 11
+group_number blocks = 12
+group_number branches = 13
+group_number cases = 14
+group_number items = 15
+group_number targets = 16
+group_number parts = 17
+group_number arms = 18
+group_number guards = 19
+group_number bodies = 20
+group_number bases = 21
+group_number counts = 22
+group_number attributes = 23
+group_number hooks = 24
+group_number hook_bodies = 25
+group_number declarations = 26
+group_number modules = 27
+
+abbrev pub same_group : Group → Group → Bool
+same_group g h = group_number g == group_number h
+
+-- the group of an alternative
+abbrev pub group : Form → Group
+group (Trees.name x) = names
+group (Trees.text x) = texts
+group (Trees.number x) = numbers
+group (Trees.event x) = events
+group Trees.path = paths
+group (Trees.expr form) = expressions
+group Trees.pair = pairs
+group (Trees.type_tree form) = types
+group Trees.label = labels
+group Trees.bits = ranges
+group (Trees.parameter inout) = parameters
+group (Trees.stmt form) = statements
+group Trees.block = blocks
+group Trees.branch = branches
+group Trees.case = cases
+group (Trees.item form) = items
+group (Trees.target form) = targets
+group (Trees.part form) = parts
+group Trees.arm = arms
+group (Trees.guard form) = guards
+group (Trees.body form) = bodies
+group (Trees.base form) = bases
+group Trees.count = counts
+group (Trees.attribute name) = attributes
+group Trees.hook = hooks
+group (Trees.hook_body each) = hook_bodies
+group (Trees.decl form) = declarations
+group Trees.module_tree = modules
+
+-- What may stand for a part: one of a group, one that may be left out, or any number of them in a row.
+pub data Sort : Type 0 where
+  one optional rows : Group → Sort
+
+abbrev pub is_of : Group → Tree → Bool
+is_of g (node form span ts) = same_group g (group form)
+is_of g absent = false
+is_of g (row ts) = false
+
+abbrev pub are_of : Group → Trees → Bool
+are_of g none = true
+are_of g (more t ts) = is_of g t && are_of g ts
+
+-- whether a tree may stand there
+abbrev pub fits : Sort → Tree → Bool
+fits (one g) t = is_of g t
+fits (optional g) absent = true
+fits (optional g) t = is_of g t
+fits (rows g) (row ts) = are_of g ts
+fits (rows g) t = false

@@ -1,0 +1,2 @@
+//! The trees of texts, built at the marks that their derivations pass.
+#![tactic(auto)]
