@@ -1,1 +1,3 @@
 pub mod GroupLaws
+pub mod StackLaws
+pub mod OtherGroups

@@ -1,5 +1,5 @@
 -- The trees and the stack that the code's pieces are.
-use Rattle.std.specs.Prelude.{ℕ, ◌≡◌, List, [], ◌∷◌, map, reverse, Option, Some, None}
+use Rattle.std.specs.Prelude.{ℕ, ◌≡◌, List, [], ◌∷◌, map, reverse, Bool, true, false, Option, Some, None}
 use Rattle.sp_ast.specs.Trees.{Tree, absent, in_row}
 use Rattle.sp_ast.specs.Views.{name_view, text_view, number_view, event_view, path_view, expr_view, pair_view, type_view, label_view, range_view, param_view, stmt_view, block_view, branch_view, case_view, item_view, target_view, part_view, arm_view, guard_view, arm_body_view, base_view, count_view, attr_view, hook_view, hook_body_view, unit_view, field_view, decl_view, module_view}
 use Rattle.sp_build.specs.declared.piece.Built.{Built}
@@ -10,8 +10,8 @@ use Rattle.sp_build.specs.declared.fault.Fault.{Fault}
 use Rattle.sp_build.specs.declared.fault.Fault.TheVariants as fault
 use Rattle.std.specs.declared.result.Result.{Result}
 use Rattle.std.specs.declared.result.Result.TheVariants as result
-use Rattle.sp_build.specs.Building.{Item, begun, built, Stack}
-use Rattle.sp_build.specs.Groups.{Group, names, texts, numbers, events, paths, expressions, pairs, types, labels, ranges, parameters, statements, blocks, branches, cases, items, targets, parts, arms, guards, bodies, bases, counts, attributes, hooks, hook_bodies, units, fields, declarations, modules}
+use Rattle.sp_build.specs.Building.{Item, begun, built, Stack, Left, left, is_node}
+use Rattle.sp_build.specs.Groups.{Group, is_of, names, texts, numbers, events, paths, expressions, pairs, types, labels, ranges, parameters, statements, blocks, branches, cases, items, targets, parts, arms, guards, bodies, bases, counts, attributes, hooks, hook_bodies, units, fields, declarations, modules}
 
 -- the tree that is built
 abbrev pub built_view : Built → Tree
@@ -95,3 +95,21 @@ built_group (built_as.Unit x) = units
 built_group (built_as.Field x) = fields
 built_group (built_as.Decl x) = declarations
 built_group (built_as.Module x) = modules
+
+-- what was taken of a stack, or that there is nothing of the kind, or that memory ran out
+abbrev pub IsTaken : {A B : Type 0} → Result A Fault → (A → B) → Option (Left B) → Stack → Type 0
+IsTaken (result.Ok x) view next after = next ≡ Some (left (view x) after)
+IsTaken (result.Err fault.Misfit) view next after = next ≡ None
+IsTaken (result.Err fault.NoMemory) view next after = Unit {0}
+
+-- no tree of the group stands last
+abbrev pub EndsGroup : Group → Stack → Type 0
+EndsGroup g [] = Unit {0}
+EndsGroup g (begun n ∷ s) = Unit {0}
+EndsGroup g (built t ∷ s) = is_of g t ≡ false
+
+-- no tree stands last that may stand in a row
+abbrev pub EndsAll : Stack → Type 0
+EndsAll [] = Unit {0}
+EndsAll (begun n ∷ s) = Unit {0}
+EndsAll (built t ∷ s) = is_node t ≡ false

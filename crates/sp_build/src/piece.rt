@@ -1,8 +1,8 @@
 // What stands on the stack while a tree is built.
 use sp_ast::{
-    Arm, ArmBody, Attr, Base, BitRange, Block, Branch, Case, Count, Decl, EventName, Expr, Field, Guard,
-    Hook, HookBody, HookTarget, Item, Label, Module, Name, NumberLiteral, Pair, Param, Part, Path,
-    Stmt, TextLiteral, TypeTree, Unit,
+    Arm, ArmBody, Attr, Base, BitRange, Block, Branch, Case, Count, Decl, EventName, Expr, Field,
+    Guard, Hook, HookBody, HookTarget, Item, Label, Module, Name, NumberLiteral, Pair, Param, Part,
+    Path, Stmt, TextLiteral, TypeTree, Unit,
 };
 
 /// A tree that is built.

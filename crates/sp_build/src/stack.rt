@@ -1,1 +1,1 @@
-// The stack of trees.
+// The stack
