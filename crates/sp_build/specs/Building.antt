@@ -1,5 +1,5 @@
 -- The tree of a text: what the marks of its derivation build, one after another, on a stack of trees.
-use Rattle.std.specs.Prelude.{ℕ, ◌≡◌, ◌+◌, ◌-◌, zero, suc, List, [], ◌∷◌, ◌++◌, reverse, if◌then◌else◌, Option, Some, None, option_map}
+use Rattle.std.specs.Prelude.{ℕ, ◌≡◌, ◌+◌, ◌-◌, zero, suc, List, [], ◌∷◌, ◌++◌, reverse, if◌then◌else◌, Bool, true, false, Option, Some, None, option_map}
 use Rattle.std.proofs.Common.{get_or}
 use Rattle.sp_base.specs.declared.places.Span.{Span}
 use Rattle.sp_lex.specs.declared.kinds.TokenKind.TheVariants as kind
@@ -8,7 +8,7 @@ use Rattle.sp_lex.specs.Readings.{bytes_of}
 use Rattle.sp_parser.specs.declared.symbol.Event.{Event}
 use Rattle.sp_grammar.specs.declared.marks.Mark.{Mark}
 use Rattle.sp_grammar.specs.Marks.{mark_with}
-use Rattle.sp_ast.specs.Trees.{Form, Tree, absent, tree, in_row, respan, span_of}
+use Rattle.sp_ast.specs.Trees.{Form, Tree, absent, row, node, tree, in_row, respan, span_of}
 use Rattle.sp_ast.specs.declared.words.IntWord.{IntWord}
 use Rattle.sp_ast.specs.declared.words.AttributeName.{AttributeName}
 use Rattle.sp_build.specs.Groups.{Group, Sort, one, is_of, fits, expressions}
@@ -51,11 +51,17 @@ gathered g (built t ∷ s) ts = if is_of g t then gathered g s (t ∷ ts) else l
 abbrev pub popped_group : Group → Stack → Left (List Tree)
 popped_group g s = gathered g s []
 
--- all trees since one began, in the order of the text
+-- a tree that is neither left out nor a row
+abbrev pub is_node : Tree → Bool
+is_node (node form span ts) = true
+is_node absent = false
+is_node (row ts) = false
+
+-- all trees since one began, in the order of the text; they are neither left out nor rows
 abbrev pub collected : Stack → List Tree → Left (List Tree)
 collected [] ts = left ts []
 collected (begun p ∷ s) ts = left ts (begun p ∷ s)
-collected (built t ∷ s) ts = collected s (t ∷ ts)
+collected (built t ∷ s) ts = if is_node t then collected s (t ∷ ts) else left ts (built t ∷ s)
 
 abbrev pub popped_all : Stack → Left (List Tree)
 popped_all s = collected s []
