@@ -27,10 +27,10 @@ counted [] k n d t h = absurd (omega arith)
 counted (x ∷ xs) k zero d t h = let e : mark_number x ≡ k = eqb-true (mark_number x) k (and_parts (mark_number x == k) (counts (suc k) xs) t).0 in e ∙ omega arith
 counted (x ∷ xs) k (suc n) d t h = counted xs (suc k) n d (and_parts (mark_number x == k) (counts (suc k) xs) t).1 (omega arith) ∙ omega arith
 
-pub mark_at : (n : ℕ) (d : Mark) → n < 138 → mark_number (get_or MARKS n d) ≡ n
+pub mark_at : (n : ℕ) (d : Mark) → n < 141 → mark_number (get_or MARKS n d) ≡ n
 mark_at n d h = counted MARKS 0 n d refl h ∙ omega arith
 
-pub below : (m : Mark) → mark_number m < 138
+pub below : (m : Mark) → mark_number m < 141
 below build.Begin = lit< tt
 below build.Name = lit< tt
 below build.Row = lit< tt
@@ -77,6 +77,9 @@ below build.DescriptionItem = lit< tt
 below build.VariableItem = lit< tt
 below build.SinkItem = lit< tt
 below build.OnItem = lit< tt
+below build.PartItem = lit< tt
+below build.NameTarget = lit< tt
+below build.EventTarget = lit< tt
 below build.SwitchPart = lit< tt
 below build.OtherwiseGuard = lit< tt
 below build.Arm = lit< tt
@@ -93,12 +96,12 @@ below build.BytesBase = lit< tt
 below build.RegexBase = lit< tt
 below build.GroupBase = lit< tt
 below build.UnitBase = lit< tt
-below build.PathBase = lit< tt
 below build.NumberBase = lit< tt
 below build.IntBase = lit< tt
 below build.Block = lit< tt
 below build.Branch = lit< tt
 below build.IfStmt = lit< tt
+below build.BlockStmt = lit< tt
 below build.LocalStmt = lit< tt
 below build.WhileStmt = lit< tt
 below build.ForStmt = lit< tt
@@ -170,13 +173,13 @@ below build.MapExpr = lit< tt
 below build.EmptyMapExpr = lit< tt
 below build.Pair = lit< tt
 
-is_named : (n : ℕ) → nat_lt n 138 ≡ true → IsNamed n
-is_named n t = (get_or MARKS n build.Begin, mark_at n build.Begin (ltb-true n 138 t))
+is_named : (n : ℕ) → nat_lt n 141 ≡ true → IsNamed n
+is_named n t = (get_or MARKS n build.Begin, mark_at n build.Begin (ltb-true n 141 t))
 
 -- each mark of the symbols has a name
 abbrev named : List Symbol → Bool
 named [] = true
-named (symbol.Mark m ∷ ss) = nat_lt m 138 && named ss
+named (symbol.Mark m ∷ ss) = nat_lt m 141 && named ss
 named (symbol.Terminal e ∷ ss) = named ss
 named (symbol.Nonterminal n ∷ ss) = named ss
 
@@ -193,7 +196,7 @@ both a b x y = ap (λ z. z && b) x ∙ y
 
 named_both : (ss ts : List Symbol) → named ss ≡ true → named ts ≡ true → named (ss ++ ts) ≡ true
 named_both [] ts s t = t
-named_both (symbol.Mark m ∷ ss) ts s t = let x = and_parts (nat_lt m 138) (named ss) s in both (nat_lt m 138) (named (ss ++ ts)) x.0 (named_both ss ts x.1 t)
+named_both (symbol.Mark m ∷ ss) ts s t = let x = and_parts (nat_lt m 141) (named ss) s in both (nat_lt m 141) (named (ss ++ ts)) x.0 (named_both ss ts x.1 t)
 named_both (symbol.Terminal e ∷ ss) ts s t = named_both ss ts s t
 named_both (symbol.Nonterminal n ∷ ss) ts s t = named_both ss ts s t
 
@@ -214,7 +217,7 @@ passed_named : {g : Table} {i : ℕ} {ss : List Symbol} {w : List ℕ} {τ : Lis
 passed_named t done h = tt
 passed_named t (whole q d) h = passed_named t d h
 passed_named t (half q d) h = passed_named t d h
-passed_named t (mark {m = m} {ss = ss} d) h = let x = and_parts (nat_lt m 138) (named ss) h in (is_named m x.0, passed_named t d x.1)
+passed_named t (mark {m = m} {ss = ss} d) h = let x = and_parts (nat_lt m 141) (named ss) h in (is_named m x.0, passed_named t d x.1)
 passed_named {g = g} t (expand {n = n} {ss = ss} p a d) h = passed_named t d (named_both (right g n p) ss (right_named g n p t) h)
 
 language_named : table_named language.productions ≡ true
