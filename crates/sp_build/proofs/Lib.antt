@@ -1,2 +1,5 @@
+pub mod Effects
 pub mod Shapes
 pub mod Signatures
+pub mod Standing
+pub mod Told

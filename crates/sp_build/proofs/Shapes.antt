@@ -55,12 +55,19 @@ covers left_out left_out = true
 covers no_row no_row = true
 covers _ _ = false
 
+-- what is left under one that has the wanted shape
+abbrev pub under_one : Shape → List Shape → Option (List Shape)
+under_one w [] = None
+under_one w (x ∷ xs) = if covers w x then Some xs else None
+
+abbrev pub under_wanted : Shape → List Shape → Option (List Shape)
+under_wanted (many g) xs = Some (under g xs)
+under_wanted w xs = under_one w xs
+
 -- what is left under the wanted shapes, the last first, if they stand there
 abbrev pub strip : List Shape → List Shape → Option (List Shape)
 strip [] xs = Some xs
-strip (many g ∷ ws) xs = strip ws (under g xs)
-strip (w ∷ ws) [] = None
-strip (w ∷ ws) (x ∷ xs) = if covers w x then strip ws xs else None
+strip (w ∷ ws) xs = and_then (under_wanted w xs) (λ rest. strip ws rest)
 
 -- what is left under the beginning of a tree
 abbrev pub under_opening : List Shape → Option (List Shape)
@@ -78,13 +85,15 @@ is_opening (opens ∷ xs) = true
 is_opening (opens_at k ∷ xs) = true
 is_opening _ = false
 
--- What is left under the parts for these slots, the last slot first. The trees of a group are all those that stand since
--- a tree began.
+-- What is left under the part for a slot. The trees of a group are all those that stand since a tree began.
+abbrev pub under_part : Slot → List Shape → Option (List Shape)
+under_part (part sort) xs = under_one (stands sort) xs
+under_part (several g) xs = if is_opening (under g xs) then Some (under g xs) else None
+
+-- the same for all slots, the last slot first
 abbrev pub under_parts : List Slot → List Shape → Option (List Shape)
 under_parts [] xs = Some xs
-under_parts (part sort ∷ slots) [] = None
-under_parts (part sort ∷ slots) (x ∷ xs) = if suits sort x then under_parts slots xs else None
-under_parts (several g ∷ slots) xs = let rest = under g xs in if is_opening rest then under_parts slots rest else None
+under_parts (slot ∷ slots) xs = and_then (under_part slot xs) (λ rest. under_parts slots rest)
 
 abbrev pub one_of : Group → Shape
 one_of g = stands (one g)
