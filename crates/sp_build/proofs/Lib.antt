@@ -2,4 +2,5 @@ pub mod Effects
 pub mod Shapes
 pub mod Signatures
 pub mod Standing
+pub mod Texts
 pub mod Told
