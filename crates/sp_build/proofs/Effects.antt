@@ -1,5 +1,5 @@
 -- What a rule makes of known shapes it makes of each stack that has them.
-use Rattle.std.specs.Prelude.{ℕ, ◌≡◌, List, [], ◌∷◌, ◌++◌, reverse, Bool, true, false, ◌&&◌, ◌==◌, if◌then◌else◌, Option, Some, None, option_map, refl}
+use Rattle.std.specs.Prelude.{ℕ, ◌≡◌, List, [], ◌∷◌, ◌++◌, reverse, true, ◌==◌, if◌then◌else◌, Option, Some, None, option_map, refl}
 use Rattle.std.proofs.Common.{◌∙◌, ap, sym, subst, eq-eqb, eqb-true}
 use Rattle.std.proofs.lemmas.Bool.{and_from}
 use Rattle.sp_base.specs.declared.places.Span.{Span}
@@ -9,13 +9,14 @@ use Rattle.sp_lex.specs.Readings.{bytes_of}
 use Rattle.sp_lex.specs.declared.tokens.Token.{Token}
 use Rattle.sp_grammar.specs.declared.terminals.Terminal.TheVariants as terminal
 use Rattle.sp_grammar.specs.Terminals.{terminal_number}
-use Rattle.sp_read_expr.specs.Kinds.{token_number}
+use Rattle.sp_lex.specs.declared.kinds.TokenKind.{TokenKind}
+use Rattle.sp_read_expr.specs.Kinds.{token_number, number_of, terminal_of}
 use Rattle.sp_ast.specs.Trees.{Form, Tree, absent, row, node, tree, trees, in_row, respan, span_of}
 use Rattle.sp_build.specs.Groups.{Group, group_number, same_group, group, expressions, Sort, one, rows, is_of, are_of, fits}
 use Rattle.sp_build.specs.Rules.{Slot, part, several, Rule, begins, leaves_out, takes, gathers, closes, closes_integer, closes_attribute, encloses, joins, wraps}
-use Rattle.sp_build.specs.Tokens.{form_of, integer_of, attribute_of}
-use Rattle.sp_build.specs.Building.{Item, begun, built, Stack, Left, left, then_do, popped, gathered, collected, opened, parts_of, popped_parts, token_of, stretch, stretch_from, push, leaf, push_if, close_with, worded, done_by}
-use Rattle.sp_build.proofs.Shapes.{Shape, opens, opens_at, stands, left_out, no_row, many, and_then, under, under_one, under_opening, under_opening_at, is_opening, under_part, under_parts, one_of, put, opening, leaf_group, is_told, group_in, rowed, effect}
+use Rattle.sp_build.specs.Tokens.{integer_of, attribute_of}
+use Rattle.sp_build.specs.Building.{Item, begun, built, Stack, Left, left, then_do, popped, gathered, collected, opened, parts_of, popped_parts, token_of, stretch, stretch_from, push, push_if, close_with, worded, done_by}
+use Rattle.sp_build.proofs.Shapes.{Shape, opens, opens_at, stands, no_row, and_then, under, under_one, under_opening, under_opening_at, is_opening, under_part, under_parts, closed_under, one_of, put, opening, leaf_group, is_told, group_in, rowed, effect}
 use Rattle.sp_build.proofs.Told.{never, an_integer, an_attribute, IsEvenRule, IsKind, told}
 use Rattle.sp_build.proofs.Standing.{is_shaped, Stands, bottom, above, no_more, one_more, some_equal, not_some, then_some, if_some, one_above, Front, no_tree, a_tree, under_front}
 
@@ -82,6 +83,14 @@ popped_there {tokens = tokens} sort {ys = ys} {b = b} e st =
 popped_fits : (sort : Sort) (t : Tree) (s : Stack) → fits sort t ≡ true → popped sort (built t ∷ s) ≡ Some (left t s)
 popped_fits sort t s q = ap (λ c. if c then Some (left t s) else None) q
 
+one_part : (sort : Sort) (slots : List Slot) (acc : List Tree) (t : Tree) {s m : Stack} (found : Left (List Tree)) → s ≡ built t ∷ m → fits sort t ≡ true → parts_of slots (t ∷ acc) m ≡ Some found → parts_of (part sort ∷ slots) acc s ≡ Some found
+one_part sort slots acc t {m = m} found e q h =
+    let go = λ (t : Tree) (rest : Stack). parts_of slots (t ∷ acc) rest in
+    ap (λ z. then_do (popped sort z) go) e ∙ (ap (λ o. then_do o go) (popped_fits sort t m q) ∙ h)
+
+all_parts : (g : Group) (slots : List Slot) (acc ts : List Tree) (s : Stack) {m : Stack} (found : Left (List Tree)) → gathered g s [] ≡ left ts m → parts_of slots (ts ++ acc) m ≡ Some found → parts_of (several g ∷ slots) acc s ≡ Some found
+all_parts g slots acc ts s found e h = ap (λ (z : Left (List Tree)). parts_of slots (z.value ++ acc) z.rest) e ∙ h
+
 -- the parts for the slots are found
 parts_there : {tokens : List Token} (slots : List Slot) {xs ys : List Shape} {s b : Stack} → under_parts slots xs ≡ Some ys → Stands tokens xs s b → (acc : List Tree) → (ts : List Tree) × (m : Stack) × (parts_of slots acc s ≡ Some (left ts m)) × Stands tokens ys m b
 parts_there {tokens = tokens} [] {s = s} {b = b} e st acc = (acc, s, refl, subst (λ zs. Stands tokens zs s b) (some_equal e) st)
@@ -89,9 +98,7 @@ parts_there (part sort ∷ slots) {xs = xs} {ys = ys} e st acc =
     let a = then_some (under_part (part sort) xs) (λ rest. under_parts slots rest) ys e in
     let f = popped_there sort a.1 st in
     let h = parts_there slots a.2 f.4 (f.0 ∷ acc) in
-    let first = ap (λ z. then_do (popped sort z) (λ t rest. parts_of slots (t ∷ acc) rest)) f.2 in
-    let second = ap (λ o. then_do o (λ t rest. parts_of slots (t ∷ acc) rest)) (popped_fits sort f.0 f.1 f.3) in
-    (h.0, h.1, first ∙ second ∙ h.2, h.3)
+    (h.0, h.1, one_part sort slots acc f.0 (left h.0 h.1) f.2 f.3 h.2, h.3)
 parts_there {tokens = tokens} (several g ∷ slots) {xs = xs} {ys = ys} {s = s} {b = b} e st acc =
     let a = then_some (under_part (several g) xs) (λ rest. under_parts slots rest) ys e in
     let c = if_some (is_opening (under g xs)) (Some (under g xs)) a.0 a.1 in
@@ -99,7 +106,7 @@ parts_there {tokens = tokens} (several g ∷ slots) {xs = xs} {ys = ys} {s = s} 
     let o = opening_there c.0 f.2 in
     let found = gathered_front o.0 (subst (λ z. Front g s z) o.2 f.1) [] in
     let h = parts_there slots a.2 (subst (λ z. Stands tokens a.0 z b) o.2 (subst (λ zs. Stands tokens zs f.0 b) (some_equal c.1) f.2)) (found.0 ++ acc) in
-    (h.0, h.1, ap (λ (z : Left (List Tree)). parts_of slots (z.value ++ acc) z.rest) found.1 ∙ h.2, h.3)
+    (h.0, h.1, all_parts g slots acc found.0 s (left h.0 h.1) found.1 h.2, h.3)
 
 -- what a rule does is done, and leaves these shapes
 abbrev pub IsDone : List Token → Option Stack → List Shape → Stack → Type 0
@@ -121,11 +128,35 @@ opening_shaped : (tokens : List Token) (n : ℕ) (next : Option ℕ) → IsKind 
 opening_shaped tokens n None k = refl
 opening_shaped tokens n (Some e) k = eq-eqb (token_number (token_of tokens n)) e k
 
--- a tree is closed, with these parts since it began
-closed : (slots : List Slot) (s m r : Stack) (ts : List Tree) (p : ℕ) (go : ℕ → List Tree → Stack → Option Stack) → popped_parts slots s ≡ Some (left ts m) → m ≡ begun p ∷ r → close_with slots s go ≡ go p ts r
-closed slots s m r ts p go e q =
+-- A tree is closed, with these parts since it began before p tokens.
+record Closing (tokens : List Token) (slots : List Slot) (ys : List Shape) (s b : Stack) : Type 0 where
+  begin : ℕ
+  found : List Tree
+  below : Stack
+  closes_with : (go : ℕ → List Tree → Stack → Option Stack) → close_with slots s go ≡ go begin found below
+  stands_below : Stands tokens ys below b
+
+closing_with : (slots : List Slot) (s : Stack) {m r : Stack} {ts : List Tree} {p : ℕ} → popped_parts slots s ≡ Some (left ts m) → m ≡ begun p ∷ r → (go : ℕ → List Tree → Stack → Option Stack) → close_with slots s go ≡ go p ts r
+closing_with slots s {ts = ts} e q go =
     ap (λ o. then_do o (λ ts rest. then_do (opened rest) (λ p below. go p ts below))) e
     ∙ ap (λ z. then_do (opened z) (λ p below. go p ts below)) q
+
+closing : {tokens : List Token} (slots : List Slot) {xs zs ys : List Shape} {s b : Stack} → under_parts (reverse slots) xs ≡ Some zs → under_opening zs ≡ Some ys → Stands tokens xs s b → Closing tokens slots ys s b
+closing slots {s = s} e q st =
+    let f = parts_there (reverse slots) e st [] in
+    let o = opening_under q f.3 in
+    record { begin = o.0; found = f.0; below = o.1; closes_with = closing_with slots s f.2 o.2; stands_below = o.3 }
+
+-- the same, where it began at a token of this kind
+closing_at : {tokens : List Token} (k : ℕ) (slots : List Slot) {xs zs ys : List Shape} {s b : Stack} → under_parts (reverse slots) xs ≡ Some zs → under_opening_at k zs ≡ Some ys → Stands tokens xs s b → (c : Closing tokens slots ys s b) × ((token_number (token_of tokens c.begin) == k) ≡ true)
+closing_at k slots {s = s} e q st =
+    let f = parts_there (reverse slots) e st [] in
+    let o = opening_at_under k q f.3 in
+    (record { begin = o.0; found = f.0; below = o.1; closes_with = closing_with slots s f.2 o.2; stands_below = o.3 }, o.4)
+
+-- what is done for one of two equal steps is done for the other
+done_as : {tokens : List Token} {o next : Option Stack} {ys : List Shape} {b : Stack} → o ≡ next → IsDone tokens next ys b → IsDone tokens o ys b
+done_as e d = (d.0, e ∙ d.1, d.2)
 
 abbrev pub Done : Rule → List ℕ → List Token → ℕ → List Shape → Stack → Stack → Type 0
 Done r text tokens n ys s b = IsDone tokens (done_by r text tokens n s) ys b
@@ -140,64 +171,64 @@ gathers_there {tokens = tokens} text n (Some g) {xs = xs} {ys = ys} {s = s} {b =
     let f = under_front g st in
     let o = opening_under a.1 f.2 in
     let found = collected_front o.0 (subst (λ z. Front g s z) o.2 f.1) [] refl in
-    let done = put_there (rows g) (in_row found.0) a.2 found.2 o.3 in
-    (done.0, ap (λ (z : Left (List Tree)). then_do (opened z.rest) (λ p below. push (in_row z.value) below)) found.1 ∙ done.1, done.2)
+    done_as (ap (λ (z : Left (List Tree)). then_do (opened z.rest) (λ p below. push (in_row z.value) below)) found.1) (put_there (rows g) (in_row found.0) a.2 found.2 o.3)
+
+word_put : {tokens : List Token} {A : Type 0} (o : Option A) (word : A) (form : A → Form) (span : Span) (ts : List Tree) (s : Stack) {ys : List Shape} {b : Stack} → o ≡ Some word → IsDone tokens (push (tree (form word) span ts) s) ys b → IsDone tokens (worded o form span ts s) ys b
+word_put o word form span ts s e d = done_as (ap (λ z. worded z form span ts s) e) d
+
+-- a tree whose alternative is by the word at which it began
+words_there : {tokens : List Token} {A : Type 0} (k : ℕ) (word_of : TokenKind → Option A) (form : A → Form) (first : A) → ((kind : TokenKind) → (number_of (terminal_of kind) == k) ≡ true → (word : A) × (word_of kind ≡ Some word)) → ((word : A) → group (form word) ≡ group (form first)) → (slots : List Slot) (n : ℕ) {xs ys : List Shape} {s b : Stack} → closed_under slots (under_opening_at k) (group (form first)) xs ≡ Some ys → Stands tokens xs s b → IsDone tokens (close_with slots s (λ p ts below. worded (word_of (token_of tokens p).kind) form (stretch tokens p n) ts below)) ys b
+words_there {tokens = tokens} k word_of form first tells even slots n {xs = xs} {ys = ys} e st =
+    let a = then_some (under_parts (reverse slots) xs) (λ zs. and_then (under_opening_at k zs) (λ rest. put (one_of (group (form first))) rest)) ys e in
+    let d = then_some (under_opening_at k a.0) (λ rest. put (one_of (group (form first))) rest) ys a.2 in
+    let c = closing_at k slots a.1 d.1 st in
+    let w = tells (token_of tokens c.0.begin).kind c.1 in
+    let is_of_group = subst (λ g. same_group g (group (form w.0)) ≡ true) (even w.0) (of_group (form w.0)) in
+    let span = stretch tokens c.0.begin n in
+    let done = put_there (one (group (form first))) (tree (form w.0) span c.0.found) d.2 is_of_group c.0.stands_below in
+    done_as {next = worded (word_of (token_of tokens c.0.begin).kind) form span c.0.found c.0.below} (c.0.closes_with (λ p ts below. worded (word_of (token_of tokens p).kind) form (stretch tokens p n) ts below)) (word_put (word_of (token_of tokens c.0.begin).kind) w.0 form span c.0.found c.0.below w.1 done)
+
+enclosed_there : (tokens : List Token) (n p : ℕ) (t : Tree) {s m r : Stack} → s ≡ built t ∷ m → is_of expressions t ≡ true → m ≡ begun p ∷ r → then_do (popped (one expressions) s) (λ t rest. then_do (opened rest) (λ p below. push (respan (stretch tokens p n) t) below)) ≡ push (respan (stretch tokens p n) t) r
+enclosed_there tokens n p t {m = m} e q o =
+    let go = λ (t : Tree) (rest : Stack). then_do (opened rest) (λ p below. push (respan (stretch tokens p n) t) below) in
+    ap (λ z. then_do (popped (one expressions) z) go) e ∙ (ap (λ z. then_do z go) (popped_fits (one expressions) t m q) ∙ ap (λ z. go t z) o)
+
+wrapped_there : (g : Group) (form : Form) (t : Tree) {s m : Stack} → s ≡ built t ∷ m → is_of g t ≡ true → then_do (popped (one g) s) (λ t rest. push (tree form (span_of t) (t ∷ [])) rest) ≡ push (tree form (span_of t) (t ∷ [])) m
+wrapped_there g form t {m = m} e q =
+    let go = λ (t : Tree) (rest : Stack). push (tree form (span_of t) (t ∷ [])) rest in
+    ap (λ z. then_do (popped (one g) z) go) e ∙ ap (λ z. then_do z go) (popped_fits (one g) t m q)
 
 pub effect_there : {tokens : List Token} (r : Rule) → IsEvenRule r → (text : List ℕ) (n : ℕ) (next : Option ℕ) → IsKind next (token_of tokens n).kind → {xs ys : List Shape} {s b : Stack} → effect r next xs ≡ Some ys → Stands tokens xs s b → Done r text tokens n ys s b
 effect_there {tokens = tokens} begins even text n next k {s = s} {b = b} e st = (begun n ∷ s, refl, subst (λ zs. Stands tokens zs (begun n ∷ s) b) (some_equal e) (above (opening_shaped tokens n next k) st))
 effect_there {tokens = tokens} leaves_out even text n next k {s = s} {b = b} e st = (built absent ∷ s, refl, subst (λ zs. Stands tokens zs (built absent ∷ s) b) (some_equal e) (above refl st))
-effect_there {tokens = tokens} (takes l) even text n next k {xs = xs} {ys = ys} {s = s} {b = b} e st =
+effect_there {tokens = tokens} (takes l) even text n next k {xs = xs} {ys = ys} {s = s} e st =
     let c = if_some (is_told l next) (put (one_of (leaf_group l)) xs) ys e in
     let f = told l next (token_of tokens n).kind (bytes_of text (token_of tokens n)) even c.0 k in
-    let t = tree f.0 (token_of tokens n).span [] in
-    let done = put_there (one (leaf_group l)) t c.1 (subst (λ g. same_group g (group f.0) ≡ true) f.2 (of_group f.0)) st in
-    (done.0, ap (λ o. push_if (option_map (λ form. tree form (token_of tokens n).span []) o) s) f.1 ∙ done.1, done.2)
+    let is_of_group = subst (λ g. same_group g (group f.0) ≡ true) f.2 (of_group f.0) in
+    done_as (ap (λ o. push_if (option_map (λ form. tree form (token_of tokens n).span []) o) s) f.1) (put_there (one (leaf_group l)) (tree f.0 (token_of tokens n).span []) c.1 is_of_group st)
 effect_there gathers even text n next k e bottom = not_some e
 effect_there gathers even text n next k e (above {x = x} q st) = gathers_there text n (group_in x) e (above q st)
 effect_there gathers even text n next k e (no_more {g = g} st) = gathers_there text n (Some g) e (no_more st)
 effect_there gathers even text n next k e (one_more {g = g} q st) = gathers_there text n (Some g) e (one_more q st)
-effect_there {tokens = tokens} (closes slots form) even text n next k {xs = xs} {ys = ys} {s = s} e st =
-    let a = then_some (under_parts (reverse slots) xs) (λ ys. and_then (under_opening ys) (λ rest. put (one_of (group form)) rest)) ys e in
-    let c = then_some (under_opening a.0) (λ rest. put (one_of (group form)) rest) ys a.2 in
-    let f = parts_there (reverse slots) a.1 st [] in
-    let o = opening_under c.1 f.3 in
-    let done = put_there (one (group form)) (tree form (stretch tokens o.0 n) f.0) c.2 (of_group form) o.3 in
-    (done.0, closed slots s f.1 o.1 f.0 o.0 (λ p ts below. push (tree form (stretch tokens p n) ts) below) f.2 o.2 ∙ done.1, done.2)
-effect_there {tokens = tokens} (closes_integer slots form) even text n next k {xs = xs} {ys = ys} {s = s} e st =
-    let a = then_some (under_parts (reverse slots) xs) (λ ys. and_then (under_opening_at (terminal_number terminal.IntWord) ys) (λ rest. put (one_of (group (form integer.Uint8))) rest)) ys e in
-    let c = then_some (under_opening_at (terminal_number terminal.IntWord) a.0) (λ rest. put (one_of (group (form integer.Uint8))) rest) ys a.2 in
-    let f = parts_there (reverse slots) a.1 st [] in
-    let o = opening_at_under (terminal_number terminal.IntWord) c.1 f.3 in
-    let w = an_integer (token_of tokens o.0).kind o.4 in
-    let done = put_there (one (group (form integer.Uint8))) (tree (form w.0) (stretch tokens o.0 n) f.0) c.2 (subst (λ g. same_group g (group (form w.0)) ≡ true) (even w.0) (of_group (form w.0))) o.3 in
-    (done.0, closed slots s f.1 o.1 f.0 o.0 (λ p ts below. worded (integer_of (token_of tokens p).kind) form (stretch tokens p n) ts below) f.2 o.2 ∙ (ap (λ z. worded z form (stretch tokens o.0 n) f.0 o.1) w.1 ∙ done.1), done.2)
-effect_there {tokens = tokens} (closes_attribute slots form) even text n next k {xs = xs} {ys = ys} {s = s} e st =
-    let a = then_some (under_parts (reverse slots) xs) (λ ys. and_then (under_opening_at (terminal_number terminal.Attribute) ys) (λ rest. put (one_of (group (form attribute_name.Size))) rest)) ys e in
-    let c = then_some (under_opening_at (terminal_number terminal.Attribute) a.0) (λ rest. put (one_of (group (form attribute_name.Size))) rest) ys a.2 in
-    let f = parts_there (reverse slots) a.1 st [] in
-    let o = opening_at_under (terminal_number terminal.Attribute) c.1 f.3 in
-    let w = an_attribute (token_of tokens o.0).kind o.4 in
-    let done = put_there (one (group (form attribute_name.Size))) (tree (form w.0) (stretch tokens o.0 n) f.0) c.2 (subst (λ g. same_group g (group (form w.0)) ≡ true) (even w.0) (of_group (form w.0))) o.3 in
-    (done.0, closed slots s f.1 o.1 f.0 o.0 (λ p ts below. worded (attribute_of (token_of tokens p).kind) form (stretch tokens p n) ts below) f.2 o.2 ∙ (ap (λ z. worded z form (stretch tokens o.0 n) f.0 o.1) w.1 ∙ done.1), done.2)
+effect_there {tokens = tokens} (closes slots form) even text n next k {xs = xs} {ys = ys} e st =
+    let a = then_some (under_parts (reverse slots) xs) (λ zs. and_then (under_opening zs) (λ rest. put (one_of (group form)) rest)) ys e in
+    let d = then_some (under_opening a.0) (λ rest. put (one_of (group form)) rest) ys a.2 in
+    let c = closing slots a.1 d.1 st in
+    done_as (c.closes_with (λ p ts below. push (tree form (stretch tokens p n) ts) below)) (put_there (one (group form)) (tree form (stretch tokens c.begin n) c.found) d.2 (of_group form) c.stands_below)
+effect_there (closes_integer slots form) even text n next k e st = words_there (terminal_number terminal.IntWord) integer_of form integer.Uint8 an_integer even slots n e st
+effect_there (closes_attribute slots form) even text n next k e st = words_there (terminal_number terminal.Attribute) attribute_of form attribute_name.Size an_attribute even slots n e st
 effect_there {tokens = tokens} encloses even text n next k {xs = xs} {ys = ys} e st =
-    let a = then_some (under_parts (part (one expressions) ∷ []) xs) (λ ys. and_then (under_opening ys) (λ rest. put (one_of expressions) rest)) ys e in
-    let first = then_some (under_part (part (one expressions)) xs) (λ rest. under_parts [] rest) a.0 a.1 in
-    let c = then_some (under_opening a.0) (λ rest. put (one_of expressions) rest) ys a.2 in
+    let a = then_some (under_parts (part (one expressions) ∷ []) xs) (λ zs. and_then (under_opening zs) (λ rest. put (one_of expressions) rest)) ys e in
+    let first = then_some (under_part (part (one expressions)) xs) (λ rest. Some rest) a.0 a.1 in
+    let d = then_some (under_opening a.0) (λ rest. put (one_of expressions) rest) ys a.2 in
     let f = popped_there (one expressions) first.1 st in
-    let o = opening_under (ap under_opening (some_equal first.2) ∙ c.1) f.4 in
-    let t = respan (stretch tokens o.0 n) f.0 in
-    let done = put_there (one expressions) t c.2 (enclosed (stretch tokens o.0 n) f.0 f.3) o.3 in
-    let go = λ (z : Tree) (rest : Stack). then_do (opened rest) (λ p below. push (respan (stretch tokens p n) z) below) in
-    (done.0, ap (λ z. then_do (popped (one expressions) z) go) f.2 ∙ (ap (λ z. then_do z go) (popped_fits (one expressions) f.0 f.1 f.3) ∙ (ap (λ z. go f.0 z) o.2 ∙ done.1)), done.2)
+    let o = opening_under (ap under_opening (some_equal first.2) ∙ d.1) f.4 in
+    done_as (enclosed_there tokens n o.0 f.0 f.2 f.3 o.2) (put_there (one expressions) (respan (stretch tokens o.0 n) f.0) d.2 (enclosed (stretch tokens o.0 n) f.0 f.3) o.3)
 effect_there {tokens = tokens} (joins slots form) even text n next k {xs = xs} {ys = ys} e st =
     let a = then_some (under_parts (reverse slots) xs) (λ rest. put (one_of (group form)) rest) ys e in
     let f = parts_there (reverse slots) a.1 st [] in
-    let done = put_there (one (group form)) (tree form (stretch_from tokens f.0 n) f.0) a.2 (of_group form) f.3 in
-    (done.0, ap (λ z. then_do z (λ ts rest. push (tree form (stretch_from tokens ts n) ts) rest)) f.2 ∙ done.1, done.2)
-effect_there {tokens = tokens} (wraps g form) even text n next k {xs = xs} {ys = ys} {b = b} e st =
-    let a = then_some (under_parts (part (one g) ∷ []) xs) (λ rest. put (one_of (group form)) rest) ys e in
-    let first = then_some (under_part (part (one g)) xs) (λ rest. under_parts [] rest) a.0 a.1 in
-    let f = popped_there (one g) first.1 st in
-    let done = put_there (one (group form)) (tree form (span_of f.0) (f.0 ∷ [])) a.2 (of_group form) (subst (λ zs. Stands tokens zs f.1 b) (some_equal first.2) f.4) in
-    let go = λ (z : Tree) (rest : Stack). push (tree form (span_of z) (z ∷ [])) rest in
-    (done.0, ap (λ z. then_do (popped (one g) z) go) f.2 ∙ (ap (λ z. then_do z go) (popped_fits (one g) f.0 f.1 f.3) ∙ done.1), done.2)
+    done_as (ap (λ z. then_do z (λ ts rest. push (tree form (stretch_from tokens ts n) ts) rest)) f.2) (put_there (one (group form)) (tree form (stretch_from tokens f.0 n) f.0) a.2 (of_group form) f.3)
+effect_there (wraps g form) even text n next k {xs = xs} {ys = ys} e st =
+    let a = then_some (under_part (part (one g)) xs) (λ rest. put (one_of (group form)) rest) ys e in
+    let f = popped_there (one g) a.1 st in
+    done_as (wrapped_there g form f.0 f.2 f.3) (put_there (one (group form)) (tree form (span_of f.0) (f.0 ∷ [])) a.2 (of_group form) f.4)

@@ -139,6 +139,10 @@ abbrev pub rowed : Option Group → List Shape → Option (List Shape)
 rowed None xs = and_then (under_opening xs) (λ rest. put no_row rest)
 rowed (Some g) xs = and_then (under_opening (under g xs)) (λ rest. put (stands (rows g)) rest)
 
+-- a tree of a group in place of its parts, since it began
+abbrev pub closed_under : List Slot → (List Shape → Option (List Shape)) → Group → List Shape → Option (List Shape)
+closed_under slots open_under g xs = and_then (under_parts (reverse slots) xs) (λ ys. and_then (open_under ys) (λ rest. put (one_of g) rest))
+
 -- What a rule makes of a stack, before a token of a kind that may be known.
 abbrev pub effect : Rule → Option ℕ → List Shape → Option (List Shape)
 effect begins next xs = put (opening next) xs
@@ -146,9 +150,9 @@ effect leaves_out next xs = put left_out xs
 effect (takes l) next xs = if is_told l next then put (one_of (leaf_group l)) xs else None
 effect gathers next [] = None
 effect gathers next (x ∷ xs) = rowed (group_in x) (x ∷ xs)
-effect (closes slots form) next xs = and_then (under_parts (reverse slots) xs) (λ ys. and_then (under_opening ys) (λ rest. put (one_of (group form)) rest))
-effect (closes_integer slots form) next xs = and_then (under_parts (reverse slots) xs) (λ ys. and_then (under_opening_at (terminal_number terminal.IntWord) ys) (λ rest. put (one_of (group (form integer.Uint8))) rest))
-effect (closes_attribute slots form) next xs = and_then (under_parts (reverse slots) xs) (λ ys. and_then (under_opening_at (terminal_number terminal.Attribute) ys) (λ rest. put (one_of (group (form attribute_name.Size))) rest))
-effect encloses next xs = and_then (under_parts (part (one expressions) ∷ []) xs) (λ ys. and_then (under_opening ys) (λ rest. put (one_of expressions) rest))
+effect (closes slots form) next xs = closed_under slots under_opening (group form) xs
+effect (closes_integer slots form) next xs = closed_under slots (under_opening_at (terminal_number terminal.IntWord)) (group (form integer.Uint8)) xs
+effect (closes_attribute slots form) next xs = closed_under slots (under_opening_at (terminal_number terminal.Attribute)) (group (form attribute_name.Size)) xs
+effect encloses next xs = closed_under (part (one expressions) ∷ []) under_opening expressions xs
 effect (joins slots form) next xs = and_then (under_parts (reverse slots) xs) (λ rest. put (one_of (group form)) rest)
-effect (wraps g form) next xs = and_then (under_parts (part (one g) ∷ []) xs) (λ rest. put (one_of (group form)) rest)
+effect (wraps g form) next xs = and_then (under_part (part (one g)) xs) (λ rest. put (one_of (group form)) rest)

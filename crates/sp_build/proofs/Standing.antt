@@ -1,18 +1,14 @@
 -- Stacks that have the shapes that are known of them, and what the rules do to such a stack.
-use Rattle.std.specs.Prelude.{ℕ, ◌≡◌, List, [], ◌∷◌, ◌++◌, reverse, Bool, true, false, ◌&&◌, ◌==◌, if◌then◌else◌, Option, Some, None, refl}
-use Rattle.std.proofs.Common.{◌∙◌, ap, sym, subst, inl, inr, eq-eqb, eqb-true}
+use Rattle.std.specs.Prelude.{◌≡◌, List, [], ◌∷◌, ◌++◌, Bool, true, false, ◌==◌, if◌then◌else◌, Option, Some, None, refl}
+use Rattle.std.proofs.Common.{◌∙◌, sym, subst, inl, inr, eq-eqb, eqb-true}
 use Rattle.std.proofs.lemmas.Bool.{and_parts, and_from, cases_Bool}
 use Rattle.sp_lex.specs.declared.tokens.Token.{Token}
-use Rattle.sp_grammar.specs.declared.terminals.Terminal.TheVariants as terminal
-use Rattle.sp_grammar.specs.Terminals.{terminal_number}
 use Rattle.sp_read_expr.specs.Kinds.{token_number}
-use Rattle.sp_ast.specs.Trees.{Form, Tree, Trees, absent, row, node, none, more, tree, trees, in_row, respan, span_of}
-use Rattle.sp_build.specs.Groups.{Group, group_number, same_group, group, expressions, Sort, one, optional, rows, is_of, are_of, fits}
-use Rattle.sp_build.specs.Rules.{Slot, part, several, Rule, begins, leaves_out, takes, gathers, closes, closes_integer, closes_attribute, encloses, joins, wraps}
-use Rattle.sp_build.specs.Tokens.{form_of, integer_of, attribute_of}
-use Rattle.sp_build.specs.Building.{Item, begun, built, Stack, Left, left, then_do, popped, gathered, collected, opened, parts_of, popped_parts, token_of, stretch, stretch_from, leaf, push_if, close_with, worded, done_by}
-use Rattle.sp_build.proofs.Shapes.{Shape, opens, opens_at, stands, left_out, no_row, many, and_then, is_in, under, suits, covers, under_one, under_wanted, strip, under_opening, under_opening_at, is_opening, under_part, under_parts, one_of, put, opening, leaf_group, is_told, group_in, rowed, effect}
-use Rattle.sp_build.proofs.Told.{never, an_integer, an_attribute, IsEvenRule, IsKind, IsTold, told}
+use Rattle.sp_ast.specs.Trees.{Tree, Trees, absent, row, node, none, more}
+use Rattle.sp_build.specs.Groups.{Group, group_number, same_group, group, Sort, one, optional, rows, is_of, are_of, fits}
+use Rattle.sp_build.specs.Building.{Item, begun, built, Stack, token_of}
+use Rattle.sp_build.proofs.Shapes.{Shape, opens, opens_at, stands, left_out, no_row, many, and_then, is_in, under, suits, covers, under_one, under_wanted, strip}
+use Rattle.sp_build.proofs.Told.{never}
 
 -- an item of a stack has the shape of one
 abbrev pub is_shaped : List Token → Shape → Item → Bool

@@ -1,12 +1,12 @@
 -- The marks of each text build its tree.
-use Rattle.std.specs.Prelude.{ℕ, zero, suc, ◌≡◌, ◌<◌, ◌⊎◌, List, [], ◌∷◌, ◌++◌, take, drop, Bool, true, false, ◌||◌, ◌==◌, nat_lt, if◌then◌else◌, cond, Option, Some, None, refl}
+use Rattle.std.specs.Prelude.{ℕ, zero, suc, ◌≡◌, ◌<◌, ◌⊎◌, List, [], ◌∷◌, ◌++◌, take, drop, true, false, ◌||◌, ◌==◌, nat_lt, if◌then◌else◌, cond, Option, Some, None, refl}
 use Rattle.std.proofs.Common.{◌∙◌, ap, sym, subst, inl, inr, arith, ltb-true, eqb-true, ne_eqb}
 use Rattle.std.proofs.lemmas.Bool.{cases_Bool}
 use Rattle.sp_lex.specs.declared.tokens.Token.{Token}
 use Rattle.sp_parser.specs.declared.symbol.Symbol.{Symbol}
 use Rattle.sp_parser.specs.declared.symbol.Symbol.TheVariants as symbol
 use Rattle.sp_parser.specs.declared.symbol.Event.{Event}
-use Rattle.sp_parser.specs.Grammar.{right, takes, Nothing, First, All, SECOND, CLOSE, SHIFT, GREATER, event}
+use Rattle.sp_parser.specs.Grammar.{right, takes, Nothing, First, All, SECOND, CLOSE, SHIFT, GREATER}
 use Rattle.sp_grammar.specs.declared.marks.Mark as marks
 use Rattle.sp_grammar.specs.Marks.{mark_with}
 use Rattle.sp_grammar.specs.declared.language.Start.{Start}
@@ -21,10 +21,10 @@ use Rattle.sp_ast.specs.Trees.{Tree}
 use Rattle.sp_build.specs.Groups.{is_of, one}
 use Rattle.sp_build.specs.Rules.{rule}
 use Rattle.sp_build.specs.Starting.{group_of}
-use Rattle.sp_build.specs.Building.{Item, begun, built, Stack, token_of, marked, with_mark, go_on, all_done, IsBuilt}
-use Rattle.sp_build.proofs.Shapes.{Shape, stands, and_then, strip}
+use Rattle.sp_build.specs.Building.{begun, built, Stack, token_of, marked, with_mark, go_on, all_done, IsBuilt}
+use Rattle.sp_build.proofs.Shapes.{Shape, stands, strip}
 use Rattle.sp_build.proofs.Signatures.{signature_at, next_kind, passed, run, is_used_up, keeps_signature, signatures_kept}
-use Rattle.sp_build.proofs.Standing.{Stands, bottom, above, no_more, one_more, append_stands, strip_stands, some_equal, not_some, then_some}
+use Rattle.sp_build.proofs.Standing.{Stands, bottom, above, append_stands, strip_stands, some_equal, not_some, then_some}
 use Rattle.sp_build.proofs.Effects.{IsDone, effect_there}
 use Rattle.sp_build.proofs.Told.{never, IsKind, even}
 

@@ -1,5 +1,5 @@
 -- What the kind of a token tells to the tree that is built of it.
-use Rattle.std.specs.Prelude.{ℕ, ◌≡◌, List, [], Bool, true, false, ◌||◌, ◌==◌, Option, Some, None, option_map, refl}
+use Rattle.std.specs.Prelude.{ℕ, ◌≡◌, List, [], Bool, true, false, ◌==◌, Option, Some, None, option_map, refl}
 use Rattle.std.proofs.Common.{◌∙◌, ap, sym, subst, inl, inr, eq-eqb, eqb-true}
 use Rattle.std.proofs.lemmas.Bool.{or_cases}
 use Rattle.sp_ast.specs.Trees.{Form}
@@ -23,7 +23,7 @@ use Rattle.sp_grammar.specs.Terminals.{terminal_number}
 use Rattle.sp_grammar.specs.declared.marks.Mark.{Mark}
 use Rattle.sp_grammar.specs.declared.marks.Mark.TheVariants as build
 use Rattle.sp_read_expr.specs.Kinds.{terminal_of, number_of}
-use Rattle.sp_build.specs.Groups.{Group, group}
+use Rattle.sp_build.specs.Groups.{group}
 use Rattle.sp_build.specs.Rules.{Leaf, always, by_name, by_string, by_bytes, by_regex, by_number, by_integer, by_event, Rule, takes, closes_integer, closes_attribute, rule}
 use Rattle.sp_build.specs.Tokens.{form_of, integer_of, attribute_of, hook_name_of}
 use Rattle.sp_build.proofs.Shapes.{leaf_group, is_told}
