@@ -87,7 +87,7 @@ pub data Form : Type 0 where
   guard : GuardForm → Form
   body : BodyForm → Form
   base : BaseForm → Form
-  count : Form
+  count unit field : Form
   attribute : AttributeName → Form
   hook : Form
   -- with whether `foreach` stands before it

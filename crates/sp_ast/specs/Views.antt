@@ -149,7 +149,7 @@ abbrev pub base_tree : Trees.BaseForm → Span → List Tree → Tree
 base_tree form = tree (Trees.base form)
 
 abbrev pub expr_step : ExprLevel → Tree
-expr_step (Expr-F.Expr::Path p) = expr_tree Trees.path_expr p.span (path_view p ∷ [])
+expr_step (Expr-F.Expr::Path p span) = expr_tree Trees.path_expr span (path_view p ∷ [])
 expr_step (Expr-F.Itself span) = expr_tree Trees.self_expr span []
 expr_step (Expr-F.Current span) = expr_tree Trees.current_expr span []
 expr_step (Expr-F.Expr::Number x span) = expr_tree (Trees.number_expr x) span []
@@ -211,7 +211,7 @@ type_step (TypeTree-F.TypeTree::Set t span) = type_tree Trees.set_type span (t.v
 type_step (TypeTree-F.TypeTree::Map k v span) = type_tree Trees.map_type span (k.value ∷ v.value ∷ [])
 type_step (TypeTree-F.Enum ls span) = type_tree Trees.enum_type span ls.items
 type_step (TypeTree-F.Bitfield w rs span) = type_tree Trees.bitfield_type span (number_view w ∷ in_row (map range_view rs.items) ∷ [])
-type_step (TypeTree-F.TypeTree::Unit u) = u.value
+type_step (TypeTree-F.TypeTree::Unit u) = type_tree Trees.unit_type (span_of u.value) (u.value ∷ [])
 
 abbrev pub arm_body_step : ArmBodyLevel → Tree
 arm_body_step (ArmBody-F.Nothing span) = tree (Trees.body Trees.nothing_body) span []
@@ -242,7 +242,7 @@ item_step (Item-F.On x h span) = item_tree Trees.on_item span (target_view x ∷
 item_step (Item-F.Part x) = item_tree Trees.part_item (span_of x) (x ∷ [])
 
 abbrev pub part_step : PartLevel → Tree
-part_step (Part-F.Field f) = f.value
+part_step (Part-F.Field f) = tree (Trees.part Trees.field_part) (span_of f.value) (f.value ∷ [])
 part_step (Part-F.Part::Switch e xs span) = tree (Trees.part Trees.switch_part) span (maybe e ∷ in_row xs.items ∷ [])
 
 abbrev pub pair_step : PairLevel → Tree
@@ -273,7 +273,7 @@ abbrev pub count_step : CountLevel → Tree
 count_step c = tree Trees.count c.span (maybe c.number ∷ [])
 
 abbrev pub field_step : FieldLevel → Tree
-field_step f = tree (Trees.part Trees.field_part) f.span (maybe (option_map name_view f.name) ∷ f.base ∷ in_row f.counts.items ∷ in_row f.attributes.items ∷ maybe f.condition ∷ maybe f.sink ∷ in_row f.hooks.items ∷ [])
+field_step f = tree Trees.field f.span (maybe (option_map name_view f.name) ∷ f.base ∷ in_row f.counts.items ∷ in_row f.attributes.items ∷ maybe f.condition ∷ maybe f.sink ∷ in_row f.hooks.items ∷ [])
 
 abbrev pub hook_step : HookLevel → Tree
 hook_step h = tree Trees.hook h.span (in_row h.parameters.items ∷ h.body ∷ [])
@@ -282,7 +282,7 @@ abbrev pub hook_body_step : HookBodyLevel → Tree
 hook_body_step h = tree (Trees.hook_body h.each) h.span (maybe h.priority ∷ h.block ∷ [])
 
 abbrev pub unit_step : UnitLevel → Tree
-unit_step u = type_tree Trees.unit_type u.span (in_row u.parameters.items ∷ in_row u.items.items ∷ [])
+unit_step u = tree Trees.unit u.span (in_row u.parameters.items ∷ in_row u.items.items ∷ [])
 
 abbrev pub expr_view : Expr → Tree
 expr_view = fold-Expr Tree Tree Tree Tree Tree Tree Tree Tree Tree Tree Tree Tree Tree Tree Tree Tree Tree Tree Tree Tree Tree expr_step stmt_step type_step arm_body_step base_step guard_step item_step part_step pair_step block_step branch_step case_step label_step param_step arm_step attr_step count_step field_step hook_step hook_body_step unit_step

@@ -3,8 +3,7 @@
 // An expression holds types, since a cast and an empty container name theirs; a type can hold a unit, and a unit holds
 // expressions and statements. So the types of these trees form one cycle.
 ghost use Rattle.std.specs.Prelude.{◌≡◌, ◌∷◌, [], IfOk};
-ghost use Rattle.sp_ast.specs.Spans.{expr_span};
-ghost use Rattle.sp_ast.specs.Trees.{tree, expr, binary_expr};
+ghost use Rattle.sp_ast.specs.Trees.{tree, expr, binary_expr, respan, span_of};
 ghost use Rattle.sp_ast.specs.Views.{expr_view};
 
 use crate::names::{Name, NumberLiteral, Path};
@@ -21,7 +20,10 @@ use std::alloc::Global;
 #[cycle(tree)]
 pub enum Expr {
     /// `a`, `M::a`
-    Path(Path),
+    Path {
+        path: Path,
+        span: Span,
+    },
     /// `self`
     Itself(Span),
     /// `$$`
@@ -165,7 +167,7 @@ impl Expr {
         span: Span,
     ) -> Result<Expr, NoMemory>
         ensures view { IfOk result (λ e. expr_view e ≡ tree (expr (binary_expr op)) span (expr_view left ∷ expr_view right ∷ [])) }
-        ensures span { IfOk result (λ e. expr_span e ≡ span) }
+        ensures span { IfOk result (λ e. span_of (expr_view e) ≡ span) }
     {
         let left = Box::new(alloc, left)?;
         let right = Box::new(alloc, right)?;
@@ -177,16 +179,99 @@ impl Expr {
         })
     }
 
-    /// Where it stands, with the parentheses round it.
-    pub fn span(&self) -> Span
-        ensures { result ≡ expr_span self.now }
+    /// The same expression with another place, as where parentheses stand round it.
+    pub fn with_span(self, span: Span) -> Expr
+        ensures { expr_view result ≡ respan span (expr_view self) }
     {
         match self {
-            Expr::Path(path) => path.span,
+            Expr::Path { path, .. } => Expr::Path { path, span },
+            Expr::Itself(_) => Expr::Itself(span),
+            Expr::Current(_) => Expr::Current(span),
+            Expr::Number { value, .. } => Expr::Number { value, span },
+            Expr::String { value, .. } => Expr::String { value, span },
+            Expr::Bytes { value, .. } => Expr::Bytes { value, span },
+            Expr::Regex { pattern, .. } => Expr::Regex { pattern, span },
+            Expr::True(_) => Expr::True(span),
+            Expr::False(_) => Expr::False(span),
+            Expr::Tuple { members, .. } => Expr::Tuple { members, span },
+            Expr::Vector { elements, .. } => Expr::Vector { elements, span },
+            Expr::Set { elements, .. } => Expr::Set { elements, span },
+            Expr::Map { pairs, .. } => Expr::Map { pairs, span },
+            Expr::EmptyVector { element, .. } => Expr::EmptyVector { element, span },
+            Expr::EmptySet { element, .. } => Expr::EmptySet { element, span },
+            Expr::EmptyMap { key, value, .. } => Expr::EmptyMap { key, value, span },
+            Expr::TypedNumber { word, number, .. } => Expr::TypedNumber { word, number, span },
+            Expr::Cast {
+                target,
+                operand,
+                ..
+            } => Expr::Cast {
+                target,
+                operand,
+                span,
+            },
+            Expr::New {
+                unit,
+                arguments,
+                ..
+            } => Expr::New {
+                unit,
+                arguments,
+                span,
+            },
+            Expr::Size { operand, .. } => Expr::Size { operand, span },
+            Expr::Unary { op, operand, .. } => Expr::Unary { op, operand, span },
+            Expr::Binary {
+                op,
+                left,
+                right,
+                ..
+            } => Expr::Binary {
+                op,
+                left,
+                right,
+                span,
+            },
+            Expr::Choice {
+                condition,
+                then,
+                otherwise,
+                ..
+            } => Expr::Choice {
+                condition,
+                then,
+                otherwise,
+                span,
+            },
+            Expr::Member { object, name, .. } => Expr::Member { object, name, span },
+            Expr::SetMember { object, name, .. } => Expr::SetMember { object, name, span },
+            Expr::Index { object, index, .. } => Expr::Index {
+                object,
+                index,
+                span,
+            },
+            Expr::Call {
+                callee,
+                arguments,
+                ..
+            } => Expr::Call {
+                callee,
+                arguments,
+                span,
+            },
+        }
+    }
+
+    /// Where it stands, with the parentheses round it.
+    pub fn span(&self) -> Span
+        ensures { result ≡ span_of (expr_view self.now) }
+    {
+        match self {
             Expr::Itself(span) | Expr::Current(span) | Expr::True(span) | Expr::False(span) => {
                 *span
             }
-            Expr::Number { span, .. }
+            Expr::Path { span, .. }
+            | Expr::Number { span, .. }
             | Expr::String { span, .. }
             | Expr::Bytes { span, .. }
             | Expr::Regex { span, .. }

@@ -89,10 +89,7 @@ pub enum Guard {
     /// `*`: where no other arm is.
     Otherwise(Span),
     /// At one of these values, of which there is one or more.
-    Values {
-        values: Vec<Expr>,
-        span: Span,
-    },
+    Values { values: Vec<Expr>, span: Span },
     /// Where the input goes on with a token of this arm. It stands on the arm's `->`.
     LookAhead(Span),
 }
@@ -104,15 +101,9 @@ pub enum ArmBody {
     /// `;`
     Nothing(Span),
     /// One part.
-    One {
-        part: Box<Part>,
-        span: Span,
-    },
+    One { part: Box<Part>, span: Span },
     /// Parts in braces.
-    Many {
-        parts: Vec<Part>,
-        span: Span,
-    },
+    Many { parts: Vec<Part>, span: Span },
 }
 
 /// A field of a unit.

@@ -108,15 +108,15 @@ parts_there {tokens = tokens} (several g ∷ slots) {xs = xs} {ys = ys} {s = s} 
     let h = parts_there slots a.2 (subst (λ z. Stands tokens a.0 z b) o.2 (subst (λ zs. Stands tokens zs f.0 b) (some_equal c.1) f.2)) (found.0 ++ acc) in
     (h.0, h.1, all_parts g slots acc found.0 s (left h.0 h.1) found.1 h.2, h.3)
 
--- what a rule does is done, and leaves these shapes
-abbrev pub IsDone : List Token → Option Stack → List Shape → Stack → Type 0
-IsDone tokens o xs b = (s : Stack) × (o ≡ Some s) × Stands tokens xs s b
+-- a stack of these shapes is made
+abbrev pub IsMade : List Token → Option Stack → List Shape → Stack → Type 0
+IsMade tokens o xs b = (s : Stack) × (o ≡ Some s) × Stands tokens xs s b
 
 of_group : (form : Form) → same_group (group form) (group form) ≡ true
 of_group form = eq-eqb (group_number (group form)) (group_number (group form)) refl
 
 -- a tree is put on the stack
-put_there : {tokens : List Token} (sort : Sort) (t : Tree) {xs ys : List Shape} {s b : Stack} → put (stands sort) xs ≡ Some ys → fits sort t ≡ true → Stands tokens xs s b → IsDone tokens (push t s) ys b
+put_there : {tokens : List Token} (sort : Sort) (t : Tree) {xs ys : List Shape} {s b : Stack} → put (stands sort) xs ≡ Some ys → fits sort t ≡ true → Stands tokens xs s b → IsMade tokens (push t s) ys b
 put_there {tokens = tokens} sort t {s = s} {b = b} e q st = (built t ∷ s, refl, subst (λ zs. Stands tokens zs (built t ∷ s) b) (some_equal e) (above q st))
 
 enclosed : (span : Span) (t : Tree) → is_of expressions t ≡ true → is_of expressions (respan span t) ≡ true
@@ -128,7 +128,7 @@ opening_shaped : (tokens : List Token) (n : ℕ) (next : Option ℕ) → IsKind 
 opening_shaped tokens n None k = refl
 opening_shaped tokens n (Some e) k = eq-eqb (token_number (token_of tokens n)) e k
 
--- A tree is closed, with these parts since it began before p tokens.
+-- A tree is closed, with the parts that stand since it began.
 record Closing (tokens : List Token) (slots : List Slot) (ys : List Shape) (s b : Stack) : Type 0 where
   begin : ℕ
   found : List Tree
@@ -154,30 +154,30 @@ closing_at k slots {s = s} e q st =
     let o = opening_at_under k q f.3 in
     (record { begin = o.0; found = f.0; below = o.1; closes_with = closing_with slots s f.2 o.2; stands_below = o.3 }, o.4)
 
--- what is done for one of two equal steps is done for the other
-done_as : {tokens : List Token} {o next : Option Stack} {ys : List Shape} {b : Stack} → o ≡ next → IsDone tokens next ys b → IsDone tokens o ys b
-done_as e d = (d.0, e ∙ d.1, d.2)
+-- what one of two equal steps makes the other makes
+made_as : {tokens : List Token} {o next : Option Stack} {ys : List Shape} {b : Stack} → o ≡ next → IsMade tokens next ys b → IsMade tokens o ys b
+made_as e d = (d.0, e ∙ d.1, d.2)
 
-abbrev pub Done : Rule → List ℕ → List Token → ℕ → List Shape → Stack → Stack → Type 0
-Done r text tokens n ys s b = IsDone tokens (done_by r text tokens n s) ys b
+abbrev pub Made : Rule → List ℕ → List Token → ℕ → List Shape → Stack → Stack → Type 0
+Made r text tokens n ys s b = IsMade tokens (done_by r text tokens n s) ys b
 
-gathers_there : {tokens : List Token} (text : List ℕ) (n : ℕ) (g : Option Group) {xs ys : List Shape} {s b : Stack} → rowed g xs ≡ Some ys → Stands tokens xs s b → Done gathers text tokens n ys s b
+gathers_there : {tokens : List Token} (text : List ℕ) (n : ℕ) (g : Option Group) {xs ys : List Shape} {s b : Stack} → rowed g xs ≡ Some ys → Stands tokens xs s b → Made gathers text tokens n ys s b
 gathers_there {tokens = tokens} text n None {xs = xs} {ys = ys} {b = b} e st =
     let a = then_some (under_opening xs) (λ rest. put no_row rest) ys e in
     let o = opening_under a.1 st in
-    subst (λ z. Done gathers text tokens n ys z b) (sym o.2) (built (in_row []) ∷ o.1, refl, subst (λ zs. Stands tokens zs (built (in_row []) ∷ o.1) b) (some_equal a.2) (above refl o.3))
+    subst (λ z. Made gathers text tokens n ys z b) (sym o.2) (built (in_row []) ∷ o.1, refl, subst (λ zs. Stands tokens zs (built (in_row []) ∷ o.1) b) (some_equal a.2) (above refl o.3))
 gathers_there {tokens = tokens} text n (Some g) {xs = xs} {ys = ys} {s = s} {b = b} e st =
     let a = then_some (under_opening (under g xs)) (λ rest. put (stands (rows g)) rest) ys e in
     let f = under_front g st in
     let o = opening_under a.1 f.2 in
     let found = collected_front o.0 (subst (λ z. Front g s z) o.2 f.1) [] refl in
-    done_as (ap (λ (z : Left (List Tree)). then_do (opened z.rest) (λ p below. push (in_row z.value) below)) found.1) (put_there (rows g) (in_row found.0) a.2 found.2 o.3)
+    made_as (ap (λ (z : Left (List Tree)). then_do (opened z.rest) (λ p below. push (in_row z.value) below)) found.1) (put_there (rows g) (in_row found.0) a.2 found.2 o.3)
 
-word_put : {tokens : List Token} {A : Type 0} (o : Option A) (word : A) (form : A → Form) (span : Span) (ts : List Tree) (s : Stack) {ys : List Shape} {b : Stack} → o ≡ Some word → IsDone tokens (push (tree (form word) span ts) s) ys b → IsDone tokens (worded o form span ts s) ys b
-word_put o word form span ts s e d = done_as (ap (λ z. worded z form span ts s) e) d
+word_put : {tokens : List Token} {A : Type 0} (o : Option A) (word : A) (form : A → Form) (span : Span) (ts : List Tree) (s : Stack) {ys : List Shape} {b : Stack} → o ≡ Some word → IsMade tokens (push (tree (form word) span ts) s) ys b → IsMade tokens (worded o form span ts s) ys b
+word_put o word form span ts s e d = made_as (ap (λ z. worded z form span ts s) e) d
 
 -- a tree whose alternative is by the word at which it began
-words_there : {tokens : List Token} {A : Type 0} (k : ℕ) (word_of : TokenKind → Option A) (form : A → Form) (first : A) → ((kind : TokenKind) → (number_of (terminal_of kind) == k) ≡ true → (word : A) × (word_of kind ≡ Some word)) → ((word : A) → group (form word) ≡ group (form first)) → (slots : List Slot) (n : ℕ) {xs ys : List Shape} {s b : Stack} → closed_under slots (under_opening_at k) (group (form first)) xs ≡ Some ys → Stands tokens xs s b → IsDone tokens (close_with slots s (λ p ts below. worded (word_of (token_of tokens p).kind) form (stretch tokens p n) ts below)) ys b
+words_there : {tokens : List Token} {A : Type 0} (k : ℕ) (word_of : TokenKind → Option A) (form : A → Form) (first : A) → ((kind : TokenKind) → (number_of (terminal_of kind) == k) ≡ true → (word : A) × (word_of kind ≡ Some word)) → ((word : A) → group (form word) ≡ group (form first)) → (slots : List Slot) (n : ℕ) {xs ys : List Shape} {s b : Stack} → closed_under slots (under_opening_at k) (group (form first)) xs ≡ Some ys → Stands tokens xs s b → IsMade tokens (close_with slots s (λ p ts below. worded (word_of (token_of tokens p).kind) form (stretch tokens p n) ts below)) ys b
 words_there {tokens = tokens} k word_of form first tells even slots n {xs = xs} {ys = ys} e st =
     let a = then_some (under_parts (reverse slots) xs) (λ zs. and_then (under_opening_at k zs) (λ rest. put (one_of (group (form first))) rest)) ys e in
     let d = then_some (under_opening_at k a.0) (λ rest. put (one_of (group (form first))) rest) ys a.2 in
@@ -186,7 +186,7 @@ words_there {tokens = tokens} k word_of form first tells even slots n {xs = xs} 
     let is_of_group = subst (λ g. same_group g (group (form w.0)) ≡ true) (even w.0) (of_group (form w.0)) in
     let span = stretch tokens c.0.begin n in
     let done = put_there (one (group (form first))) (tree (form w.0) span c.0.found) d.2 is_of_group c.0.stands_below in
-    done_as {next = worded (word_of (token_of tokens c.0.begin).kind) form span c.0.found c.0.below} (c.0.closes_with (λ p ts below. worded (word_of (token_of tokens p).kind) form (stretch tokens p n) ts below)) (word_put (word_of (token_of tokens c.0.begin).kind) w.0 form span c.0.found c.0.below w.1 done)
+    made_as {next = worded (word_of (token_of tokens c.0.begin).kind) form span c.0.found c.0.below} (c.0.closes_with (λ p ts below. worded (word_of (token_of tokens p).kind) form (stretch tokens p n) ts below)) (word_put (word_of (token_of tokens c.0.begin).kind) w.0 form span c.0.found c.0.below w.1 done)
 
 enclosed_there : (tokens : List Token) (n p : ℕ) (t : Tree) {s m r : Stack} → s ≡ built t ∷ m → is_of expressions t ≡ true → m ≡ begun p ∷ r → then_do (popped (one expressions) s) (λ t rest. then_do (opened rest) (λ p below. push (respan (stretch tokens p n) t) below)) ≡ push (respan (stretch tokens p n) t) r
 enclosed_there tokens n p t {m = m} e q o =
@@ -198,14 +198,14 @@ wrapped_there g form t {m = m} e q =
     let go = λ (t : Tree) (rest : Stack). push (tree form (span_of t) (t ∷ [])) rest in
     ap (λ z. then_do (popped (one g) z) go) e ∙ ap (λ z. then_do z go) (popped_fits (one g) t m q)
 
-pub effect_there : {tokens : List Token} (r : Rule) → IsEvenRule r → (text : List ℕ) (n : ℕ) (next : Option ℕ) → IsKind next (token_of tokens n).kind → {xs ys : List Shape} {s b : Stack} → effect r next xs ≡ Some ys → Stands tokens xs s b → Done r text tokens n ys s b
+pub effect_there : {tokens : List Token} (r : Rule) → IsEvenRule r → (text : List ℕ) (n : ℕ) (next : Option ℕ) → IsKind next (token_of tokens n).kind → {xs ys : List Shape} {s b : Stack} → effect r next xs ≡ Some ys → Stands tokens xs s b → Made r text tokens n ys s b
 effect_there {tokens = tokens} begins even text n next k {s = s} {b = b} e st = (begun n ∷ s, refl, subst (λ zs. Stands tokens zs (begun n ∷ s) b) (some_equal e) (above (opening_shaped tokens n next k) st))
 effect_there {tokens = tokens} leaves_out even text n next k {s = s} {b = b} e st = (built absent ∷ s, refl, subst (λ zs. Stands tokens zs (built absent ∷ s) b) (some_equal e) (above refl st))
 effect_there {tokens = tokens} (takes l) even text n next k {xs = xs} {ys = ys} {s = s} e st =
     let c = if_some (is_told l next) (put (one_of (leaf_group l)) xs) ys e in
     let f = told l next (token_of tokens n).kind (bytes_of text (token_of tokens n)) even c.0 k in
     let is_of_group = subst (λ g. same_group g (group f.0) ≡ true) f.2 (of_group f.0) in
-    done_as (ap (λ o. push_if (option_map (λ form. tree form (token_of tokens n).span []) o) s) f.1) (put_there (one (leaf_group l)) (tree f.0 (token_of tokens n).span []) c.1 is_of_group st)
+    made_as (ap (λ o. push_if (option_map (λ form. tree form (token_of tokens n).span []) o) s) f.1) (put_there (one (leaf_group l)) (tree f.0 (token_of tokens n).span []) c.1 is_of_group st)
 effect_there gathers even text n next k e bottom = not_some e
 effect_there gathers even text n next k e (above {x = x} q st) = gathers_there text n (group_in x) e (above q st)
 effect_there gathers even text n next k e (no_more {g = g} st) = gathers_there text n (Some g) e (no_more st)
@@ -214,7 +214,7 @@ effect_there {tokens = tokens} (closes slots form) even text n next k {xs = xs} 
     let a = then_some (under_parts (reverse slots) xs) (λ zs. and_then (under_opening zs) (λ rest. put (one_of (group form)) rest)) ys e in
     let d = then_some (under_opening a.0) (λ rest. put (one_of (group form)) rest) ys a.2 in
     let c = closing slots a.1 d.1 st in
-    done_as (c.closes_with (λ p ts below. push (tree form (stretch tokens p n) ts) below)) (put_there (one (group form)) (tree form (stretch tokens c.begin n) c.found) d.2 (of_group form) c.stands_below)
+    made_as (c.closes_with (λ p ts below. push (tree form (stretch tokens p n) ts) below)) (put_there (one (group form)) (tree form (stretch tokens c.begin n) c.found) d.2 (of_group form) c.stands_below)
 effect_there (closes_integer slots form) even text n next k e st = words_there (terminal_number terminal.IntWord) integer_of form integer.Uint8 an_integer even slots n e st
 effect_there (closes_attribute slots form) even text n next k e st = words_there (terminal_number terminal.Attribute) attribute_of form attribute_name.Size an_attribute even slots n e st
 effect_there {tokens = tokens} encloses even text n next k {xs = xs} {ys = ys} e st =
@@ -223,12 +223,12 @@ effect_there {tokens = tokens} encloses even text n next k {xs = xs} {ys = ys} e
     let d = then_some (under_opening a.0) (λ rest. put (one_of expressions) rest) ys a.2 in
     let f = popped_there (one expressions) first.1 st in
     let o = opening_under (ap under_opening (some_equal first.2) ∙ d.1) f.4 in
-    done_as (enclosed_there tokens n o.0 f.0 f.2 f.3 o.2) (put_there (one expressions) (respan (stretch tokens o.0 n) f.0) d.2 (enclosed (stretch tokens o.0 n) f.0 f.3) o.3)
+    made_as (enclosed_there tokens n o.0 f.0 f.2 f.3 o.2) (put_there (one expressions) (respan (stretch tokens o.0 n) f.0) d.2 (enclosed (stretch tokens o.0 n) f.0 f.3) o.3)
 effect_there {tokens = tokens} (joins slots form) even text n next k {xs = xs} {ys = ys} e st =
     let a = then_some (under_parts (reverse slots) xs) (λ rest. put (one_of (group form)) rest) ys e in
     let f = parts_there (reverse slots) a.1 st [] in
-    done_as (ap (λ z. then_do z (λ ts rest. push (tree form (stretch_from tokens ts n) ts) rest)) f.2) (put_there (one (group form)) (tree form (stretch_from tokens f.0 n) f.0) a.2 (of_group form) f.3)
+    made_as (ap (λ z. then_do z (λ ts rest. push (tree form (stretch_from tokens ts n) ts) rest)) f.2) (put_there (one (group form)) (tree form (stretch_from tokens f.0 n) f.0) a.2 (of_group form) f.3)
 effect_there (wraps g form) even text n next k {xs = xs} {ys = ys} e st =
     let a = then_some (under_part (part (one g)) xs) (λ rest. put (one_of (group form)) rest) ys e in
     let f = popped_there (one g) a.1 st in
-    done_as (wrapped_there g form f.0 f.2 f.3) (put_there (one (group form)) (tree form (span_of f.0) (f.0 ∷ [])) a.2 (of_group form) f.4)
+    made_as (wrapped_there g form f.0 f.2 f.3) (put_there (one (group form)) (tree form (span_of f.0) (f.0 ∷ [])) a.2 (of_group form) f.4)

@@ -1,4 +1,5 @@
 pub mod Effects
+pub mod GroupLaws
 pub mod Shapes
 pub mod Signatures
 pub mod Standing

@@ -25,7 +25,7 @@ use Rattle.sp_build.specs.Building.{begun, built, Stack, token_of, marked, with_
 use Rattle.sp_build.proofs.Shapes.{Shape, stands, strip}
 use Rattle.sp_build.proofs.Signatures.{signature_at, next_kind, passed, run, is_used_up, keeps_signature, signatures_kept}
 use Rattle.sp_build.proofs.Standing.{Stands, bottom, above, append_stands, strip_stands, some_equal, not_some, then_some}
-use Rattle.sp_build.proofs.Effects.{IsDone, effect_there}
+use Rattle.sp_build.proofs.Effects.{IsMade, effect_there}
 use Rattle.sp_build.proofs.Told.{never, IsKind, even}
 
 -- The kinds that are left are those of the tokens from a place on; the first half of a `>>` may have been taken.
@@ -91,7 +91,7 @@ next_told tokens m (half {i = i} {e = e} {k = k} t r) a = elim (cases_Bool (nat_
 ]
 
 -- what a mark does where it is passed is done
-mark_there : {tokens : List Token} (o : Option marks.Mark) (text : List ℕ) (n : ℕ) (next : Option ℕ) → IsKind next (token_of tokens n).kind → {xs ys : List Shape} {s b : Stack} → passed o next xs ≡ Some ys → Stands tokens xs s b → IsDone tokens (with_mark o (λ m. marked m text tokens n s)) ys b
+mark_there : {tokens : List Token} (o : Option marks.Mark) (text : List ℕ) (n : ℕ) (next : Option ℕ) → IsKind next (token_of tokens n).kind → {xs ys : List Shape} {s b : Stack} → passed o next xs ≡ Some ys → Stands tokens xs s b → IsMade tokens (with_mark o (λ m. marked m text tokens n s)) ys b
 mark_there None text n next k e st = not_some e
 mark_there (Some m) text n next k e st = effect_there (rule m) (even m) text n next k e st
 
@@ -107,6 +107,10 @@ record Passes (text : List ℕ) (tokens : List Token) (us : List ℕ) (ρ : List
   does : all_done text tokens ρ s ≡ all_done text tokens τ next
   stands : Stands tokens ys next b
 
+-- the same from an earlier place on
+from_earlier : {text : List ℕ} {tokens : List Token} {us v : List ℕ} {ρ σ τ : List Event} {s r b : Stack} {j : ℕ} {ys : List Shape} → all_done text tokens ρ s ≡ all_done text tokens σ r → Passes text tokens us σ r j v τ ys b → Passes text tokens us ρ s j v τ ys b
+from_earlier e p = record { next = p.next; at = p.at; does = e ∙ p.does; stands = p.stands }
+
 passes : (text : List ℕ) (tokens : List Token) (m : ℕ) {ss : List Symbol} {i j : ℕ} {w v : List ℕ} {ρ τ : List Event} → Reads language ss i w ρ j v τ → {xs ys : List Shape} {s b : Stack} → run ss xs ≡ Some ys → IsAt (take m (numbers_of tokens)) i w → Stands tokens xs s b → Passes text tokens (take m (numbers_of tokens)) ρ s j v τ ys b
 passes text tokens m nothing {s = s} {b = b} e a st = record { next = s; at = a; does = refl; stands = subst (λ zs. Stands tokens zs s b) (some_equal e) st }
 passes text tokens m (whole {i = i} {k = k} {w = w} t r) e a st = passes text tokens m r e (inl (behind (take m (numbers_of tokens)) i k w a)) st
@@ -114,8 +118,7 @@ passes text tokens m (half {i = i} {k = k} {w = w} t r) e a st = passes text tok
 passes text tokens m (mark {i = i} {m = n} {ss = ss} {ρ = ρ} r) {xs = xs} {ys = ys} {s = s} e a st =
     let c = then_some (passed (mark_with n) (next_kind ss) xs) (λ next. run ss next) ys e in
     let d = mark_there (mark_with n) text i (next_kind ss) (next_told tokens m r a) c.1 st in
-    let h = passes text tokens m r c.2 a d.2 in
-    record { next = h.next; at = h.at; does = ap (λ o. go_on o (λ next. all_done text tokens ρ next)) d.1 ∙ h.does; stands = h.stands }
+    from_earlier (ap (λ o. go_on o (λ next. all_done text tokens ρ next)) d.1) (passes text tokens m r c.2 a d.2)
 passes text tokens m (part {n = n} {ss = ss} p b r q) {xs = xs} {ys = ys} e a st =
     let c = then_some (strip (signature_at n).finds xs) (λ rest. run ss ((signature_at n).leaves ++ rest)) ys e in
     let x = strip_stands (signature_at n).finds c.1 st in
@@ -123,8 +126,7 @@ passes text tokens m (part {n = n} {ss = ss} p b r q) {xs = xs} {ys = ys} e a st
     let f = then_some (run (right language n p) (signature_at n).finds) (λ zs. strip (signature_at n).leaves zs) [] (used_up _ kept) in
     let inner = passes text tokens m r f.1 a x.1 in
     let y = strip_stands (signature_at n).leaves f.2 inner.stands in
-    let h = passes text tokens m q c.2 inner.at (append_stands (on_base y.1 y.2) x.2) in
-    record { next = h.next; at = h.at; does = inner.does ∙ h.does; stands = h.stands }
+    from_earlier inner.does (passes text tokens m q c.2 inner.at (append_stands (on_base y.1 y.2) x.2))
   where
     on_base : {ls : List Shape} {s m b : Stack} → Stands tokens ls s m → Stands tokens [] m b → Stands tokens ls s b
     on_base st bottom = st

@@ -1,5 +1,5 @@
 -- The groups of alternatives that can stand in one another's place, and what may stand where a part is wanted.
-use Rattle.std.specs.Prelude.{ℕ, Bool, true, false, ◌==◌, ◌&&◌}
+use Rattle.std.specs.Prelude.{ℕ, Bool, true, false, ◌==◌, ◌&&◌, Option, Some, None}
 use Rattle.sp_ast.specs.Trees
 use Rattle.sp_ast.specs.Trees.{Form, Tree, Trees, node, absent, row, none, more}
 
@@ -7,7 +7,7 @@ use Rattle.sp_ast.specs.Trees.{Form, Tree, Trees, node, absent, row, none, more}
 pub data Group : Type 0 where
   names texts numbers events paths expressions pairs types labels ranges parameters : Group
   statements blocks branches cases : Group
-  items targets parts arms guards bodies bases counts attributes hooks hook_bodies : Group
+  items targets parts arms guards bodies bases counts attributes hooks hook_bodies units fields : Group
   declarations modules : Group
 
 abbrev pub group_number : Group → ℕ
@@ -39,6 +39,8 @@ group_number hooks = 24
 group_number hook_bodies = 25
 group_number declarations = 26
 group_number modules = 27
+group_number units = 28
+group_number fields = 29
 
 abbrev pub same_group : Group → Group → Bool
 same_group g h = group_number g == group_number h
@@ -71,6 +73,8 @@ group Trees.count = counts
 group (Trees.attribute name) = attributes
 group Trees.hook = hooks
 group (Trees.hook_body each) = hook_bodies
+group Trees.unit = units
+group Trees.field = fields
 group (Trees.decl form) = declarations
 group Trees.module_tree = modules
 
@@ -78,10 +82,18 @@ group Trees.module_tree = modules
 pub data Sort : Type 0 where
   one optional rows : Group → Sort
 
+-- the group of a tree, unless it is left out or a row
+abbrev pub tree_group : Tree → Option Group
+tree_group (node form span ts) = Some (group form)
+tree_group absent = None
+tree_group (row ts) = None
+
+abbrev pub is_in : Group → Option Group → Bool
+is_in g None = false
+is_in g (Some h) = same_group g h
+
 abbrev pub is_of : Group → Tree → Bool
-is_of g (node form span ts) = same_group g (group form)
-is_of g absent = false
-is_of g (row ts) = false
+is_of g t = is_in g (tree_group t)
 
 abbrev pub are_of : Group → Trees → Bool
 are_of g none = true

@@ -3,4 +3,5 @@ pub mod Rules
 pub mod Values
 pub mod Tokens
 pub mod Building
+pub mod Pieces
 pub mod Starting

@@ -12,7 +12,7 @@ use Rattle.sp_ast.specs.declared.words.AttributeName.{AttributeName}
 use Rattle.sp_ast.specs.declared.words.HookName.{HookName}
 use Rattle.sp_grammar.specs.declared.marks.Mark.{Mark}
 use Rattle.sp_grammar.specs.declared.marks.Mark.TheVariants as build
-use Rattle.sp_build.specs.Groups.{Group, names, texts, numbers, events, paths, expressions, pairs, types, labels, ranges, parameters, statements, blocks, branches, cases, items, targets, parts, arms, guards, bodies, bases, counts, attributes, hooks, hook_bodies, declarations, modules, Sort, one, optional, rows}
+use Rattle.sp_build.specs.Groups.{Group, names, texts, numbers, events, paths, expressions, pairs, types, labels, ranges, parameters, statements, blocks, branches, cases, items, targets, parts, arms, guards, bodies, bases, counts, attributes, hooks, hook_bodies, units, fields, declarations, modules, Sort, one, optional, rows}
 
 -- The alternative that a token is of: always the same, or by what the token tells (its name, its text, its bytes, its
 -- regular expression, its number, its integer type, its event).
@@ -98,7 +98,7 @@ rule build.HookBody = closes (may expressions ∷ an blocks ∷ []) (Trees.hook_
 rule build.InoutParameter = closes (an names ∷ an types ∷ []) (Trees.parameter true)
 rule build.Parameter = closes (an names ∷ an types ∷ []) (Trees.parameter false)
 -- types
-rule build.PathType = closes (an paths ∷ []) (Trees.type_tree Trees.path_type)
+rule build.PathType = wraps paths (Trees.type_tree Trees.path_type)
 rule build.IntType = takes (by_integer (λ word. Trees.type_tree (Trees.int_type word)))
 rule build.BoolType = takes (always (Trees.type_tree Trees.bool_type))
 rule build.BytesType = takes (always (Trees.type_tree Trees.bytes_type))
@@ -110,7 +110,8 @@ rule build.SetType = closes (an types ∷ []) (Trees.type_tree Trees.set_type)
 rule build.MapType = closes (an types ∷ an types ∷ []) (Trees.type_tree Trees.map_type)
 rule build.EnumType = closes (several labels ∷ []) (Trees.type_tree Trees.enum_type)
 rule build.BitfieldType = closes (an numbers ∷ row_of ranges ∷ []) (Trees.type_tree Trees.bitfield_type)
-rule build.UnitType = closes (row_of parameters ∷ row_of items ∷ []) (Trees.type_tree Trees.unit_type)
+rule build.Unit = closes (row_of parameters ∷ row_of items ∷ []) Trees.unit
+rule build.UnitType = wraps units (Trees.type_tree Trees.unit_type)
 rule build.Label = closes (an names ∷ may expressions ∷ []) Trees.label
 rule build.Bits = closes (an names ∷ an numbers ∷ may numbers ∷ []) Trees.bits
 -- items, parts and fields of units
@@ -132,11 +133,12 @@ rule build.LookAheadGuard = takes (always (Trees.guard Trees.look_ahead_guard))
 rule build.NothingBody = takes (always (Trees.body Trees.nothing_body))
 rule build.OneBody = closes (an parts ∷ []) (Trees.body Trees.one_body)
 rule build.ManyBody = closes (several parts ∷ []) (Trees.body Trees.many_body)
-rule build.Field = closes (may names ∷ an bases ∷ row_of counts ∷ row_of attributes ∷ may expressions ∷ may expressions ∷ row_of hook_bodies ∷ []) (Trees.part Trees.field_part)
+rule build.Field = closes (may names ∷ an bases ∷ row_of counts ∷ row_of attributes ∷ may expressions ∷ may expressions ∷ row_of hook_bodies ∷ []) Trees.field
+rule build.FieldPart = wraps fields (Trees.part Trees.field_part)
 rule build.Count = closes (may expressions ∷ []) Trees.count
 rule build.Attribute = closes_attribute (may expressions ∷ []) (λ name. Trees.attribute name)
 rule build.TypeBase = wraps types (Trees.base Trees.type_base)
-rule build.UnitBase = closes (an paths ∷ row_of expressions ∷ []) (Trees.base Trees.unit_base)
+rule build.UnitBase = joins (an paths ∷ row_of expressions ∷ []) (Trees.base Trees.unit_base)
 rule build.BytesBase = takes (by_bytes (λ x. Trees.base (Trees.bytes_base x)))
 rule build.RegexBase = takes (by_regex (λ x. Trees.base (Trees.regex_base x)))
 rule build.NumberBase = closes_integer (an numbers ∷ []) (λ word. Trees.base (Trees.number_base word))
@@ -196,7 +198,7 @@ rule build.Member = joins (an expressions ∷ an names ∷ []) (Trees.expr Trees
 rule build.SetMember = joins (an expressions ∷ an names ∷ []) (Trees.expr Trees.set_member_expr)
 rule build.Index = joins (an expressions ∷ an expressions ∷ []) (Trees.expr Trees.index_expr)
 rule build.Call = joins (an expressions ∷ row_of expressions ∷ []) (Trees.expr Trees.call_expr)
-rule build.PathExpr = closes (an paths ∷ []) (Trees.expr Trees.path_expr)
+rule build.PathExpr = wraps paths (Trees.expr Trees.path_expr)
 rule build.SelfExpr = takes (always (Trees.expr Trees.self_expr))
 rule build.CurrentExpr = takes (always (Trees.expr Trees.current_expr))
 rule build.NumberExpr = takes (by_number (λ n. Trees.expr (Trees.number_expr n)))

@@ -15,8 +15,8 @@ past_list [] n h = refl
 past_list (x ∷ xs) zero h = absurd (omega arith)
 past_list (x ∷ xs) (suc n) h = past_list xs n (omega arith)
 
-pub mark_there : (n : ℕ) (d : Mark) → n < 141 → Some (get_or MARKS n d) ≡ mark_with n
+pub mark_there : (n : ℕ) (d : Mark) → n < 143 → Some (get_or MARKS n d) ≡ mark_with n
 mark_there n d h = in_list MARKS n d h
 
-pub no_mark : (n : ℕ) → 141 ≤ n → None ≡ mark_with n
+pub no_mark : (n : ℕ) → 143 ≤ n → None ≡ mark_with n
 no_mark n h = past_list all_marks n h

@@ -60,12 +60,12 @@ alternatives Part.UnitPart =
     ∷ alternative (mark build.Begin ∷ kind token.Switch ∷ mark build.Absent ∷ kind token.LeftBrace ∷ mark build.Begin ∷ part Part.PlainArms ∷ mark build.Row ∷ kind token.RightBrace ∷ part Part.OptSemi ∷ mark build.SwitchPart ∷ [])
     ∷ []
 alternatives Part.Field =
-    alternative (mark build.Begin ∷ mark build.Name ∷ kind token.Id ∷ kind token.Colon ∷ part Part.Base ∷ mark build.Begin ∷ part Part.Counts ∷ mark build.Row ∷ mark build.Begin ∷ part Part.Attrs ∷ mark build.Row ∷ part Part.OptIf ∷ part Part.OptSink ∷ part Part.FieldEnd ∷ mark build.Field ∷ [])
-    ∷ alternative (mark build.Begin ∷ mark build.Absent ∷ kind token.Colon ∷ part Part.Base ∷ mark build.Begin ∷ part Part.Counts ∷ mark build.Row ∷ mark build.Begin ∷ part Part.Attrs ∷ mark build.Row ∷ part Part.OptIf ∷ part Part.OptSink ∷ part Part.FieldEnd ∷ mark build.Field ∷ [])
+    alternative (mark build.Begin ∷ mark build.Name ∷ kind token.Id ∷ kind token.Colon ∷ part Part.Base ∷ mark build.Begin ∷ part Part.Counts ∷ mark build.Row ∷ mark build.Begin ∷ part Part.Attrs ∷ mark build.Row ∷ part Part.OptIf ∷ part Part.OptSink ∷ part Part.FieldEnd ∷ mark build.Field ∷ mark build.FieldPart ∷ [])
+    ∷ alternative (mark build.Begin ∷ mark build.Absent ∷ kind token.Colon ∷ part Part.Base ∷ mark build.Begin ∷ part Part.Counts ∷ mark build.Row ∷ mark build.Begin ∷ part Part.Attrs ∷ mark build.Row ∷ part Part.OptIf ∷ part Part.OptSink ∷ part Part.FieldEnd ∷ mark build.Field ∷ mark build.FieldPart ∷ [])
     ∷ []
 alternatives Part.Base =
-    alternative (mark build.Begin ∷ part Part.Path ∷ kind token.LeftParen ∷ mark build.Begin ∷ part Part.Args ∷ kind token.RightParen ∷ mark build.Row ∷ mark build.UnitBase ∷ [])
-    ∷ alternative (mark build.Begin ∷ part Part.Path ∷ mark build.PathType ∷ mark build.TypeBase ∷ [])
+    alternative (part Part.Path ∷ kind token.LeftParen ∷ mark build.Begin ∷ part Part.Args ∷ kind token.RightParen ∷ mark build.Row ∷ mark build.UnitBase ∷ [])
+    ∷ alternative (part Part.Path ∷ mark build.PathType ∷ mark build.TypeBase ∷ [])
     ∷ alternative (mark build.Begin ∷ kind token.IntWord ∷ kind token.LeftParen ∷ mark build.Number ∷ kind token.Number ∷ kind token.RightParen ∷ mark build.NumberBase ∷ [])
     ∷ alternative (mark build.Begin ∷ kind token.IntWord ∷ mark build.IntBase ∷ mark build.TypeBase ∷ [])
     ∷ alternative (part Part.Plain ∷ mark build.TypeBase ∷ [])
@@ -174,7 +174,7 @@ alternatives Part.Postfix =
     ∷ alternative (part Part.Primary ∷ [])
     ∷ []
 alternatives Part.Primary =
-    alternative (mark build.Begin ∷ part Part.Path ∷ mark build.PathExpr ∷ [])
+    alternative (part Part.Path ∷ mark build.PathExpr ∷ [])
     ∷ alternative (mark build.SelfExpr ∷ kind token.Itself ∷ [])
     ∷ alternative (mark build.CurrentExpr ∷ kind token.DollarDollar ∷ [])
     ∷ alternative (mark build.NumberExpr ∷ kind token.Number ∷ [])

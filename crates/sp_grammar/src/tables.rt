@@ -4,7 +4,7 @@ use sp_parser::{Row, Span, Symbol};
 
 /// The right sides of the productions, one after another.
 #[rattlefmt::skip]
-pub static SYMBOLS: [Symbol; 902] = [
+pub static SYMBOLS: [Symbol; 901] = [
     Mark(0), Terminal(0), Mark(1), Terminal(1), Terminal(2), Mark(0),
     Nonterminal(1), Mark(2), Mark(3), Nonterminal(2), Nonterminal(1), Mark(0),
     Terminal(3), Mark(1), Terminal(1), Terminal(2), Mark(4), Mark(0),
@@ -31,131 +31,131 @@ pub static SYMBOLS: [Symbol; 902] = [
     Terminal(15), Mark(1), Terminal(1), Nonterminal(12), Nonterminal(15), Nonterminal(14),
     Terminal(20), Nonterminal(15), Nonterminal(14), Mark(0), Terminal(21), Mark(1),
     Terminal(1), Terminal(17), Nonterminal(16), Mark(21), Mark(0), Mark(1),
-    Terminal(1), Terminal(17), Nonterminal(16), Mark(22), Mark(0), Nonterminal(11),
-    Mark(23), Mark(24), Terminal(22), Nonterminal(17), Mark(25), Terminal(23),
-    Mark(26), Terminal(24), Mark(27), Terminal(25), Mark(28), Terminal(26),
-    Mark(0), Terminal(27), Terminal(28), Nonterminal(16), Nonterminal(18), Terminal(123),
-    Mark(29), Mark(0), Terminal(29), Terminal(28), Nonterminal(16), Terminal(123),
-    Mark(30), Mark(0), Terminal(30), Terminal(28), Nonterminal(16), Terminal(123),
-    Mark(31), Mark(0), Terminal(31), Terminal(28), Nonterminal(16), Terminal(20),
-    Nonterminal(16), Terminal(123), Mark(32), Mark(0), Terminal(32), Terminal(33),
-    Nonterminal(19), Nonterminal(21), Terminal(34), Mark(33), Mark(0), Terminal(35),
-    Terminal(12), Mark(34), Terminal(36), Terminal(13), Terminal(33), Mark(0),
-    Nonterminal(23), Mark(2), Terminal(34), Mark(35), Mark(0), Terminal(37),
-    Nonterminal(9), Terminal(33), Mark(0), Nonterminal(26), Mark(2), Terminal(34),
-    Mark(36), Terminal(20), Nonterminal(16), Nonterminal(18), Mark(0), Mark(1),
-    Terminal(1), Nonterminal(20), Mark(37), Terminal(5), Nonterminal(64), Mark(16),
+    Terminal(1), Terminal(17), Nonterminal(16), Mark(22), Nonterminal(11), Mark(23),
+    Mark(24), Terminal(22), Nonterminal(17), Mark(25), Terminal(23), Mark(26),
+    Terminal(24), Mark(27), Terminal(25), Mark(28), Terminal(26), Mark(0),
+    Terminal(27), Terminal(28), Nonterminal(16), Nonterminal(18), Terminal(123), Mark(29),
+    Mark(0), Terminal(29), Terminal(28), Nonterminal(16), Terminal(123), Mark(30),
+    Mark(0), Terminal(30), Terminal(28), Nonterminal(16), Terminal(123), Mark(31),
+    Mark(0), Terminal(31), Terminal(28), Nonterminal(16), Terminal(20), Nonterminal(16),
+    Terminal(123), Mark(32), Mark(0), Terminal(32), Terminal(33), Nonterminal(19),
+    Nonterminal(21), Terminal(34), Mark(33), Mark(0), Terminal(35), Terminal(12),
+    Mark(34), Terminal(36), Terminal(13), Terminal(33), Mark(0), Nonterminal(23),
+    Mark(2), Terminal(34), Mark(35), Mark(0), Terminal(37), Nonterminal(9),
+    Terminal(33), Mark(0), Nonterminal(26), Mark(2), Terminal(34), Mark(36),
+    Mark(37), Terminal(20), Nonterminal(16), Nonterminal(18), Mark(0), Mark(1),
+    Terminal(1), Nonterminal(20), Mark(38), Terminal(5), Nonterminal(64), Mark(16),
     Terminal(20), Nonterminal(22), Nonterminal(19), Nonterminal(21), Nonterminal(24), Nonterminal(23),
     Mark(0), Mark(1), Terminal(1), Terminal(17), Mark(34), Terminal(36),
-    Nonterminal(25), Terminal(2), Mark(38), Terminal(38), Mark(34), Terminal(36),
+    Nonterminal(25), Terminal(2), Mark(39), Terminal(38), Mark(34), Terminal(36),
     Mark(16), Nonterminal(27), Nonterminal(26), Mark(0), Terminal(39), Terminal(2),
-    Mark(39), Mark(0), Terminal(4), Terminal(5), Nonterminal(11), Terminal(2),
-    Mark(40), Mark(0), Terminal(40), Terminal(5), Mark(6), Terminal(7),
-    Terminal(2), Mark(41), Mark(0), Terminal(41), Terminal(5), Mark(6),
-    Terminal(7), Terminal(2), Mark(42), Mark(0), Terminal(42), Mark(1),
-    Terminal(1), Terminal(17), Nonterminal(16), Nonterminal(20), Terminal(2), Mark(43),
-    Mark(0), Terminal(43), Mark(1), Terminal(1), Terminal(2), Mark(44),
-    Mark(0), Terminal(14), Nonterminal(28), Nonterminal(7), Nonterminal(29), Mark(45),
-    Nonterminal(30), Mark(46), Mark(47), Terminal(1), Mark(48), Terminal(16),
+    Mark(40), Mark(0), Terminal(4), Terminal(5), Nonterminal(11), Terminal(2),
+    Mark(41), Mark(0), Terminal(40), Terminal(5), Mark(6), Terminal(7),
+    Terminal(2), Mark(42), Mark(0), Terminal(41), Terminal(5), Mark(6),
+    Terminal(7), Terminal(2), Mark(43), Mark(0), Terminal(42), Mark(1),
+    Terminal(1), Terminal(17), Nonterminal(16), Nonterminal(20), Terminal(2), Mark(44),
+    Mark(0), Terminal(43), Mark(1), Terminal(1), Terminal(2), Mark(45),
+    Mark(0), Terminal(14), Nonterminal(28), Nonterminal(7), Nonterminal(29), Mark(46),
+    Nonterminal(30), Mark(47), Mark(48), Terminal(1), Mark(49), Terminal(16),
     Terminal(2), Nonterminal(37), Mark(0), Terminal(44), Nonterminal(31), Terminal(12),
     Nonterminal(64), Terminal(13), Terminal(33), Mark(0), Nonterminal(32), Mark(2),
-    Terminal(34), Nonterminal(29), Mark(49), Mark(16), Terminal(33), Mark(0),
-    Nonterminal(34), Mark(2), Terminal(34), Nonterminal(29), Mark(49), Nonterminal(33),
-    Nonterminal(32), Mark(0), Mark(50), Terminal(45), Terminal(46), Nonterminal(35),
-    Mark(51), Mark(0), Mark(0), Nonterminal(64), Nonterminal(51), Mark(52),
-    Terminal(46), Nonterminal(35), Mark(51), Mark(0), Mark(53), Terminal(46),
-    Nonterminal(35), Mark(51), Nonterminal(34), Mark(54), Terminal(2), Mark(0),
-    Nonterminal(30), Mark(55), Mark(0), Terminal(33), Nonterminal(36), Terminal(34),
-    Nonterminal(29), Mark(56), Nonterminal(30), Nonterminal(36), Mark(0), Mark(1),
+    Terminal(34), Nonterminal(29), Mark(50), Mark(16), Terminal(33), Mark(0),
+    Nonterminal(34), Mark(2), Terminal(34), Nonterminal(29), Mark(50), Nonterminal(33),
+    Nonterminal(32), Mark(0), Mark(51), Terminal(45), Terminal(46), Nonterminal(35),
+    Mark(52), Mark(0), Mark(0), Nonterminal(64), Nonterminal(51), Mark(53),
+    Terminal(46), Nonterminal(35), Mark(52), Mark(0), Mark(54), Terminal(46),
+    Nonterminal(35), Mark(52), Nonterminal(34), Mark(55), Terminal(2), Mark(0),
+    Nonterminal(30), Mark(56), Mark(0), Terminal(33), Nonterminal(36), Terminal(34),
+    Nonterminal(29), Mark(57), Nonterminal(30), Nonterminal(36), Mark(0), Mark(1),
     Terminal(1), Nonterminal(38), Mark(0), Mark(16), Nonterminal(38), Terminal(17),
     Nonterminal(47), Mark(0), Nonterminal(39), Mark(2), Mark(0), Nonterminal(41),
-    Mark(2), Nonterminal(42), Nonterminal(43), Nonterminal(44), Mark(57), Mark(0),
-    Terminal(47), Nonterminal(40), Terminal(48), Mark(58), Nonterminal(39), Nonterminal(64),
-    Mark(16), Mark(0), Terminal(49), Nonterminal(20), Mark(59), Nonterminal(41),
-    Terminal(50), Terminal(12), Nonterminal(64), Terminal(13), Mark(16), Terminal(46),
-    Nonterminal(64), Mark(16), Mark(0), Terminal(2), Mark(2), Mark(0),
-    Nonterminal(46), Nonterminal(45), Nonterminal(29), Mark(2), Nonterminal(46), Nonterminal(45),
-    Mark(0), Terminal(18), Nonterminal(10), Nonterminal(52), Mark(19), Mark(0),
-    Terminal(19), Terminal(5), Nonterminal(64), Nonterminal(52), Mark(20), Mark(0),
-    Mark(16), Nonterminal(52), Mark(20), Mark(0), Nonterminal(11), Nonterminal(48),
-    Mark(0), Terminal(22), Nonterminal(49), Nonterminal(17), Mark(60), Mark(61),
-    Terminal(51), Mark(62), Terminal(52), Mark(0), Terminal(12), Nonterminal(47),
+    Mark(2), Nonterminal(42), Nonterminal(43), Nonterminal(44), Mark(58), Mark(59),
+    Mark(0), Terminal(47), Nonterminal(40), Terminal(48), Mark(60), Nonterminal(39),
+    Nonterminal(64), Mark(16), Mark(0), Terminal(49), Nonterminal(20), Mark(61),
+    Nonterminal(41), Terminal(50), Terminal(12), Nonterminal(64), Terminal(13), Mark(16),
+    Terminal(46), Nonterminal(64), Mark(16), Mark(0), Terminal(2), Mark(2),
+    Mark(0), Nonterminal(46), Nonterminal(45), Nonterminal(29), Mark(2), Nonterminal(46),
+    Nonterminal(45), Mark(0), Terminal(18), Nonterminal(10), Nonterminal(52), Mark(19),
+    Mark(0), Terminal(19), Terminal(5), Nonterminal(64), Nonterminal(52), Mark(20),
+    Mark(0), Mark(16), Nonterminal(52), Mark(20), Nonterminal(11), Nonterminal(48),
+    Mark(0), Terminal(22), Nonterminal(49), Nonterminal(17), Mark(62), Mark(63),
+    Terminal(51), Mark(64), Terminal(52), Mark(0), Terminal(12), Nonterminal(47),
     Mark(0), Nonterminal(39), Mark(2), Mark(0), Nonterminal(41), Mark(2),
-    Terminal(13), Mark(63), Terminal(12), Mark(0), Nonterminal(50), Terminal(13),
-    Mark(2), Mark(64), Mark(23), Mark(60), Terminal(12), Mark(34),
-    Terminal(36), Terminal(13), Mark(65), Mark(66), Mark(60), Nonterminal(64),
+    Terminal(13), Mark(65), Terminal(12), Mark(0), Nonterminal(50), Terminal(13),
+    Mark(2), Mark(66), Mark(23), Mark(62), Terminal(12), Mark(34),
+    Terminal(36), Terminal(13), Mark(67), Mark(68), Mark(62), Nonterminal(64),
     Nonterminal(51), Terminal(20), Nonterminal(64), Nonterminal(51), Mark(0), Terminal(33),
-    Nonterminal(53), Terminal(34), Mark(67), Nonterminal(54), Nonterminal(53), Mark(0),
+    Nonterminal(53), Terminal(34), Mark(69), Nonterminal(54), Nonterminal(53), Mark(0),
     Terminal(50), Mark(0), Nonterminal(55), Nonterminal(56), Nonterminal(58), Mark(0),
-    Terminal(12), Nonterminal(64), Terminal(13), Nonterminal(54), Mark(68), Terminal(53),
-    Nonterminal(57), Mark(2), Mark(16), Mark(69), Terminal(50), Nonterminal(55),
-    Nonterminal(56), Mark(2), Nonterminal(58), Mark(69), Nonterminal(52), Mark(70),
+    Terminal(12), Nonterminal(64), Terminal(13), Nonterminal(54), Mark(70), Terminal(53),
+    Nonterminal(57), Mark(2), Mark(16), Mark(71), Terminal(50), Nonterminal(55),
+    Nonterminal(56), Mark(2), Nonterminal(58), Mark(71), Nonterminal(52), Mark(72),
     Mark(0), Terminal(54), Mark(1), Terminal(1), Nonterminal(59), Terminal(2),
-    Mark(71), Mark(0), Terminal(55), Terminal(12), Nonterminal(64), Terminal(13),
-    Nonterminal(54), Mark(72), Mark(0), Terminal(56), Terminal(12), Mark(1),
-    Terminal(1), Terminal(57), Nonterminal(64), Terminal(13), Nonterminal(54), Mark(73),
+    Mark(73), Mark(0), Terminal(55), Terminal(12), Nonterminal(64), Terminal(13),
+    Nonterminal(54), Mark(74), Mark(0), Terminal(56), Terminal(12), Mark(1),
+    Terminal(1), Terminal(57), Nonterminal(64), Terminal(13), Nonterminal(54), Mark(75),
     Mark(0), Terminal(44), Terminal(12), Nonterminal(64), Terminal(13), Terminal(33),
-    Mark(0), Nonterminal(60), Mark(2), Nonterminal(61), Terminal(34), Mark(74),
-    Mark(0), Terminal(58), Nonterminal(40), Terminal(2), Mark(75), Mark(0),
-    Terminal(59), Terminal(2), Mark(76), Mark(0), Terminal(60), Terminal(2),
-    Mark(77), Mark(0), Terminal(61), Terminal(2), Mark(78), Mark(0),
-    Terminal(62), Terminal(2), Mark(79), Mark(0), Terminal(63), Terminal(2),
-    Mark(80), Mark(0), Terminal(64), Nonterminal(64), Nonterminal(51), Terminal(2),
-    Mark(81), Mark(0), Terminal(65), Nonterminal(64), Terminal(2), Mark(82),
-    Mark(0), Terminal(66), Nonterminal(64), Nonterminal(62), Terminal(2), Mark(83),
-    Mark(0), Terminal(67), Nonterminal(64), Terminal(2), Mark(84), Mark(0),
-    Terminal(68), Nonterminal(64), Terminal(2), Mark(85), Mark(0), Nonterminal(64),
+    Mark(0), Nonterminal(60), Mark(2), Nonterminal(61), Terminal(34), Mark(76),
+    Mark(0), Terminal(58), Nonterminal(40), Terminal(2), Mark(77), Mark(0),
+    Terminal(59), Terminal(2), Mark(78), Mark(0), Terminal(60), Terminal(2),
+    Mark(79), Mark(0), Terminal(61), Terminal(2), Mark(80), Mark(0),
+    Terminal(62), Terminal(2), Mark(81), Mark(0), Terminal(63), Terminal(2),
+    Mark(82), Mark(0), Terminal(64), Nonterminal(64), Nonterminal(51), Terminal(2),
+    Mark(83), Mark(0), Terminal(65), Nonterminal(64), Terminal(2), Mark(84),
+    Mark(0), Terminal(66), Nonterminal(64), Nonterminal(62), Terminal(2), Mark(85),
+    Mark(0), Terminal(67), Nonterminal(64), Terminal(2), Mark(86), Mark(0),
+    Terminal(68), Nonterminal(64), Terminal(2), Mark(87), Mark(0), Nonterminal(64),
     Nonterminal(63), Terminal(17), Nonterminal(16), Nonterminal(20), Mark(16), Terminal(5),
     Nonterminal(64), Mark(0), Terminal(69), Mark(0), Nonterminal(64), Nonterminal(51),
-    Mark(2), Terminal(17), Nonterminal(54), Mark(86), Nonterminal(60), Terminal(70),
+    Mark(2), Terminal(17), Nonterminal(54), Mark(88), Nonterminal(60), Terminal(70),
     Terminal(17), Nonterminal(54), Mark(16), Terminal(17), Mark(6), Terminal(7),
-    Mark(16), Terminal(5), Nonterminal(64), Terminal(2), Mark(87), Terminal(71),
-    Nonterminal(64), Terminal(2), Mark(88), Terminal(72), Nonterminal(64), Terminal(2),
-    Mark(89), Terminal(2), Mark(90), Nonterminal(66), Nonterminal(65), Terminal(73),
-    Nonterminal(64), Terminal(17), Nonterminal(64), Mark(91), Nonterminal(68), Nonterminal(67),
-    Terminal(74), Nonterminal(68), Mark(92), Nonterminal(67), Nonterminal(70), Nonterminal(69),
-    Terminal(75), Nonterminal(70), Mark(93), Nonterminal(69), Nonterminal(72), Nonterminal(71),
-    Terminal(57), Nonterminal(72), Mark(94), Nonterminal(71), Terminal(76), Nonterminal(72),
-    Mark(95), Nonterminal(71), Nonterminal(74), Nonterminal(73), Terminal(77), Nonterminal(74),
-    Mark(96), Nonterminal(73), Terminal(78), Nonterminal(74), Mark(97), Nonterminal(73),
-    Nonterminal(76), Nonterminal(75), Terminal(28), Nonterminal(76), Mark(98), Nonterminal(75),
-    Terminal(79), Nonterminal(76), Mark(99), Nonterminal(75), Terminal(120), Nonterminal(76),
-    Mark(100), Nonterminal(75), Terminal(80), Nonterminal(76), Mark(101), Nonterminal(75),
-    Nonterminal(78), Nonterminal(77), Terminal(81), Nonterminal(78), Mark(102), Nonterminal(77),
-    Nonterminal(80), Nonterminal(79), Terminal(82), Nonterminal(80), Mark(103), Nonterminal(79),
-    Nonterminal(82), Nonterminal(81), Terminal(83), Nonterminal(82), Mark(104), Nonterminal(81),
-    Nonterminal(84), Nonterminal(83), Terminal(84), Nonterminal(84), Mark(105), Nonterminal(83),
-    Terminal(121), Nonterminal(84), Mark(106), Nonterminal(83), Nonterminal(86), Nonterminal(85),
-    Terminal(85), Nonterminal(86), Mark(107), Nonterminal(85), Terminal(86), Nonterminal(86),
-    Mark(108), Nonterminal(85), Nonterminal(88), Nonterminal(87), Terminal(45), Nonterminal(88),
-    Mark(109), Nonterminal(87), Terminal(87), Nonterminal(88), Mark(110), Nonterminal(87),
-    Terminal(88), Nonterminal(88), Mark(111), Nonterminal(87), Mark(0), Terminal(89),
-    Nonterminal(88), Mark(112), Mark(0), Terminal(86), Nonterminal(88), Mark(113),
-    Mark(0), Terminal(90), Nonterminal(88), Mark(114), Nonterminal(91), Nonterminal(89),
-    Terminal(91), Nonterminal(90), Mark(115), Nonterminal(89), Terminal(92), Mark(1),
-    Terminal(1), Mark(116), Nonterminal(89), Terminal(47), Nonterminal(64), Terminal(48),
-    Mark(117), Nonterminal(89), Terminal(12), Mark(0), Nonterminal(50), Terminal(13),
-    Mark(2), Mark(118), Nonterminal(89), Mark(1), Terminal(1), Mark(1),
-    Terminal(93), Mark(0), Nonterminal(11), Mark(119), Mark(120), Terminal(94),
-    Mark(121), Terminal(95), Mark(122), Terminal(36), Mark(123), Terminal(7),
-    Mark(124), Terminal(51), Mark(125), Terminal(52), Mark(126), Terminal(96),
-    Mark(127), Terminal(97), Mark(0), Terminal(12), Nonterminal(64), Nonterminal(92),
-    Mark(0), Terminal(47), Nonterminal(64), Nonterminal(51), Terminal(48), Mark(128),
-    Mark(0), Terminal(30), Nonterminal(93), Mark(0), Terminal(31), Nonterminal(94),
-    Mark(0), Terminal(29), Terminal(28), Nonterminal(16), Terminal(123), Terminal(12),
-    Terminal(13), Mark(129), Mark(0), Terminal(22), Terminal(12), Mark(34),
-    Terminal(36), Terminal(13), Mark(130), Mark(0), Terminal(98), Terminal(28),
-    Nonterminal(16), Terminal(123), Terminal(12), Nonterminal(64), Terminal(13), Mark(131),
-    Mark(0), Terminal(99), Nonterminal(11), Nonterminal(97), Mark(132), Mark(0),
-    Terminal(81), Nonterminal(78), Terminal(81), Mark(133), Terminal(13), Mark(134),
-    Terminal(20), Nonterminal(64), Nonterminal(51), Terminal(13), Mark(135), Terminal(12),
-    Nonterminal(64), Nonterminal(51), Terminal(13), Mark(136), Terminal(28), Nonterminal(16),
-    Terminal(123), Terminal(12), Terminal(13), Mark(137), Terminal(12), Nonterminal(96),
-    Nonterminal(95), Terminal(13), Mark(138), Terminal(28), Nonterminal(16), Terminal(20),
-    Nonterminal(16), Terminal(123), Terminal(12), Terminal(13), Mark(139), Terminal(20),
-    Nonterminal(96), Nonterminal(95), Mark(0), Nonterminal(64), Terminal(17), Nonterminal(64),
-    Mark(140), Terminal(12), Mark(0), Nonterminal(50), Terminal(13), Mark(2),
-    Mark(0), Mark(2),
+    Mark(16), Terminal(5), Nonterminal(64), Terminal(2), Mark(89), Terminal(71),
+    Nonterminal(64), Terminal(2), Mark(90), Terminal(72), Nonterminal(64), Terminal(2),
+    Mark(91), Terminal(2), Mark(92), Nonterminal(66), Nonterminal(65), Terminal(73),
+    Nonterminal(64), Terminal(17), Nonterminal(64), Mark(93), Nonterminal(68), Nonterminal(67),
+    Terminal(74), Nonterminal(68), Mark(94), Nonterminal(67), Nonterminal(70), Nonterminal(69),
+    Terminal(75), Nonterminal(70), Mark(95), Nonterminal(69), Nonterminal(72), Nonterminal(71),
+    Terminal(57), Nonterminal(72), Mark(96), Nonterminal(71), Terminal(76), Nonterminal(72),
+    Mark(97), Nonterminal(71), Nonterminal(74), Nonterminal(73), Terminal(77), Nonterminal(74),
+    Mark(98), Nonterminal(73), Terminal(78), Nonterminal(74), Mark(99), Nonterminal(73),
+    Nonterminal(76), Nonterminal(75), Terminal(28), Nonterminal(76), Mark(100), Nonterminal(75),
+    Terminal(79), Nonterminal(76), Mark(101), Nonterminal(75), Terminal(120), Nonterminal(76),
+    Mark(102), Nonterminal(75), Terminal(80), Nonterminal(76), Mark(103), Nonterminal(75),
+    Nonterminal(78), Nonterminal(77), Terminal(81), Nonterminal(78), Mark(104), Nonterminal(77),
+    Nonterminal(80), Nonterminal(79), Terminal(82), Nonterminal(80), Mark(105), Nonterminal(79),
+    Nonterminal(82), Nonterminal(81), Terminal(83), Nonterminal(82), Mark(106), Nonterminal(81),
+    Nonterminal(84), Nonterminal(83), Terminal(84), Nonterminal(84), Mark(107), Nonterminal(83),
+    Terminal(121), Nonterminal(84), Mark(108), Nonterminal(83), Nonterminal(86), Nonterminal(85),
+    Terminal(85), Nonterminal(86), Mark(109), Nonterminal(85), Terminal(86), Nonterminal(86),
+    Mark(110), Nonterminal(85), Nonterminal(88), Nonterminal(87), Terminal(45), Nonterminal(88),
+    Mark(111), Nonterminal(87), Terminal(87), Nonterminal(88), Mark(112), Nonterminal(87),
+    Terminal(88), Nonterminal(88), Mark(113), Nonterminal(87), Mark(0), Terminal(89),
+    Nonterminal(88), Mark(114), Mark(0), Terminal(86), Nonterminal(88), Mark(115),
+    Mark(0), Terminal(90), Nonterminal(88), Mark(116), Nonterminal(91), Nonterminal(89),
+    Terminal(91), Nonterminal(90), Mark(117), Nonterminal(89), Terminal(92), Mark(1),
+    Terminal(1), Mark(118), Nonterminal(89), Terminal(47), Nonterminal(64), Terminal(48),
+    Mark(119), Nonterminal(89), Terminal(12), Mark(0), Nonterminal(50), Terminal(13),
+    Mark(2), Mark(120), Nonterminal(89), Mark(1), Terminal(1), Mark(1),
+    Terminal(93), Nonterminal(11), Mark(121), Mark(122), Terminal(94), Mark(123),
+    Terminal(95), Mark(124), Terminal(36), Mark(125), Terminal(7), Mark(126),
+    Terminal(51), Mark(127), Terminal(52), Mark(128), Terminal(96), Mark(129),
+    Terminal(97), Mark(0), Terminal(12), Nonterminal(64), Nonterminal(92), Mark(0),
+    Terminal(47), Nonterminal(64), Nonterminal(51), Terminal(48), Mark(130), Mark(0),
+    Terminal(30), Nonterminal(93), Mark(0), Terminal(31), Nonterminal(94), Mark(0),
+    Terminal(29), Terminal(28), Nonterminal(16), Terminal(123), Terminal(12), Terminal(13),
+    Mark(131), Mark(0), Terminal(22), Terminal(12), Mark(34), Terminal(36),
+    Terminal(13), Mark(132), Mark(0), Terminal(98), Terminal(28), Nonterminal(16),
+    Terminal(123), Terminal(12), Nonterminal(64), Terminal(13), Mark(133), Mark(0),
+    Terminal(99), Nonterminal(11), Nonterminal(97), Mark(134), Mark(0), Terminal(81),
+    Nonterminal(78), Terminal(81), Mark(135), Terminal(13), Mark(136), Terminal(20),
+    Nonterminal(64), Nonterminal(51), Terminal(13), Mark(137), Terminal(12), Nonterminal(64),
+    Nonterminal(51), Terminal(13), Mark(138), Terminal(28), Nonterminal(16), Terminal(123),
+    Terminal(12), Terminal(13), Mark(139), Terminal(12), Nonterminal(96), Nonterminal(95),
+    Terminal(13), Mark(140), Terminal(28), Nonterminal(16), Terminal(20), Nonterminal(16),
+    Terminal(123), Terminal(12), Terminal(13), Mark(141), Terminal(20), Nonterminal(96),
+    Nonterminal(95), Mark(0), Nonterminal(64), Terminal(17), Nonterminal(64), Mark(142),
+    Terminal(12), Mark(0), Nonterminal(50), Terminal(13), Mark(2), Mark(0),
+    Mark(2),
 ];
 
 /// The productions.
@@ -197,20 +197,20 @@ pub static ROWS: [Row; 251] = [
     Row { select: 0x2000, avoid: 0x0, from: 147, to: 147 }, // Params = nothing
     Row { select: 0x200000, avoid: 0x0, from: 147, to: 154 }, // Param = @begin inout @name ID : TypeTree @inout_parameter
     Row { select: 0x2, avoid: 0x0, from: 154, to: 160 }, // Param = @begin @name ID : TypeTree @parameter
-    Row { select: 0x2, avoid: 0x0, from: 160, to: 163 }, // TypeTree = @begin Path @path_type
-    Row { select: 0x400000, avoid: 0x0, from: 163, to: 165 }, // TypeTree = @int_type INT
-    Row { select: 0x29ef800000, avoid: 0x0, from: 165, to: 166 }, // TypeTree = Plain
-    Row { select: 0x800000, avoid: 0x0, from: 166, to: 168 }, // Plain = @bool_type bool
-    Row { select: 0x1000000, avoid: 0x0, from: 168, to: 170 }, // Plain = @bytes_type bytes
-    Row { select: 0x2000000, avoid: 0x0, from: 170, to: 172 }, // Plain = @string_type string
-    Row { select: 0x4000000, avoid: 0x0, from: 172, to: 174 }, // Plain = @void_type void
-    Row { select: 0x8000000, avoid: 0x0, from: 174, to: 181 }, // Plain = @begin tuple < TypeTree Types CLOSE @tuple_type
-    Row { select: 0x20000000, avoid: 0x0, from: 181, to: 187 }, // Plain = @begin vector < TypeTree CLOSE @vector_type
-    Row { select: 0x40000000, avoid: 0x0, from: 187, to: 193 }, // Plain = @begin set < TypeTree CLOSE @set_type
-    Row { select: 0x80000000, avoid: 0x0, from: 193, to: 201 }, // Plain = @begin map < TypeTree , TypeTree CLOSE @map_type
-    Row { select: 0x100000000, avoid: 0x0, from: 201, to: 208 }, // Plain = @begin enum { Label Labels } @enum_type
-    Row { select: 0x800000000, avoid: 0x0, from: 208, to: 220 }, // Plain = @begin bitfield ( @number NUM ) { @begin Ranges @row } @bitfield_type
-    Row { select: 0x2000000000, avoid: 0x0, from: 220, to: 229 }, // Plain = @begin unit OptParen { @begin Items @row } @unit_type
+    Row { select: 0x2, avoid: 0x0, from: 160, to: 162 }, // TypeTree = Path @path_type
+    Row { select: 0x400000, avoid: 0x0, from: 162, to: 164 }, // TypeTree = @int_type INT
+    Row { select: 0x29ef800000, avoid: 0x0, from: 164, to: 165 }, // TypeTree = Plain
+    Row { select: 0x800000, avoid: 0x0, from: 165, to: 167 }, // Plain = @bool_type bool
+    Row { select: 0x1000000, avoid: 0x0, from: 167, to: 169 }, // Plain = @bytes_type bytes
+    Row { select: 0x2000000, avoid: 0x0, from: 169, to: 171 }, // Plain = @string_type string
+    Row { select: 0x4000000, avoid: 0x0, from: 171, to: 173 }, // Plain = @void_type void
+    Row { select: 0x8000000, avoid: 0x0, from: 173, to: 180 }, // Plain = @begin tuple < TypeTree Types CLOSE @tuple_type
+    Row { select: 0x20000000, avoid: 0x0, from: 180, to: 186 }, // Plain = @begin vector < TypeTree CLOSE @vector_type
+    Row { select: 0x40000000, avoid: 0x0, from: 186, to: 192 }, // Plain = @begin set < TypeTree CLOSE @set_type
+    Row { select: 0x80000000, avoid: 0x0, from: 192, to: 200 }, // Plain = @begin map < TypeTree , TypeTree CLOSE @map_type
+    Row { select: 0x100000000, avoid: 0x0, from: 200, to: 207 }, // Plain = @begin enum { Label Labels } @enum_type
+    Row { select: 0x800000000, avoid: 0x0, from: 207, to: 219 }, // Plain = @begin bitfield ( @number NUM ) { @begin Ranges @row } @bitfield_type
+    Row { select: 0x2000000000, avoid: 0x0, from: 219, to: 229 }, // Plain = @begin unit OptParen { @begin Items @row } @unit @unit_type
     Row { select: 0x100000, avoid: 0x0, from: 229, to: 232 }, // Types = , TypeTree Types
     Row { select: 0x7000000000000000000000000000000, avoid: 0x0, from: 232, to: 232 }, // Types = nothing
     Row { select: 0x2, avoid: 0x0, from: 232, to: 237 }, // Label = @begin @name ID OptValue @label
@@ -256,25 +256,25 @@ pub static ROWS: [Row; 251] = [
     Row { select: 0x400000000, avoid: 0x0, from: 370, to: 370 }, // Parts = nothing
     Row { select: 0x2, avoid: 0x0, from: 370, to: 374 }, // Field = @begin @name ID FieldTail
     Row { select: 0x20000, avoid: 0x0, from: 374, to: 377 }, // Field = @begin @absent FieldTail
-    Row { select: 0x20000, avoid: 0x0, from: 377, to: 389 }, // FieldTail = : Base @begin Counts @row @begin Attrs @row OptIf OptSink FieldEnd @field
-    Row { select: 0x800000000000, avoid: 0x0, from: 389, to: 395 }, // Counts = @begin [ OptExpr ] @count Counts
-    Row { select: 0x64002000c2004, avoid: 0x0, from: 395, to: 395 }, // Counts = nothing
-    Row { select: 0xfc642000000188010e0401082, avoid: 0x0, from: 395, to: 396 }, // OptExpr = Expr
-    Row { select: 0x1000000000004, avoid: 0x0, from: 396, to: 397 }, // OptExpr = @absent
-    Row { select: 0x2000000000000, avoid: 0x0, from: 397, to: 402 }, // Attrs = @begin ATTR OptValue @attribute Attrs
-    Row { select: 0x44002000c2004, avoid: 0x0, from: 402, to: 402 }, // Attrs = nothing
-    Row { select: 0x4000000000000, avoid: 0x0, from: 402, to: 406 }, // OptIf = if ( Expr )
-    Row { select: 0x4002000c0004, avoid: 0x0, from: 406, to: 407 }, // OptIf = @absent
-    Row { select: 0x400000000000, avoid: 0x0, from: 407, to: 409 }, // OptSink = -> Expr
-    Row { select: 0x2000c0004, avoid: 0x0, from: 409, to: 410 }, // OptSink = @absent
-    Row { select: 0x4, avoid: 0x0, from: 410, to: 413 }, // FieldEnd = @begin ; @row
-    Row { select: 0x2000c0000, avoid: 0x0, from: 413, to: 418 }, // FieldEnd = @begin FieldHook FieldHooks OptSemi @row
-    Row { select: 0x2000c0000, avoid: 0x0, from: 418, to: 420 }, // FieldHooks = FieldHook FieldHooks
-    Row { select: 0xfc64200000018ff94e0425096, avoid: 0x0, from: 420, to: 420 }, // FieldHooks = nothing
-    Row { select: 0x40000, avoid: 0x0, from: 420, to: 425 }, // FieldHook = @begin foreach OptPriority Block @each_body
-    Row { select: 0x80000, avoid: 0x0, from: 425, to: 431 }, // FieldHook = @begin &priority = Expr Block @hook_body
-    Row { select: 0x200000000, avoid: 0x0, from: 431, to: 435 }, // FieldHook = @begin @absent Block @hook_body
-    Row { select: 0x2, avoid: 0x0, from: 435, to: 438 }, // Base = @begin Path BaseTail
+    Row { select: 0x20000, avoid: 0x0, from: 377, to: 390 }, // FieldTail = : Base @begin Counts @row @begin Attrs @row OptIf OptSink FieldEnd @field @field_part
+    Row { select: 0x800000000000, avoid: 0x0, from: 390, to: 396 }, // Counts = @begin [ OptExpr ] @count Counts
+    Row { select: 0x64002000c2004, avoid: 0x0, from: 396, to: 396 }, // Counts = nothing
+    Row { select: 0xfc642000000188010e0401082, avoid: 0x0, from: 396, to: 397 }, // OptExpr = Expr
+    Row { select: 0x1000000000004, avoid: 0x0, from: 397, to: 398 }, // OptExpr = @absent
+    Row { select: 0x2000000000000, avoid: 0x0, from: 398, to: 403 }, // Attrs = @begin ATTR OptValue @attribute Attrs
+    Row { select: 0x44002000c2004, avoid: 0x0, from: 403, to: 403 }, // Attrs = nothing
+    Row { select: 0x4000000000000, avoid: 0x0, from: 403, to: 407 }, // OptIf = if ( Expr )
+    Row { select: 0x4002000c0004, avoid: 0x0, from: 407, to: 408 }, // OptIf = @absent
+    Row { select: 0x400000000000, avoid: 0x0, from: 408, to: 410 }, // OptSink = -> Expr
+    Row { select: 0x2000c0004, avoid: 0x0, from: 410, to: 411 }, // OptSink = @absent
+    Row { select: 0x4, avoid: 0x0, from: 411, to: 414 }, // FieldEnd = @begin ; @row
+    Row { select: 0x2000c0000, avoid: 0x0, from: 414, to: 419 }, // FieldEnd = @begin FieldHook FieldHooks OptSemi @row
+    Row { select: 0x2000c0000, avoid: 0x0, from: 419, to: 421 }, // FieldHooks = FieldHook FieldHooks
+    Row { select: 0xfc64200000018ff94e0425096, avoid: 0x0, from: 421, to: 421 }, // FieldHooks = nothing
+    Row { select: 0x40000, avoid: 0x0, from: 421, to: 426 }, // FieldHook = @begin foreach OptPriority Block @each_body
+    Row { select: 0x80000, avoid: 0x0, from: 426, to: 432 }, // FieldHook = @begin &priority = Expr Block @hook_body
+    Row { select: 0x200000000, avoid: 0x0, from: 432, to: 436 }, // FieldHook = @begin @absent Block @hook_body
+    Row { select: 0x2, avoid: 0x0, from: 436, to: 438 }, // Base = Path BaseTail
     Row { select: 0x400000, avoid: 0x0, from: 438, to: 441 }, // Base = @begin INT OptNum
     Row { select: 0x29ef800000, avoid: 0x0, from: 441, to: 443 }, // Base = Plain @type_base
     Row { select: 0x8000000000000, avoid: 0x0, from: 443, to: 445 }, // Base = @bytes_base BYTES
@@ -383,35 +383,35 @@ pub static ROWS: [Row; 251] = [
     Row { select: 0x1300000001ffff8002076006101e2024, avoid: 0x0, from: 783, to: 783 }, // Postfix = nothing
     Row { select: 0x2, avoid: 0x0, from: 783, to: 785 }, // Member = @name ID
     Row { select: 0x200000000000000000000000, avoid: 0x0, from: 785, to: 787 }, // Member = @name skip
-    Row { select: 0x2, avoid: 0x0, from: 787, to: 790 }, // Primary = @begin Path @path_expr
-    Row { select: 0x400000000000000000000000, avoid: 0x0, from: 790, to: 792 }, // Primary = @self_expr self
-    Row { select: 0x800000000000000000000000, avoid: 0x0, from: 792, to: 794 }, // Primary = @current_expr $$
-    Row { select: 0x1000000000, avoid: 0x0, from: 794, to: 796 }, // Primary = @number_expr NUM
-    Row { select: 0x80, avoid: 0x0, from: 796, to: 798 }, // Primary = @string_expr STRING
-    Row { select: 0x8000000000000, avoid: 0x0, from: 798, to: 800 }, // Primary = @bytes_expr BYTES
-    Row { select: 0x10000000000000, avoid: 0x0, from: 800, to: 802 }, // Primary = @regex_expr REGEX
-    Row { select: 0x1000000000000000000000000, avoid: 0x0, from: 802, to: 804 }, // Primary = @true_expr True
-    Row { select: 0x2000000000000000000000000, avoid: 0x0, from: 804, to: 806 }, // Primary = @false_expr False
-    Row { select: 0x1000, avoid: 0x0, from: 806, to: 810 }, // Primary = @begin ( Expr Paren
-    Row { select: 0x800000000000, avoid: 0x0, from: 810, to: 816 }, // Primary = @begin [ Expr Exprs ] @vector_expr
-    Row { select: 0x40000000, avoid: 0x0, from: 816, to: 819 }, // Primary = @begin set Set
-    Row { select: 0x80000000, avoid: 0x0, from: 819, to: 822 }, // Primary = @begin map Map
-    Row { select: 0x20000000, avoid: 0x0, from: 822, to: 830 }, // Primary = @begin vector < TypeTree CLOSE ( ) @empty_vector_expr
-    Row { select: 0x400000, avoid: 0x0, from: 830, to: 837 }, // Primary = @begin INT ( @number NUM ) @typed_number_expr
-    Row { select: 0x4000000000000000000000000, avoid: 0x0, from: 837, to: 846 }, // Primary = @begin cast < TypeTree CLOSE ( Expr ) @cast_expr
-    Row { select: 0x8000000000000000000000000, avoid: 0x0, from: 846, to: 851 }, // Primary = @begin new Path NewArgs @new_expr
-    Row { select: 0x200000000000000000000, avoid: 0x0, from: 851, to: 856 }, // Primary = @begin | BitXor | @size_expr
-    Row { select: 0x2000, avoid: 0x0, from: 856, to: 858 }, // Paren = ) @paren
-    Row { select: 0x100000, avoid: 0x0, from: 858, to: 863 }, // Paren = , Expr Exprs ) @tuple_expr
-    Row { select: 0x1000, avoid: 0x0, from: 863, to: 868 }, // Set = ( Expr Exprs ) @set_expr
-    Row { select: 0x10000000, avoid: 0x0, from: 868, to: 874 }, // Set = < TypeTree CLOSE ( ) @empty_set_expr
-    Row { select: 0x1000, avoid: 0x0, from: 874, to: 879 }, // Map = ( Pair Pairs ) @map_expr
-    Row { select: 0x10000000, avoid: 0x0, from: 879, to: 887 }, // Map = < TypeTree , TypeTree CLOSE ( ) @empty_map_expr
-    Row { select: 0x100000, avoid: 0x0, from: 887, to: 890 }, // Pairs = , Pair Pairs
-    Row { select: 0x2000, avoid: 0x0, from: 890, to: 890 }, // Pairs = nothing
-    Row { select: 0xfc642000000188010e0401082, avoid: 0x0, from: 890, to: 895 }, // Pair = @begin Expr : Expr @pair
-    Row { select: 0x1000, avoid: 0x0, from: 895, to: 900 }, // NewArgs = ( @begin Args ) @row
-    Row { select: 0x1300000019ffff800207e006101e2024, avoid: 0x1000, from: 900, to: 902 }, // NewArgs = @begin @row
+    Row { select: 0x2, avoid: 0x0, from: 787, to: 789 }, // Primary = Path @path_expr
+    Row { select: 0x400000000000000000000000, avoid: 0x0, from: 789, to: 791 }, // Primary = @self_expr self
+    Row { select: 0x800000000000000000000000, avoid: 0x0, from: 791, to: 793 }, // Primary = @current_expr $$
+    Row { select: 0x1000000000, avoid: 0x0, from: 793, to: 795 }, // Primary = @number_expr NUM
+    Row { select: 0x80, avoid: 0x0, from: 795, to: 797 }, // Primary = @string_expr STRING
+    Row { select: 0x8000000000000, avoid: 0x0, from: 797, to: 799 }, // Primary = @bytes_expr BYTES
+    Row { select: 0x10000000000000, avoid: 0x0, from: 799, to: 801 }, // Primary = @regex_expr REGEX
+    Row { select: 0x1000000000000000000000000, avoid: 0x0, from: 801, to: 803 }, // Primary = @true_expr True
+    Row { select: 0x2000000000000000000000000, avoid: 0x0, from: 803, to: 805 }, // Primary = @false_expr False
+    Row { select: 0x1000, avoid: 0x0, from: 805, to: 809 }, // Primary = @begin ( Expr Paren
+    Row { select: 0x800000000000, avoid: 0x0, from: 809, to: 815 }, // Primary = @begin [ Expr Exprs ] @vector_expr
+    Row { select: 0x40000000, avoid: 0x0, from: 815, to: 818 }, // Primary = @begin set Set
+    Row { select: 0x80000000, avoid: 0x0, from: 818, to: 821 }, // Primary = @begin map Map
+    Row { select: 0x20000000, avoid: 0x0, from: 821, to: 829 }, // Primary = @begin vector < TypeTree CLOSE ( ) @empty_vector_expr
+    Row { select: 0x400000, avoid: 0x0, from: 829, to: 836 }, // Primary = @begin INT ( @number NUM ) @typed_number_expr
+    Row { select: 0x4000000000000000000000000, avoid: 0x0, from: 836, to: 845 }, // Primary = @begin cast < TypeTree CLOSE ( Expr ) @cast_expr
+    Row { select: 0x8000000000000000000000000, avoid: 0x0, from: 845, to: 850 }, // Primary = @begin new Path NewArgs @new_expr
+    Row { select: 0x200000000000000000000, avoid: 0x0, from: 850, to: 855 }, // Primary = @begin | BitXor | @size_expr
+    Row { select: 0x2000, avoid: 0x0, from: 855, to: 857 }, // Paren = ) @paren
+    Row { select: 0x100000, avoid: 0x0, from: 857, to: 862 }, // Paren = , Expr Exprs ) @tuple_expr
+    Row { select: 0x1000, avoid: 0x0, from: 862, to: 867 }, // Set = ( Expr Exprs ) @set_expr
+    Row { select: 0x10000000, avoid: 0x0, from: 867, to: 873 }, // Set = < TypeTree CLOSE ( ) @empty_set_expr
+    Row { select: 0x1000, avoid: 0x0, from: 873, to: 878 }, // Map = ( Pair Pairs ) @map_expr
+    Row { select: 0x10000000, avoid: 0x0, from: 878, to: 886 }, // Map = < TypeTree , TypeTree CLOSE ( ) @empty_map_expr
+    Row { select: 0x100000, avoid: 0x0, from: 886, to: 889 }, // Pairs = , Pair Pairs
+    Row { select: 0x2000, avoid: 0x0, from: 889, to: 889 }, // Pairs = nothing
+    Row { select: 0xfc642000000188010e0401082, avoid: 0x0, from: 889, to: 894 }, // Pair = @begin Expr : Expr @pair
+    Row { select: 0x1000, avoid: 0x0, from: 894, to: 899 }, // NewArgs = ( @begin Args ) @row
+    Row { select: 0x1300000019ffff800207e006101e2024, avoid: 0x1000, from: 899, to: 901 }, // NewArgs = @begin @row
 ];
 
 /// The nonterminals.

@@ -27,10 +27,10 @@ counted [] k n d t h = absurd (omega arith)
 counted (x ∷ xs) k zero d t h = let e : mark_number x ≡ k = eqb-true (mark_number x) k (and_parts (mark_number x == k) (counts (suc k) xs) t).0 in e ∙ omega arith
 counted (x ∷ xs) k (suc n) d t h = counted xs (suc k) n d (and_parts (mark_number x == k) (counts (suc k) xs) t).1 (omega arith) ∙ omega arith
 
-pub mark_at : (n : ℕ) (d : Mark) → n < 141 → mark_number (get_or MARKS n d) ≡ n
+pub mark_at : (n : ℕ) (d : Mark) → n < 143 → mark_number (get_or MARKS n d) ≡ n
 mark_at n d h = counted MARKS 0 n d refl h ∙ omega arith
 
-pub below : (m : Mark) → mark_number m < 141
+pub below : (m : Mark) → mark_number m < 143
 below build.Begin = lit< tt
 below build.Name = lit< tt
 below build.Row = lit< tt
@@ -67,6 +67,7 @@ below build.MapType = lit< tt
 below build.EnumType = lit< tt
 below build.Number = lit< tt
 below build.BitfieldType = lit< tt
+below build.Unit = lit< tt
 below build.UnitType = lit< tt
 below build.Label = lit< tt
 below build.Bits = lit< tt
@@ -89,6 +90,7 @@ below build.NothingBody = lit< tt
 below build.OneBody = lit< tt
 below build.ManyBody = lit< tt
 below build.Field = lit< tt
+below build.FieldPart = lit< tt
 below build.Count = lit< tt
 below build.Attribute = lit< tt
 below build.TypeBase = lit< tt
@@ -173,13 +175,13 @@ below build.MapExpr = lit< tt
 below build.EmptyMapExpr = lit< tt
 below build.Pair = lit< tt
 
-is_named : (n : ℕ) → nat_lt n 141 ≡ true → IsNamed n
-is_named n t = (get_or MARKS n build.Begin, mark_at n build.Begin (ltb-true n 141 t))
+is_named : (n : ℕ) → nat_lt n 143 ≡ true → IsNamed n
+is_named n t = (get_or MARKS n build.Begin, mark_at n build.Begin (ltb-true n 143 t))
 
 -- each mark of the symbols has a name
 abbrev named : List Symbol → Bool
 named [] = true
-named (symbol.Mark m ∷ ss) = nat_lt m 141 && named ss
+named (symbol.Mark m ∷ ss) = nat_lt m 143 && named ss
 named (symbol.Terminal e ∷ ss) = named ss
 named (symbol.Nonterminal n ∷ ss) = named ss
 
@@ -196,7 +198,7 @@ both a b x y = ap (λ z. z && b) x ∙ y
 
 named_both : (ss ts : List Symbol) → named ss ≡ true → named ts ≡ true → named (ss ++ ts) ≡ true
 named_both [] ts s t = t
-named_both (symbol.Mark m ∷ ss) ts s t = let x = and_parts (nat_lt m 141) (named ss) s in both (nat_lt m 141) (named (ss ++ ts)) x.0 (named_both ss ts x.1 t)
+named_both (symbol.Mark m ∷ ss) ts s t = let x = and_parts (nat_lt m 143) (named ss) s in both (nat_lt m 143) (named (ss ++ ts)) x.0 (named_both ss ts x.1 t)
 named_both (symbol.Terminal e ∷ ss) ts s t = named_both ss ts s t
 named_both (symbol.Nonterminal n ∷ ss) ts s t = named_both ss ts s t
 
@@ -217,7 +219,7 @@ passed_named : {g : Table} {i : ℕ} {ss : List Symbol} {w : List ℕ} {τ : Lis
 passed_named t done h = tt
 passed_named t (whole q d) h = passed_named t d h
 passed_named t (half q d) h = passed_named t d h
-passed_named t (mark {m = m} {ss = ss} d) h = let x = and_parts (nat_lt m 141) (named ss) h in (is_named m x.0, passed_named t d x.1)
+passed_named t (mark {m = m} {ss = ss} d) h = let x = and_parts (nat_lt m 143) (named ss) h in (is_named m x.0, passed_named t d x.1)
 passed_named {g = g} t (expand {n = n} {ss = ss} p a d) h = passed_named t d (named_both (right g n p) ss (right_named g n p t) h)
 
 language_named : table_named language.productions ≡ true
