@@ -25,15 +25,15 @@ and_then None go = None
 and_then (Some x) go = go x
 
 -- a shape of which each tree is one of the group
-abbrev pub is_in : Group → Shape → Bool
-is_in g (stands (one h)) = same_group g h
-is_in g (many h) = same_group g h
-is_in g _ = false
+abbrev pub is_all_of : Group → Shape → Bool
+is_all_of g (stands (one h)) = same_group g h
+is_all_of g (many h) = same_group g h
+is_all_of g _ = false
 
 -- what is left under all trees of a group
 abbrev pub under : Group → List Shape → List Shape
 under g [] = []
-under g (x ∷ xs) = if is_in g x then under g xs else x ∷ xs
+under g (x ∷ xs) = if is_all_of g x then under g xs else x ∷ xs
 
 -- whether all that stands there may stand for such a part
 abbrev pub suits : Sort → Shape → Bool

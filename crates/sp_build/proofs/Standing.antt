@@ -7,7 +7,7 @@ use Rattle.sp_read_expr.specs.Kinds.{token_number}
 use Rattle.sp_ast.specs.Trees.{Tree, Trees, absent, row, node, none, more}
 use Rattle.sp_build.specs.Groups.{Group, group_number, same_group, group, Sort, one, optional, rows, is_of, are_of, fits}
 use Rattle.sp_build.specs.Building.{Item, begun, built, Stack, token_of}
-use Rattle.sp_build.proofs.Shapes.{Shape, opens, opens_at, stands, left_out, no_row, many, and_then, is_in, under, suits, covers, under_one, under_wanted, strip}
+use Rattle.sp_build.proofs.Shapes.{Shape, opens, opens_at, stands, left_out, no_row, many, and_then, is_all_of, under, suits, covers, under_one, under_wanted, strip}
 use Rattle.sp_build.proofs.Told.{never}
 
 -- an item of a stack has the shape of one
@@ -121,7 +121,7 @@ pub data Front (g : Group) : Stack → Stack → Type 0 where
   no_tree : {s : Stack} → Front g s s
   a_tree : {t : Tree} {s r : Stack} → is_of g t ≡ true → Front g s r → Front g (built t ∷ s) r
 
-in_group : (g : Group) (x : Shape) (tokens : List Token) (i : Item) → is_in g x ≡ true → is_shaped tokens x i ≡ true → (t : Tree) × (i ≡ built t) × (is_of g t ≡ true)
+in_group : (g : Group) (x : Shape) (tokens : List Token) (i : Item) → is_all_of g x ≡ true → is_shaped tokens x i ≡ true → (t : Tree) × (i ≡ built t) × (is_of g t ≡ true)
 in_group g (stands (one h)) tokens (built t) e q = (t, refl, is_of_like g h t e q)
 in_group g (stands (one h)) tokens (begun p) e q = never q
 in_group g (many h) tokens i e q = never q
@@ -132,7 +132,7 @@ in_group g _ tokens i e q = never e
 -- all trees of a group stand there, and under them what is known
 pub under_front : {tokens : List Token} (g : Group) {xs : List Shape} {s b : Stack} → Stands tokens xs s b → (r : Stack) × Front g s r × Stands tokens (under g xs) r b
 under_front g {s = s} bottom = (s, no_tree, bottom)
-under_front {tokens = tokens} g {b = b} (above {x = x} {i = i} {xs = xs} {s = s} q st) = elim (cases_Bool (is_in g x)) [
+under_front {tokens = tokens} g {b = b} (above {x = x} {i = i} {xs = xs} {s = s} q st) = elim (cases_Bool (is_all_of g x)) [
   | inl y ↦
       let f = in_group g x tokens i y q in
       let h = under_front g st in
