@@ -4,3 +4,4 @@ pub mod Values
 pub mod Tokens
 pub mod Building
 pub mod Pieces
+pub mod Starting

@@ -3,5 +3,8 @@
 
 mod fault;
 mod grouped;
+mod laws;
 mod piece;
 mod stack;
+
+pub use laws::every_text_is_built;

@@ -1,0 +1,17 @@
+// Every text has a tree.
+ghost use Rattle.std.specs.Prelude.{◌≡◌, ℕ, List, true};
+ghost use Rattle.sp_lex.specs.declared.tokens.Token.{Token};
+ghost use Rattle.sp_parser.specs.declared.symbol.Event.{Event};
+ghost use Rattle.sp_grammar.specs.declared.language.Start.{Start};
+ghost use Rattle.sp_read_expr.specs.Runs.{IsText};
+ghost use Rattle.sp_ast.specs.Trees.{Tree};
+ghost use Rattle.sp_build.specs.Groups.{is_of};
+ghost use Rattle.sp_build.specs.Building.{IsBuilt};
+ghost use Rattle.sp_build.specs.Starting.{group_of};
+
+/// The marks that the derivation of a text passes build one tree, and leave nothing else on the stack: a module builds a
+/// module, a type a type, a statement a statement and an expression an expression. So the rules of the marks find what
+/// they want at each place, whatever the text is.
+pub fn every_text_is_built()
+    ensures { (start : Start) (text : List ℕ) (tokens : List Token) (m : ℕ) (events : List Event) → IsText start tokens m events → (t : Tree) × (is_of (group_of start) t ≡ true) × IsBuilt text tokens events t }
+{}
