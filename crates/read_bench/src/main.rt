@@ -29,7 +29,7 @@ fn count(alloc: Global, source: &[u8]) -> Result<Counts, ReadFault> {
         if at as usize >= tokens.len() {
             break;
         }
-        let parsed = read_from(alloc, source, &tokens, &numbers, Start::Stmt, at)?;
+        let parsed = read_from(alloc, &tokens, &numbers, Start::Stmt, at)?;
         statements = statements.saturating_add(1);
         marks = marks.saturating_add(parsed.events.len() as u64);
         at = parsed.to;

@@ -88,14 +88,18 @@ pub on_ok : {T : Type 0} (r : Result T ReadFault) (P : Type 0) → P → OnOk r 
 on_ok (Ok x) P h = h
 on_ok (Err e) P h = tt
 
+-- what follows of each value that is Ok
+pub if_ok : {T : Type 0} (P Q : T → Type 0) → ((x : T) → P x → Q x) → (r : Result T ReadFault) → IfOk r P → IfOk r Q
+if_ok P Q f (Ok x) h = f x h
+if_ok P Q f (Err e) h = h
+
 -- where nothing is wrong with the reading, nothing is with any token
 each_right : (text : List ℕ) (nesting : Nesting) (tokens : List Token) → ((span : Span) (m : MKind) → ¬ IsReadingFault text nesting (whole tokens) span m) → AllByRecursion (IsRight text) tokens
 each_right text nesting [] right = tt
 each_right text nesting (token ∷ tokens) right = (λ m own. right token.span m (inl (refl, inl own)), each_right text (after nesting (role_of token.kind)) tokens (λ span m fault. right span m (inr fault)))
 
-pub right_tokens : (text : List ℕ) (r : Result (List Token) ReadFault) → IfOk r (λ tokens. reading text ≡ whole tokens) → IfOk r (λ tokens. (span : Span) (m : MKind) → ¬ IsReadingFault text outermost (reading text) span m) → IfOk r (λ tokens. AllByRecursion (IsRight text) tokens)
-right_tokens text (Ok tokens) same right = each_right text outermost tokens (subst (λ read. (span : Span) (m : MKind) → ¬ IsReadingFault text outermost read span m) same right)
-right_tokens text (Err e) same right = tt
+pub right_tokens : (text : List ℕ) (tokens : List Token) → reading text ≡ whole tokens → ((span : Span) (m : MKind) → ¬ IsReadingFault text outermost (reading text) span m) → AllByRecursion (IsRight text) tokens
+right_tokens text tokens same right = each_right text outermost tokens (subst (λ read. (span : Span) (m : MKind) → ¬ IsReadingFault text outermost read span m) same right)
 
 -- a place in what is looked at is one of the source
 module _ (source seen : List ℕ) (same : seen ≡ looked_at source) where

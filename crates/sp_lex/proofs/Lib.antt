@@ -1,5 +1,7 @@
+pub mod Carried
 pub mod Counts
 pub mod Depth
+pub mod Insides
 pub mod Least
 pub mod Longest
 pub mod OwnFaults
@@ -7,5 +9,7 @@ pub mod ReadOn
 pub mod Scans
 pub mod Skips
 pub mod Spelled
+pub mod Standing
 pub mod Takes
 pub mod Texts
+pub mod Valid

@@ -1,6 +1,7 @@
 pub mod Bytes
 pub mod Elements
 pub mod Faults
+pub mod Lexed
 pub mod Literals
 pub mod Nesting
 pub mod Readings

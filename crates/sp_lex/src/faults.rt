@@ -12,8 +12,8 @@ use sp_base::{MKind, NoMemory};
 use sp_regex::RegexFault;
 use std::alloc::Global;
 
-/// What stands between a regular expression's slashes.
-fn between(bytes: &[u8]) -> &[u8]
+/// What stands between the first byte and the last.
+pub fn between(bytes: &[u8]) -> &[u8]
     ensures { result.now ≡ between bytes.now }
 {
     if bytes.len() < 2 {

@@ -1,16 +1,18 @@
 // The tokens of a source, or the least of its faults.
 ghost use Rattle.std.specs.Prelude.{◌≡◌, ◌≤◌, ◌<◌, ◌+◌, ◌⊎◌, ◌==◌, length, IfOk, IfErr, OnOk, IfNone, IfSome};
 ghost use Rattle.std.specs.List.{position_or_len, AllByRecursion};
+ghost use Rattle.std.specs.Str.{IsUtf8};
 ghost use Rattle.std.specs.Str.Lossy.{utf8_valid_len};
 ghost use Rattle.sp_base.specs.declared.kinds.MKind.{MKind};
 ghost use Rattle.sp_base.specs.declared.places.Span.{Span};
 ghost use Rattle.sp_lex.specs.Faults.{most_bytes, looked_at, first_bad, IsRight, IsReadingFault, IsTextFault, IsFault, GoesBefore, OnDiag};
+ghost use Rattle.sp_lex.specs.Lexed.{IsLexed};
 ghost use Rattle.sp_lex.specs.Nesting.{outermost};
 ghost use Rattle.sp_lex.specs.Readings.{reading, whole, HasItsText, IsLongest, InOrder};
 
 use crate::scanner::{scan, span_of};
 use crate::tokens::{ReadFault, Tokens};
-use sp_base::{MKind, Span};
+use sp_base::{ByteList, MKind, Span};
 use std::alloc::Global;
 
 /// The most bytes that a text may have.
@@ -37,7 +39,8 @@ fn looked_at(source: &[u8]) -> &[u8]
 
 /// The bytes before the first ill-formed sequence of UTF-8.
 fn valid_len(text: &[u8]) -> usize
-    ensures { result ≡ utf8_valid_len text.now }
+    ensures value { result ≡ utf8_valid_len text.now }
+    ensures utf8 { length text.now ≤ result → IsUtf8 text.now }
 {
     match std::str::from_utf8(text) {
         Ok(_) => text.len(),
@@ -57,6 +60,7 @@ fn zero_free_len(text: &[u8]) -> usize
 fn first_bad(text: &[u8]) -> usize
     ensures value { result ≡ first_bad text.now }
     ensures within { result ≤ length text.now }
+    ensures utf8 { length text.now ≤ result → IsUtf8 text.now }
 {
     valid_len(text).min(zero_free_len(text))
 }
@@ -66,6 +70,7 @@ fn text_fault(source: &[u8], seen: &[u8]) -> Option<Fault>
     requires seen { seen.now ≡ looked_at source.now }
     requires small { length seen.now ≤ most_bytes + 1 }
     ensures right { IfNone result ((span : Span) (m : MKind) → ¬ IsTextFault source.now span m) }
+    ensures utf8 { IfNone result (IsUtf8 seen.now) }
     ensures inside { IfSome result (λ f. f.span.from ≤ length seen.now) }
     ensures fault { IfSome result (λ f. IsTextFault source.now f.span f.kind) }
     ensures least { IfSome result (λ f. (other : Span) (k : MKind) → IsTextFault source.now other k → GoesBefore f.span f.kind other k) }
@@ -122,17 +127,35 @@ fn refused(alloc: Global, seen: &[u8], fault: Fault) -> ReadFault
     }
 }
 
+/// The text with its tokens, or its first fault.
+fn lexed(alloc: Global, text: &[u8]) -> Result<Tokens, ReadFault>
+    requires small { length text.now ≤ most_bytes }
+    requires utf8 { IsUtf8 text.now }
+    ensures text { IfOk result (λ tokens. tokens.text ≡ text.now) }
+    ensures lexed { IfOk result (λ tokens. IsLexed text.now tokens.list) }
+    ensures right { IfOk result (λ _. (span : Span) (m : MKind) → ¬ IsReadingFault text.now outermost (reading text.now) span m) }
+    ensures inside { IfErr result (OnDiag (λ span _. span.from ≤ length text.now)) }
+    ensures fault { IfErr result (OnDiag (λ span m. IsReadingFault text.now outermost (reading text.now) span m)) }
+    ensures least { IfErr result (OnDiag (λ span m. (other : Span) (k : MKind) → IsReadingFault text.now outermost (reading text.now) other k → GoesBefore span m other k)) }
+{
+    match scan(alloc, text) {
+        Ok(list) => Ok(Tokens::new(ByteList::from_slice(alloc, text)?, list)),
+        Err(fault) => Err(fault),
+    }
+}
+
 /// The tokens of a text in order, each the longest at its place, or the least of its faults by place and number:
 /// a byte that is no text (M1), a place where no token begins or a literal with a bad escape or without an end
 /// (M2), more than 1,048,576 bytes (M4), a number over 2^64 - 1 (M15), a text between slashes that is no regular
 /// expression (M17), and a token of a level over 64 (M31).
 pub fn lex(alloc: Global, source: &[u8]) -> Result<Tokens, ReadFault>
+    ensures text { IfOk result (λ tokens. tokens.text ≡ source.now) }
     // The text is the tokens in this order, with nothing but white space and comments round them.
-    ensures tokens { IfOk result (λ tokens. reading source.now ≡ whole tokens) }
-    ensures longest { IfOk result (λ tokens. AllByRecursion (IsLongest source.now) tokens) }
-    ensures texts { IfOk result (λ tokens. AllByRecursion (HasItsText source.now) tokens) }
-    ensures each_right { IfOk result (λ tokens. AllByRecursion (IsRight source.now) tokens) }
-    ensures order { IfOk result (λ tokens. InOrder 0 tokens (length source.now)) }
+    ensures tokens { IfOk result (λ tokens. reading source.now ≡ whole tokens.list) }
+    ensures longest { IfOk result (λ tokens. AllByRecursion (IsLongest source.now) tokens.list) }
+    ensures texts { IfOk result (λ tokens. AllByRecursion (HasItsText source.now) tokens.list) }
+    ensures each_right { IfOk result (λ tokens. AllByRecursion (IsRight source.now) tokens.list) }
+    ensures order { IfOk result (λ tokens. InOrder 0 tokens.list (length source.now)) }
     ensures right { IfOk result (λ tokens. (span : Span) (kind : MKind) → ¬ IsFault source.now span kind) }
     ensures small { OnOk result (length source.now ≤ most_bytes) }
     // A fault is one of the text, and goes before all others.
@@ -142,7 +165,7 @@ pub fn lex(alloc: Global, source: &[u8]) -> Result<Tokens, ReadFault>
 {
     let seen = looked_at(source);
     match text_fault(source, seen) {
-        None => scan(alloc, seen),
+        None => lexed(alloc, seen),
         Some(fault) => Err(refused(alloc, seen, fault)),
     }
 }

@@ -14,6 +14,8 @@ mod signs;
 mod tables;
 mod tokens;
 
+pub use faults::between;
 pub use kinds::{Absent, Attribute, Hook, Keyword, Mark, Property, TokenKind};
 pub use lexer::lex;
+pub use numbers::number_of;
 pub use tokens::{ReadFault, Token, Tokens};

@@ -1,5 +1,5 @@
 // How far numbers reach, and which are too large.
-ghost use Rattle.std.specs.Prelude.{◌≡◌, ◌≤◌, ◌<◌, ◌^◌, ◌↔◌, length, slice_index, min, true, IsTrue};
+ghost use Rattle.std.specs.Prelude.{◌≡◌, ◌≤◌, ◌<◌, ◌^◌, ◌↔◌, length, slice_index, min, true, IsTrue, IfSome, IfNone};
 ghost use Rattle.std.specs.Char.{is_ascii_digit};
 ghost use Rattle.sp_lex.specs.Literals.{is_hex, number_len, digit_value, digits_value, number_value};
 
@@ -58,15 +58,23 @@ fn value_below_limit(base: u128, digits: &[u8]) -> u128
     value
 }
 
-/// Whether the number that is written so is over 2^64 - 1.
+/// The number that a token of digits is, decimal or `0x` and hexadecimal, or None where it is over 2^64 - 1.
 #[tactic(auto, unfolding(crate::specs::Literals::number_value))]
-pub(crate) fn is_too_large(text: &[u8]) -> bool
-    ensures { IsTrue result ↔ (2 ^ 64 ≤ number_value text.now) }
+pub fn number_of(text: &[u8]) -> Option<u64>
+    ensures some { IfSome result (λ value. value ≡ number_value text.now) }
+    ensures none { IfNone result (2 ^ 64 ≤ number_value text.now) }
 {
     let value = if is_hex(text) {
         value_below_limit(16, &text[2..])
     } else {
         value_below_limit(10, text)
     };
-    value == LIMIT
+    u64::try_from(value).ok()
+}
+
+/// Whether the number that is written so is over 2^64 - 1.
+pub(crate) fn is_too_large(text: &[u8]) -> bool
+    ensures { IsTrue result ↔ (2 ^ 64 ≤ number_value text.now) }
+{
+    number_of(text).is_none()
 }

@@ -14,7 +14,7 @@ use crate::elements::{Element, element_at};
 use crate::faults::own_fault;
 use crate::kinds::TokenKind;
 use crate::nesting::{Nesting, role_of};
-use crate::tokens::{ReadFault, Token, Tokens};
+use crate::tokens::{ReadFault, Token, TokenList};
 use sp_base::{MKind, Span};
 use std::alloc::Global;
 
@@ -28,7 +28,7 @@ struct Progress {
     /// Whether a `/` would divide.
     divides: bool,
     nesting: Nesting,
-    tokens: Tokens,
+    tokens: TokenList,
 }
 
 pub(crate) fn span_of(at: usize, n: usize) -> Span
@@ -118,7 +118,7 @@ impl Progress {
 }
 
 /// The tokens of a text, or its first fault.
-pub(crate) fn scan(alloc: Global, text: &[u8]) -> Result<Tokens, ReadFault>
+pub(crate) fn scan(alloc: Global, text: &[u8]) -> Result<TokenList, ReadFault>
     requires { length text.now ≤ most_bytes + 1 }
     ensures tokens { IfOk result (λ tokens. reading text.now ≡ whole tokens) }
     ensures longest { IfOk result (λ tokens. AllByRecursion (IsLongest text.now) tokens) }
@@ -133,7 +133,7 @@ pub(crate) fn scan(alloc: Global, text: &[u8]) -> Result<Tokens, ReadFault>
         at: 0,
         divides: false,
         nesting: Nesting::outermost(alloc),
-        tokens: Tokens::new(alloc),
+        tokens: TokenList::new(alloc),
     };
     while progress.at < text.len() {
         progress.step(alloc, text)?;

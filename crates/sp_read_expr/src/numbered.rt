@@ -25,7 +25,7 @@ impl Model for Numbers {
 impl Numbers {
     /// The numbers of these tokens.
     pub fn new(alloc: Global, tokens: &Tokens) -> Result<Numbers, NoMemory>
-        ensures { IfOk result (λ n. n ≡ numbers_of tokens.now) }
+        ensures { IfOk result (λ n. n ≡ numbers_of tokens.now.list) }
     {
         let mut items = Vec::new(alloc);
         for token in tokens.as_slice() {

@@ -7,7 +7,7 @@
 
 use sp_base::{Place, place_of};
 use sp_grammar::{Mark, Start};
-use sp_lex::{ReadFault, Token, Tokens, lex};
+use sp_lex::{ReadFault, Token, lex};
 use sp_read_expr::{Numbers, Parsed, read_from};
 use std::alloc::{AllocError, Global};
 use std::io;
@@ -64,7 +64,7 @@ fn read(alloc: Global, source: &[u8], start: Start, at: u32) -> Result<u32, Read
         return Ok(0);
     }
     let numbers = Numbers::new(alloc, &tokens)?;
-    let parsed = read_from(alloc, source, &tokens, &numbers, start, at)?;
+    let parsed = read_from(alloc, &tokens, &numbers, start, at)?;
     Ok(byte_at(source, tokens.as_slice(), parsed.to))
 }
 
@@ -72,7 +72,7 @@ fn read(alloc: Global, source: &[u8], start: Start, at: u32) -> Result<u32, Read
 fn parsed(alloc: Global, source: &[u8], start: Start) -> Result<Parsed, ReadFault> {
     let tokens = lex(alloc, source)?;
     let numbers = Numbers::new(alloc, &tokens)?;
-    read_from(alloc, source, &tokens, &numbers, start, 0)
+    read_from(alloc, &tokens, &numbers, start, 0)
 }
 
 /// The marks of the text's derivation by their names.

@@ -3,4 +3,4 @@ use Rattle.sp_read_expr.specs.Kinds.{numbers_of}
 use Rattle.sp_read_expr.proofs.numbered.Numbers.new.Given as goal
 
 abbrev pub invariant-loop-token : goal.invariant-loop-token
-invariant-loop-token l = l.items.items ≡ numbers_of (take l.token-index l.tokens)
+invariant-loop-token l = l.items.items ≡ numbers_of (take l.token-index l.tokens.list)
