@@ -1,9 +1,6 @@
 pub mod Effects
-pub mod GroupLaws
-pub mod OtherGroups
 pub mod Shapes
 pub mod Signatures
-pub mod StackLaws
 pub mod Standing
 pub mod Texts
 pub mod Told

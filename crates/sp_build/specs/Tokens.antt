@@ -16,7 +16,8 @@ use Rattle.sp_lex.specs.declared.kinds.Absent.TheVariants as absent
 use Rattle.sp_lex.specs.declared.kinds.TokenKind.{TokenKind}
 use Rattle.sp_lex.specs.declared.kinds.TokenKind.TheVariants as token
 use Rattle.sp_build.specs.Rules.{Leaf, always, by_name, by_string, by_bytes, by_regex, by_number, by_integer, by_event}
-use Rattle.sp_build.specs.Values.{string_value, bytes_value, regex_text, number_value}
+use Rattle.sp_lex.specs.Literals.{number_value}
+use Rattle.sp_literals.specs.Values.{string_value, bytes_value, regex_text}
 
 -- the integer type that a token is the word of
 abbrev pub integer_of : TokenKind → Option IntWord
