@@ -29,9 +29,6 @@ use Rattle.sp_ast.specs.declared.unit.HookTarget.{HookTarget}
 use Rattle.sp_ast.specs.declared.unit.HookTarget.TheVariants as target
 use Rattle.sp_ast.specs.declared.module.Decl.{Decl}
 use Rattle.sp_ast.specs.declared.module.Decl.TheVariants as decl
-use Rattle.sp_trees.specs.declared.piece.Built.{Built}
-use Rattle.sp_trees.specs.declared.piece.Built.TheVariants as built_as
-use Rattle.sp_trees.specs.Pieces.{built_view, built_group}
 
 expr_group_of_level : (l : ExprLevel) → tree_group (expr_step l) ≡ Some expressions
 expr_group_of_level (Expr-F.Expr::Path _ _) = refl
@@ -62,13 +59,13 @@ expr_group_of_level (Expr-F.SetMember _ _ _) = refl
 expr_group_of_level (Expr-F.Index _ _ _) = refl
 expr_group_of_level (Expr-F.Call _ _ _) = refl
 
-expr_group : (x : Expr) → tree_group (expr_view x) ≡ Some expressions
+pub expr_group : (x : Expr) → tree_group (expr_view x) ≡ Some expressions
 expr_group x = search (rules, expr_group_of_level, fold_out-Expr)
 
 pair_group_of_level : (l : PairLevel) → tree_group (pair_step l) ≡ Some pairs
 pair_group_of_level p = refl
 
-pair_group : (x : Pair) → tree_group (pair_view x) ≡ Some pairs
+pub pair_group : (x : Pair) → tree_group (pair_view x) ≡ Some pairs
 pair_group x = search (rules, pair_group_of_level, fold_out-Pair)
 
 type_group_of_level : (l : TypeTreeLevel) → tree_group (type_step l) ≡ Some types
@@ -86,19 +83,19 @@ type_group_of_level (TypeTree-F.Enum _ _) = refl
 type_group_of_level (TypeTree-F.Bitfield _ _ _) = refl
 type_group_of_level (TypeTree-F.TypeTree::Unit _) = refl
 
-type_group : (x : TypeTree) → tree_group (type_view x) ≡ Some types
+pub type_group : (x : TypeTree) → tree_group (type_view x) ≡ Some types
 type_group x = search (rules, type_group_of_level, fold_out-TypeTree)
 
 label_group_of_level : (l : LabelLevel) → tree_group (label_step l) ≡ Some labels
 label_group_of_level l = refl
 
-label_group : (x : Label) → tree_group (label_view x) ≡ Some labels
+pub label_group : (x : Label) → tree_group (label_view x) ≡ Some labels
 label_group x = search (rules, label_group_of_level, fold_out-Label)
 
 param_group_of_level : (l : ParamLevel) → tree_group (param_step l) ≡ Some parameters
 param_group_of_level p = refl
 
-param_group : (x : Param) → tree_group (param_view x) ≡ Some parameters
+pub param_group : (x : Param) → tree_group (param_view x) ≡ Some parameters
 param_group x = search (rules, param_group_of_level, fold_out-Param)
 
 stmt_group_of_level : (l : StmtLevel) → tree_group (stmt_step l) ≡ Some statements
@@ -122,25 +119,25 @@ stmt_group_of_level (Stmt-F.Delete _ _) = refl
 stmt_group_of_level (Stmt-F.Expr _ _) = refl
 stmt_group_of_level (Stmt-F.Assign _ _ _ _) = refl
 
-stmt_group : (x : Stmt) → tree_group (stmt_view x) ≡ Some statements
+pub stmt_group : (x : Stmt) → tree_group (stmt_view x) ≡ Some statements
 stmt_group x = search (rules, stmt_group_of_level, fold_out-Stmt)
 
 block_group_of_level : (l : BlockLevel) → tree_group (block_step l) ≡ Some blocks
 block_group_of_level b = refl
 
-block_group : (x : Block) → tree_group (block_view x) ≡ Some blocks
+pub block_group : (x : Block) → tree_group (block_view x) ≡ Some blocks
 block_group x = search (rules, block_group_of_level, fold_out-Block)
 
 branch_group_of_level : (l : BranchLevel) → tree_group (branch_step l) ≡ Some branches
 branch_group_of_level b = refl
 
-branch_group : (x : Branch) → tree_group (branch_view x) ≡ Some branches
+pub branch_group : (x : Branch) → tree_group (branch_view x) ≡ Some branches
 branch_group x = search (rules, branch_group_of_level, fold_out-Branch)
 
 case_group_of_level : (l : CaseLevel) → tree_group (case_step l) ≡ Some cases
 case_group_of_level c = refl
 
-case_group : (x : Case) → tree_group (case_view x) ≡ Some cases
+pub case_group : (x : Case) → tree_group (case_view x) ≡ Some cases
 case_group x = search (rules, case_group_of_level, fold_out-Case)
 
 item_group_of_level : (l : ItemLevel) → tree_group (item_step l) ≡ Some items
@@ -153,20 +150,20 @@ item_group_of_level (Item-F.Sink _ _) = refl
 item_group_of_level (Item-F.On _ _ _) = refl
 item_group_of_level (Item-F.Part _) = refl
 
-item_group : (x : Item) → tree_group (item_view x) ≡ Some items
+pub item_group : (x : Item) → tree_group (item_view x) ≡ Some items
 item_group x = search (rules, item_group_of_level, fold_out-Item)
 
 part_group_of_level : (l : PartLevel) → tree_group (part_step l) ≡ Some parts
 part_group_of_level (Part-F.Field _) = refl
 part_group_of_level (Part-F.Part::Switch _ _ _) = refl
 
-part_group : (x : Part) → tree_group (part_view x) ≡ Some parts
+pub part_group : (x : Part) → tree_group (part_view x) ≡ Some parts
 part_group x = search (rules, part_group_of_level, fold_out-Part)
 
 arm_group_of_level : (l : ArmLevel) → tree_group (arm_step l) ≡ Some arms
 arm_group_of_level a = refl
 
-arm_group : (x : Arm) → tree_group (arm_view x) ≡ Some arms
+pub arm_group : (x : Arm) → tree_group (arm_view x) ≡ Some arms
 arm_group x = search (rules, arm_group_of_level, fold_out-Arm)
 
 guard_group_of_level : (l : GuardLevel) → tree_group (guard_step l) ≡ Some guards
@@ -174,7 +171,7 @@ guard_group_of_level (Guard-F.Otherwise _) = refl
 guard_group_of_level (Guard-F.Values _ _) = refl
 guard_group_of_level (Guard-F.LookAhead _) = refl
 
-guard_group : (x : Guard) → tree_group (guard_view x) ≡ Some guards
+pub guard_group : (x : Guard) → tree_group (guard_view x) ≡ Some guards
 guard_group x = search (rules, guard_group_of_level, fold_out-Guard)
 
 arm_body_group_of_level : (l : ArmBodyLevel) → tree_group (arm_body_step l) ≡ Some bodies
@@ -182,7 +179,7 @@ arm_body_group_of_level (ArmBody-F.Nothing _) = refl
 arm_body_group_of_level (ArmBody-F.One _ _) = refl
 arm_body_group_of_level (ArmBody-F.Many _ _) = refl
 
-arm_body_group : (x : ArmBody) → tree_group (arm_body_view x) ≡ Some bodies
+pub arm_body_group : (x : ArmBody) → tree_group (arm_body_view x) ≡ Some bodies
 arm_body_group x = search (rules, arm_body_group_of_level, fold_out-ArmBody)
 
 base_group_of_level : (l : BaseLevel) → tree_group (base_step l) ≡ Some bases
@@ -193,50 +190,50 @@ base_group_of_level (Base-F.Base::Regex _ _) = refl
 base_group_of_level (Base-F.Base::Number _ _ _) = refl
 base_group_of_level (Base-F.Group _ _ _ _) = refl
 
-base_group : (x : Base) → tree_group (base_view x) ≡ Some bases
+pub base_group : (x : Base) → tree_group (base_view x) ≡ Some bases
 base_group x = search (rules, base_group_of_level, fold_out-Base)
 
 count_group_of_level : (l : CountLevel) → tree_group (count_step l) ≡ Some counts
 count_group_of_level c = refl
 
-count_group : (x : Count) → tree_group (count_view x) ≡ Some counts
+pub count_group : (x : Count) → tree_group (count_view x) ≡ Some counts
 count_group x = search (rules, count_group_of_level, fold_out-Count)
 
 attr_group_of_level : (l : AttrLevel) → tree_group (attr_step l) ≡ Some attributes
 attr_group_of_level a = refl
 
-attr_group : (x : Attr) → tree_group (attr_view x) ≡ Some attributes
+pub attr_group : (x : Attr) → tree_group (attr_view x) ≡ Some attributes
 attr_group x = search (rules, attr_group_of_level, fold_out-Attr)
 
 hook_group_of_level : (l : HookLevel) → tree_group (hook_step l) ≡ Some hooks
 hook_group_of_level h = refl
 
-hook_group : (x : Hook) → tree_group (hook_view x) ≡ Some hooks
+pub hook_group : (x : Hook) → tree_group (hook_view x) ≡ Some hooks
 hook_group x = search (rules, hook_group_of_level, fold_out-Hook)
 
 hook_body_group_of_level : (l : HookBodyLevel) → tree_group (hook_body_step l) ≡ Some hook_bodies
 hook_body_group_of_level h = refl
 
-hook_body_group : (x : HookBody) → tree_group (hook_body_view x) ≡ Some hook_bodies
+pub hook_body_group : (x : HookBody) → tree_group (hook_body_view x) ≡ Some hook_bodies
 hook_body_group x = search (rules, hook_body_group_of_level, fold_out-HookBody)
 
 unit_group_of_level : (l : UnitLevel) → tree_group (unit_step l) ≡ Some units
 unit_group_of_level u = refl
 
-unit_group : (x : Unit) → tree_group (unit_view x) ≡ Some units
+pub unit_group : (x : Unit) → tree_group (unit_view x) ≡ Some units
 unit_group x = search (rules, unit_group_of_level, fold_out-Unit)
 
 field_group_of_level : (l : FieldLevel) → tree_group (field_step l) ≡ Some fields
 field_group_of_level f = refl
 
-field_group : (x : Field) → tree_group (field_view x) ≡ Some fields
+pub field_group : (x : Field) → tree_group (field_view x) ≡ Some fields
 field_group x = search (rules, field_group_of_level, fold_out-Field)
 
-target_group : (x : HookTarget) → tree_group (target_view x) ≡ Some targets
+pub target_group : (x : HookTarget) → tree_group (target_view x) ≡ Some targets
 target_group (target.Name n) = refl
 target_group (target.Event e) = refl
 
-decl_group : (x : Decl) → tree_group (decl_view x) ≡ Some declarations
+pub decl_group : (x : Decl) → tree_group (decl_view x) ≡ Some declarations
 decl_group (decl.Import _ _) = refl
 decl_group (decl.ByteOrder _ _) = refl
 decl_group (decl.SpicyVersion _ _) = refl
@@ -244,35 +241,3 @@ decl_group (decl.Type _ _ _ _) = refl
 decl_group (decl.Const _ _ _ _ _) = refl
 decl_group (decl.Function _ _ _ _ _ _) = refl
 decl_group (decl.On _ _ _ _) = refl
-
-pub built_is : (b : Built) → tree_group (built_view b) ≡ Some (built_group b)
-built_is (built_as.Name x) = refl
-built_is (built_as.Text x) = refl
-built_is (built_as.Number x) = refl
-built_is (built_as.Event x) = refl
-built_is (built_as.Path x) = refl
-built_is (built_as.Range x) = refl
-built_is (built_as.Module x) = refl
-built_is (built_as.Expr x) = expr_group x
-built_is (built_as.Pair x) = pair_group x
-built_is (built_as.Type x) = type_group x
-built_is (built_as.Label x) = label_group x
-built_is (built_as.Param x) = param_group x
-built_is (built_as.Stmt x) = stmt_group x
-built_is (built_as.Block x) = block_group x
-built_is (built_as.Branch x) = branch_group x
-built_is (built_as.Case x) = case_group x
-built_is (built_as.Item x) = item_group x
-built_is (built_as.Part x) = part_group x
-built_is (built_as.Arm x) = arm_group x
-built_is (built_as.Guard x) = guard_group x
-built_is (built_as.Body x) = arm_body_group x
-built_is (built_as.Base x) = base_group x
-built_is (built_as.Count x) = count_group x
-built_is (built_as.Attr x) = attr_group x
-built_is (built_as.Hook x) = hook_group x
-built_is (built_as.HookBody x) = hook_body_group x
-built_is (built_as.Unit x) = unit_group x
-built_is (built_as.Field x) = field_group x
-built_is (built_as.Target x) = target_group x
-built_is (built_as.Decl x) = decl_group x

@@ -1,3 +1,2 @@
 pub mod GroupLaws
-pub mod OtherGroups
 pub mod StackLaws

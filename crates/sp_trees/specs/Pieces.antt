@@ -7,11 +7,10 @@ use Rattle.sp_trees.specs.declared.piece.Built.TheVariants as built_as
 use Rattle.sp_trees.specs.declared.piece.Piece.{Piece}
 use Rattle.sp_trees.specs.declared.piece.Piece.TheVariants as piece
 use Rattle.sp_trees.specs.declared.fault.Fault.{Fault}
-use Rattle.sp_trees.specs.declared.fault.Fault.TheVariants as fault
+use Rattle.sp_trees.specs.declared.stack.Stack.{Stack as Pieces}
 use Rattle.std.specs.declared.result.Result.{Result}
 use Rattle.std.specs.declared.result.Result.TheVariants as result
 use Rattle.sp_build.specs.Building.{Item, begun, built, Stack, Left, left, is_node}
-use Rattle.sp_build.specs.Groups.{Group, is_of, names, texts, numbers, events, paths, expressions, pairs, types, labels, ranges, parameters, statements, blocks, branches, cases, items, targets, parts, arms, guards, bodies, bases, counts, attributes, hooks, hook_bodies, units, fields, declarations, modules}
 
 -- the tree that is built
 abbrev pub built_view : Built → Tree
@@ -57,59 +56,15 @@ piece_item (piece.One x) = built (built_view x)
 unfoldable pub stack_of : List Piece → Stack
 stack_of pieces = reverse (map piece_item pieces)
 
--- what a rule makes of a stack, or that it makes nothing of it, or that memory ran out
+abbrev pub held : Pieces → Stack
+held s = stack_of s.pieces.items
+
+-- what a rule makes of a stack
 abbrev pub IsDone : {A : Type 0} → Result A Fault → Option Stack → Stack → Type 0
 IsDone (result.Ok x) next after = next ≡ Some after
-IsDone (result.Err fault.Misfit) next after = next ≡ None
-IsDone (result.Err fault.NoMemory) next after = Unit {0}
+IsDone (result.Err fault) next after = Unit {0}
 
--- the group of what is built
-abbrev pub built_group : Built → Group
-built_group (built_as.Name x) = names
-built_group (built_as.Text x) = texts
-built_group (built_as.Number x) = numbers
-built_group (built_as.Event x) = events
-built_group (built_as.Path x) = paths
-built_group (built_as.Expr x) = expressions
-built_group (built_as.Pair x) = pairs
-built_group (built_as.Type x) = types
-built_group (built_as.Label x) = labels
-built_group (built_as.Range x) = ranges
-built_group (built_as.Param x) = parameters
-built_group (built_as.Stmt x) = statements
-built_group (built_as.Block x) = blocks
-built_group (built_as.Branch x) = branches
-built_group (built_as.Case x) = cases
-built_group (built_as.Item x) = items
-built_group (built_as.Target x) = targets
-built_group (built_as.Part x) = parts
-built_group (built_as.Arm x) = arms
-built_group (built_as.Guard x) = guards
-built_group (built_as.Body x) = bodies
-built_group (built_as.Base x) = bases
-built_group (built_as.Count x) = counts
-built_group (built_as.Attr x) = attributes
-built_group (built_as.Hook x) = hooks
-built_group (built_as.HookBody x) = hook_bodies
-built_group (built_as.Unit x) = units
-built_group (built_as.Field x) = fields
-built_group (built_as.Decl x) = declarations
-built_group (built_as.Module x) = modules
-
--- what was taken of a stack, or that there is nothing of the kind, or that memory ran out
+-- what was taken of a stack
 abbrev pub IsTaken : {A B : Type 0} → Result A Fault → (A → B) → Option (Left B) → Stack → Type 0
 IsTaken (result.Ok x) view next after = next ≡ Some (left (view x) after)
-IsTaken (result.Err fault.Misfit) view next after = next ≡ None
-IsTaken (result.Err fault.NoMemory) view next after = Unit {0}
-
--- no tree of the group stands last
-abbrev pub EndsGroup : Group → Stack → Type 0
-EndsGroup g [] = Unit {0}
-EndsGroup g (begun n ∷ s) = Unit {0}
-EndsGroup g (built t ∷ s) = is_of g t ≡ false
-
--- no tree stands last that may stand in a row
-abbrev pub EndsAll : Stack → Type 0
-EndsAll [] = Unit {0}
-EndsAll (begun n ∷ s) = Unit {0}
-EndsAll (built t ∷ s) = is_node t ≡ false
+IsTaken (result.Err fault) view next after = Unit {0}

@@ -1,10 +1,10 @@
 // The stack of trees: what is taken from it and put on it.
-ghost use Rattle.std.specs.Prelude.{◌≡◌, ◌<◌, ℕ, List, [], ◌∷◌, map, option_map, length, IfSome, OnOk, IfOk, IfErr, IfNone, true};
-ghost use Rattle.sp_ast.specs.Trees.{Tree, in_row};
+ghost use Rattle.std.specs.Prelude.{◌≡◌, [], ◌∷◌, map, option_map, Some, OnOk, IfSome};
+ghost use Rattle.sp_ast.specs.Trees.{in_row};
 ghost use Rattle.sp_ast.specs.Views.{maybe};
-ghost use Rattle.sp_build.specs.Building.{Stack as Items, Item, begun, built, left, popped, popped_group, popped_all, opened};
-ghost use Rattle.sp_build.specs.Groups.{is_of, one, optional, rows};
-ghost use Rattle.sp_trees.specs.Pieces.{piece_item, built_view, stack_of, IsTaken, EndsGroup, EndsAll};
+ghost use Rattle.sp_build.specs.Building.{begun, built, popped, popped_group, popped_all, opened};
+ghost use Rattle.sp_build.specs.Groups.{one, optional, rows};
+ghost use Rattle.sp_trees.specs.Pieces.{piece_item, built_view, held, IsTaken};
 
 use crate::fault::Fault;
 use crate::grouped::Grouped;
@@ -19,26 +19,10 @@ pub(crate) struct Stack {
     pub(crate) pieces: Vec<Piece>,
 }
 
-/// The tree of a piece, if it is of this type.
-fn fitting<T: Grouped>(piece: Piece) -> Result<T, Piece>
-    ensures right { IfOk result (λ t. popped (one T.group) (piece_item piece ∷ []) ≡ Some (left (T.view t) [])) }
-    ensures item { IfOk result (λ t. (piece_item piece ≡ built (T.view t)) × (is_of T.group (T.view t) ≡ true)) }
-    ensures back { IfErr result (λ other. piece_item other ≡ piece_item piece) }
-    ensures wrong { IfErr result (λ _. (s : Items) → EndsGroup T.group (piece_item piece ∷ s)) }
-{
-    match piece {
-        Piece::One(built) => match T::from_built(built) {
-            Ok(tree) => Ok(tree),
-            Err(other) => Err(Piece::One(other)),
-        },
-        other => Err(other),
-    }
-}
-
 impl Stack {
     #[tactic(auto, using(crate::proofs::StackLaws::stack_none))]
     pub(crate) fn new(alloc: Global) -> Stack
-        ensures { stack_of result.pieces.items ≡ [] }
+        ensures { held result ≡ [] }
     {
         Stack {
             alloc,
@@ -48,44 +32,43 @@ impl Stack {
 
     #[tactic(auto, using(crate::proofs::StackLaws::stack_put))]
     fn put(&mut self, piece: Piece) -> Result<(), NoMemory>
-        ensures { OnOk result (stack_of self.new.pieces.items ≡ piece_item piece ∷ stack_of self.old.pieces.items) }
+        ensures { OnOk result (held self.new ≡ piece_item piece ∷ held self.old) }
     {
         self.pieces.push(piece)?;
         Ok(())
     }
 
-    #[tactic(auto, using(crate::proofs::StackLaws::stack_put, crate::proofs::StackLaws::stack_none))]
+    #[tactic(auto, using(crate::proofs::StackLaws::stack_put))]
     fn take(&mut self) -> Option<Piece>
-        ensures some { IfSome result (λ piece. stack_of self.old.pieces.items ≡ piece_item piece ∷ stack_of self.new.pieces.items) }
-        ensures none { IfNone result (stack_of self.old.pieces.items ≡ []) }
+        ensures { IfSome result (λ piece. held self.old ≡ piece_item piece ∷ held self.new) }
     {
         self.pieces.pop()
     }
 
     /// A tree began before so many tokens.
     pub(crate) fn begin(&mut self, at: u32) -> Result<(), NoMemory>
-        ensures { OnOk result (stack_of self.new.pieces.items ≡ begun at ∷ stack_of self.old.pieces.items) }
+        ensures { OnOk result (held self.new ≡ begun at ∷ held self.old) }
     {
         self.put(Piece::Begun(at))
     }
 
     /// A tree is built.
     pub(crate) fn push(&mut self, tree: Built) -> Result<(), NoMemory>
-        ensures { OnOk result (stack_of self.new.pieces.items ≡ built (built_view tree) ∷ stack_of self.old.pieces.items) }
+        ensures { OnOk result (held self.new ≡ built (built_view tree) ∷ held self.old) }
     {
         self.put(Piece::One(tree))
     }
 
     /// The last tree, which is of this type.
     pub(crate) fn one<T: Grouped>(&mut self) -> Result<T, Fault>
-        ensures { IsTaken result (λ t. T.view t) (popped (one T.group) (stack_of self.old.pieces.items)) (stack_of self.new.pieces.items) }
+        ensures { IsTaken result (λ t. T.view t) (popped (one T.group) (held self.old)) (held self.new) }
     {
         match self.take() {
-            Some(piece) => match fitting(piece) {
-                Ok(tree) => Ok(tree),
-                Err(_) => Err(Fault::Misfit),
+            Some(Piece::One(built)) => match T::from_built(built) {
+                Some(tree) => Ok(tree),
+                None => Err(Fault::Misfit),
             },
-            None => Err(Fault::Misfit),
+            _ => Err(Fault::Misfit),
         }
     }
 }
