@@ -72,7 +72,7 @@ s="-- The numbers of the kinds of tokens in the table.\nuse Rattle.std.specs.Pre
 for n,k,v in tn: s+=f"terminal_number kind.{n} = {v}\n"
 open(OUT+'/specs/Terminals.antt','w').write(s)
 cam=lambda m:''.join(x[:1].upper()+x[1:] for x in m.split('_'))
-s="// The marks of the grammar, which a script writes from tools/grammar.txt.\nghost use Rattle.std.specs.Prelude.{◌≡◌};\nghost use Rattle.sp_grammar.specs.Marks.{mark_number, mark_with};\n\n/// What is built where a derivation passes a mark. `Begin` opens a tree. A mark with the name of an alternative closes it, or\n/// makes it of one token or of the trees before it.\n#[derive(Clone, Copy, Debug)]\npub enum Mark {\n"
+s="// The marks of the grammar, which a script writes from tools/grammar.txt.\nghost use Rattle.std.specs.Prelude.{◌≡◌, IfSome, IfNone};\nghost use Rattle.sp_grammar.specs.Marks.{mark_number, mark_with};\nghost use Rattle.sp_grammar.specs.declared.marks.Mark.{Mark};\n\n/// What is built where a derivation passes a mark. `Begin` opens a tree. A mark with the name of an alternative closes it, or\n/// makes it of one token or of the trees before it.\n#[derive(Clone, Copy, Debug)]\npub enum Mark {\n"
 for m in MARKS: s+=f"    {cam(m)},\n"
 s+="}\n\nimpl Mark {\n    /// Its number in the table.\n    pub fn number(self) -> u8\n        ensures { result ≡ mark_number self }\n    {\n        match self {\n"
 for i,m in enumerate(MARKS): s+=f"            Mark::{cam(m)} => {i},\n"
@@ -82,7 +82,9 @@ s+="""];
 
 /// The mark with a number in the table, if there is one.
 pub fn mark_of(number: u8) -> Option<Mark>
-    ensures { result ≡ mark_with number }
+    ensures named { result ≡ mark_with number }
+    ensures some { IfSome result (λ m. mark_number m ≡ number) }
+    ensures none { IfNone result ((m : Mark) → ¬ (mark_number m ≡ number)) }
 {
     let place = number as usize;
     if place < MARKS.len() {

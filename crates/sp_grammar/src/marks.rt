@@ -1,6 +1,7 @@
 // The marks of the grammar, which a script writes from tools/grammar.txt.
-ghost use Rattle.std.specs.Prelude.{◌≡◌};
+ghost use Rattle.std.specs.Prelude.{◌≡◌, IfSome, IfNone};
 ghost use Rattle.sp_grammar.specs.Marks.{mark_number, mark_with};
+ghost use Rattle.sp_grammar.specs.declared.marks.Mark.{Mark};
 
 /// What is built where a derivation passes a mark. `Begin` opens a tree. A mark with the name of an alternative closes it, or
 /// makes it of one token or of the trees before it.
@@ -340,7 +341,9 @@ static MARKS: [Mark; 143] = [
 
 /// The mark with a number in the table, if there is one.
 pub fn mark_of(number: u8) -> Option<Mark>
-    ensures { result ≡ mark_with number }
+    ensures named { result ≡ mark_with number }
+    ensures some { IfSome result (λ m. mark_number m ≡ number) }
+    ensures none { IfNone result ((m : Mark) → ¬ (mark_number m ≡ number)) }
 {
     let place = number as usize;
     if place < MARKS.len() {

@@ -1,8 +1,8 @@
 -- The marks of the table by their names.
-use Rattle.std.specs.Prelude.{ℕ, ◌≡◌, List, [], ◌∷◌}
+use Rattle.std.specs.Prelude.{ℕ, ◌≡◌, List, [], ◌∷◌, Some}
 use Rattle.sp_parser.specs.declared.symbol.Event.{Event}
 use Rattle.sp_grammar.specs.declared.marks.Mark.{Mark}
-use Rattle.sp_grammar.specs.Marks.{mark_number}
+use Rattle.sp_grammar.specs.Marks.{mark_number, mark_with}
 use Rattle.sp_read_expr.specs.declared.passed.Passed.{Passed}
 
 -- the passing of a mark, as the table tells it
@@ -11,7 +11,7 @@ event_of p = record { mark = mark_number p.mark; at = p.at }
 
 -- a mark has the number
 abbrev pub IsNamed : ℕ → Type 0
-IsNamed n = (m : Mark) × (mark_number m ≡ n)
+IsNamed n = (m : Mark) × (mark_with n ≡ Some m)
 
 -- each is the passing of a mark
 abbrev pub AreNamed : List Event → Type 0

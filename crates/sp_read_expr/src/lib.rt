@@ -11,6 +11,6 @@ mod terminals;
 
 pub use laws::{derivation_is_one, longest_run_is_one, no_production_has_other_words};
 pub use numbered::Numbers;
-pub use passed::{Passed, mark_of};
+pub use passed::Passed;
 pub use read::{Parsed, read_from};
 pub use terminals::terminal_of;

@@ -1,8 +1,14 @@
-use Rattle.sp_grammar.proofs.MarkNumbers.{mark_there, no_mark}
+use Rattle.sp_grammar.proofs.MarkNumbers.{mark_there, mark_at, no_mark, no_number}
 use Rattle.sp_grammar.proofs.marks.mark_of.Goals as goal
 
-pub returns-then-place-lt143 : goal.returns-then-place-lt143
-returns-then-place-lt143 c = mark_there c.args.number _ c.if-place-lt143.true
+pub returns-then-place-lt143-clause-named : goal.returns-then-place-lt143-clause-named
+returns-then-place-lt143-clause-named c = mark_there c.args.number _ c.if-place-lt143.true
 
-pub returns-else-place-lt143 : goal.returns-else-place-lt143
-returns-else-place-lt143 c = no_mark c.args.number (c.if-place-lt143.false)
+pub returns-then-place-lt143-clause-some : goal.returns-then-place-lt143-clause-some
+returns-then-place-lt143-clause-some c = mark_at c.args.number _ c.if-place-lt143.true
+
+pub returns-else-place-lt143-clause-named : goal.returns-else-place-lt143-clause-named
+returns-else-place-lt143-clause-named c = no_mark c.args.number c.if-place-lt143.false
+
+pub returns-else-place-lt143-clause-none : goal.returns-else-place-lt143-clause-none
+returns-else-place-lt143-clause-none c = no_number c.args.number c.if-place-lt143.false
