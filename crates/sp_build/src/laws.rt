@@ -1,4 +1,4 @@
-// Every text has a tree.
+// Every text has one tree.
 ghost use Rattle.std.specs.Prelude.{◌≡◌, ℕ, List, true};
 ghost use Rattle.sp_lex.specs.declared.tokens.Token.{Token};
 ghost use Rattle.sp_parser.specs.declared.symbol.Event.{Event};
@@ -9,9 +9,18 @@ ghost use Rattle.sp_build.specs.Groups.{is_of};
 ghost use Rattle.sp_build.specs.Building.{IsBuilt};
 ghost use Rattle.sp_build.specs.Starting.{group_of};
 
+use sp_read_expr::derivation_is_one;
+
 /// The marks that the derivation of a text passes build one tree, and leave nothing else on the stack: a module builds a
 /// module, a type a type, a statement a statement and an expression an expression. So the rules of the marks find what
 /// they want at each place, whatever the text is.
 pub fn every_text_is_built()
     ensures { (start : Start) (text : List ℕ) (tokens : List Token) (m : ℕ) (events : List Event) → IsText start tokens m events → (t : Tree) × (is_of (group_of start) t ≡ true) × IsBuilt text tokens events t }
 {}
+
+/// A run of tokens has one tree at most.
+pub fn tree_is_one()
+    ensures { (start : Start) (text : List ℕ) (tokens : List Token) (m : ℕ) (first second : List Event) (t u : Tree) → IsText start tokens m first → IsText start tokens m second → IsBuilt text tokens first t → IsBuilt text tokens second u → t ≡ u }
+{
+    derivation_is_one();
+}

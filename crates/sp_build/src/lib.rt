@@ -3,4 +3,4 @@
 
 mod laws;
 
-pub use laws::every_text_is_built;
+pub use laws::{every_text_is_built, tree_is_one};
