@@ -1,0 +1,9 @@
+//! The compiler's command: it reads the named files as modules, and names the first fault of the first that is none.
+#![tactic(auto)]
+
+mod command;
+mod exits;
+mod files;
+mod words;
+
+pub use command::spicyc;
