@@ -4,6 +4,8 @@
 mod command;
 mod exits;
 mod files;
+mod laws;
 mod words;
 
 pub use command::spicyc;
+pub use laws::answer_is_one;

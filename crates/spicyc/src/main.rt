@@ -35,12 +35,6 @@ fn main(rt: HostRuntime) -> ExitCode {
     let mut modules = DirModules::new(alloc, &rt);
     let mut out = StdOut::new(rt.stdout());
     let mut err = StdOut::new(rt.stderr());
-    let status = spicyc(
-        alloc,
-        words.as_slice(),
-        &mut modules,
-        &mut out,
-        &mut err,
-    );
+    let status = spicyc(alloc, words.as_slice(), &mut modules, &mut out, &mut err);
     ExitCode::from(status)
 }

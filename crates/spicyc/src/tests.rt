@@ -7,8 +7,14 @@ use std::test::Fail;
 
 /// The files of each run, by their paths.
 const FILES: [(&str, &[u8]); 5] = [
-    ("m.spicy", b"module M;\npublic type U = unit { a: uint8; };\n"),
-    ("n.spicy", b"module N;\nfunction f(): uint8 { return 1 + 2 * 3; }\n"),
+    (
+        "m.spicy",
+        b"module M;\npublic type U = unit { a: uint8; };\n",
+    ),
+    (
+        "n.spicy",
+        b"module N;\nfunction f(): uint8 { return 1 + 2 * 3; }\n",
+    ),
     ("early.spicy", b"module M;\ntype U = unit {"),
     ("word.spicy", b"module M;\ntype U = unit { a: real; };"),
     ("token.spicy", b"module M;\n  type @"),
@@ -39,9 +45,18 @@ const RUNS: [Run; 13] = [
     run(&["m.spicy", ""], "2|spicyc: usage\n"),
     run(&["m.spicy", "-L"], "2|spicyc: usage\n"),
     run(&["early.spicy"], "3|early.spicy:2:16: M3 Unexpected\n"),
-    run(&["m.spicy", "word.spicy", "other.spicy"], "3|word.spicy:2:20: M30 OutOfProfile\n"),
-    run(&["m.spicy", "token.spicy", "early.spicy"], "3|token.spicy:2:8: M2 BadToken\n"),
-    run(&["n.spicy", "other.spicy", "early.spicy"], "3|other.spicy:0:0: M5 ModuleNotFound\n"),
+    run(
+        &["m.spicy", "word.spicy", "other.spicy"],
+        "3|word.spicy:2:20: M30 OutOfProfile\n",
+    ),
+    run(
+        &["m.spicy", "token.spicy", "early.spicy"],
+        "3|token.spicy:2:8: M2 BadToken\n",
+    ),
+    run(
+        &["n.spicy", "other.spicy", "early.spicy"],
+        "3|other.spicy:0:0: M5 ModuleNotFound\n",
+    ),
     Run {
         words: &["m.spicy", "early.spicy"],
         modules_fails: &[1],
@@ -89,13 +104,7 @@ fn answer_of(alloc: Global, files: &[(Text, ByteList)], run: &Run) -> Result<Str
     let mut modules = MemModules::new(alloc, files, run.modules_fails)?;
     let mut out = MemOut::new(alloc, &[])?;
     let mut err = MemOut::new(alloc, run.err_fails)?;
-    let status = spicyc(
-        alloc,
-        words.as_slice(),
-        &mut modules,
-        &mut out,
-        &mut err,
-    );
+    let status = spicyc(alloc, words.as_slice(), &mut modules, &mut out, &mut err);
     let mut answer = format!(in alloc; "{status}|")?;
     answer.push_str(std::str::from_utf8(out.written()).unwrap_or("?"))?;
     answer.push_str(std::str::from_utf8(err.written()).unwrap_or("?"))?;
