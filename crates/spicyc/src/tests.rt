@@ -29,34 +29,61 @@ struct Run {
     answer: &'static str,
 }
 
-const fn run(words: &'static [&'static str], answer: &'static str) -> Run {
+const RUNS: [Run; 13] = [
     Run {
-        words,
+        words: &["m.spicy"],
         modules_fails: &[],
         err_fails: &[],
-        answer,
-    }
-}
-
-const RUNS: [Run; 13] = [
-    run(&["m.spicy"], "0|"),
-    run(&["m.spicy", "n.spicy", "m.spicy"], "0|"),
-    run(&[], "2|spicyc: usage\n"),
-    run(&["m.spicy", ""], "2|spicyc: usage\n"),
-    run(&["m.spicy", "-L"], "2|spicyc: usage\n"),
-    run(&["early.spicy"], "3|early.spicy:2:16: M3 Unexpected\n"),
-    run(
-        &["m.spicy", "word.spicy", "other.spicy"],
-        "3|word.spicy:2:20: M30 OutOfProfile\n",
-    ),
-    run(
-        &["m.spicy", "token.spicy", "early.spicy"],
-        "3|token.spicy:2:8: M2 BadToken\n",
-    ),
-    run(
-        &["n.spicy", "other.spicy", "early.spicy"],
-        "3|other.spicy:0:0: M5 ModuleNotFound\n",
-    ),
+        answer: "0|",
+    },
+    Run {
+        words: &["m.spicy", "n.spicy", "m.spicy"],
+        modules_fails: &[],
+        err_fails: &[],
+        answer: "0|",
+    },
+    Run {
+        words: &[],
+        modules_fails: &[],
+        err_fails: &[],
+        answer: "2|spicyc: usage\n",
+    },
+    Run {
+        words: &["m.spicy", ""],
+        modules_fails: &[],
+        err_fails: &[],
+        answer: "2|spicyc: usage\n",
+    },
+    Run {
+        words: &["m.spicy", "-L"],
+        modules_fails: &[],
+        err_fails: &[],
+        answer: "2|spicyc: usage\n",
+    },
+    Run {
+        words: &["early.spicy"],
+        modules_fails: &[],
+        err_fails: &[],
+        answer: "3|early.spicy:2:16: M3 Unexpected\n",
+    },
+    Run {
+        words: &["m.spicy", "word.spicy", "other.spicy"],
+        modules_fails: &[],
+        err_fails: &[],
+        answer: "3|word.spicy:2:20: M30 OutOfProfile\n",
+    },
+    Run {
+        words: &["m.spicy", "token.spicy", "early.spicy"],
+        modules_fails: &[],
+        err_fails: &[],
+        answer: "3|token.spicy:2:8: M2 BadToken\n",
+    },
+    Run {
+        words: &["n.spicy", "other.spicy", "early.spicy"],
+        modules_fails: &[],
+        err_fails: &[],
+        answer: "3|other.spicy:0:0: M5 ModuleNotFound\n",
+    },
     Run {
         words: &["m.spicy", "early.spicy"],
         modules_fails: &[1],
