@@ -1,0 +1,85 @@
+-- Tokens that are all together a module's are their own longest run.
+use Rattle.std.proofs.Common.{ℕ, zero, suc, Result, Ok, Err, get_or, ◌≡◌, ◌+◌, ◌≤◌, ◌<◌, List, [], ◌∷◌, length, take, drop, ap, ◌∙◌, sym, subst, arith}
+use Rattle.std.specs.Prelude.{IfErr}
+use Rattle.std.specs.Result.{IsErrAnd}
+use Rattle.std.proofs.lemmas.List.{take_all, append-nil}
+use Rattle.sp_base.specs.declared.kinds.MKind.{MKind}
+use Rattle.sp_base.specs.declared.places.Span.{Span}
+use Rattle.sp_lex.specs.Faults.{OnDiag}
+use Rattle.sp_lex.specs.Readings.{InOrder}
+use Rattle.sp_lex.specs.declared.tokens.ReadFault.{ReadFault}
+use Rattle.sp_lex.specs.declared.tokens.ReadFault.TheVariants as fault
+use Rattle.sp_lex.specs.declared.tokens.Token.{Token}
+use Rattle.sp_parser.specs.declared.symbol.Event.{Event}
+use Rattle.sp_parser.specs.Grammar.{Derives}
+use Rattle.sp_grammar.specs.declared.language.Start.TheVariants.{Module}
+use Rattle.sp_grammar.specs.Language.{language}
+use Rattle.sp_grammar.specs.Starts.{start_number}
+use Rattle.sp_read_expr.specs.Kinds.{numbers_of}
+use Rattle.sp_read_expr.specs.Runs.{IsLongestRun, IsText, IsRead, IsRefused, refused_at, refused_with, unexpected}
+use Rattle.sp_read_expr.proofs.Longest.{numbers_length, inside_of}
+use Rattle.sp_read_expr.proofs.Unique.{one_longest, one_derivation}
+use Rattle.sp_read_unit.specs.Modules.{IsModule, IsModuleText, IsModuleRefused}
+
+-- all numbers of the tokens
+all_numbers : (tokens : List Token) → take (length tokens) (numbers_of tokens) ≡ numbers_of tokens
+all_numbers tokens = let same : length (numbers_of tokens) ≡ length tokens = numbers_length tokens in take_all (length tokens) (numbers_of tokens) (omega arith)
+
+text_of_module : (tokens : List Token) (marks : List Event) → IsModule tokens marks → IsText Module tokens (length tokens) marks
+text_of_module tokens marks d = subst (λ w. Derives language (start_number Module) w marks) (sym (all_numbers tokens)) d
+
+longest_of_module : (tokens : List Token) (marks : List Event) → IsModule tokens marks → IsLongestRun Module tokens (length tokens)
+longest_of_module tokens marks d = record {
+  within = let same : length (numbers_of tokens) ≡ length tokens = numbers_length tokens in omega arith;
+  begins = ([], marks, tt, subst (λ w. Derives language (start_number Module) w marks) (sym (append-nil (take (length tokens) (numbers_of tokens)) ∙ all_numbers tokens)) d);
+  stops = λ h. absurd (let same : length (numbers_of tokens) ≡ length tokens = numbers_length tokens in omega arith);
+}
+
+pub one_module : (tokens : List Token) (first second : List Event) → IsModule tokens first → IsModule tokens second → first ≡ second
+one_module tokens first second p q = one_derivation Module tokens (length tokens) first second (text_of_module tokens first p) (text_of_module tokens second q)
+
+-- a shorter longest run, or one that is no text, belongs to no module
+pub none_with_rest : (tokens : List Token) (m : ℕ) → IsLongestRun Module tokens m → m < length tokens → IsModuleText tokens → ⊥
+none_with_rest tokens m l less (marks, d) =
+    let same : m ≡ length tokens = one_longest Module tokens m (length tokens) l (longest_of_module tokens marks d) in
+    omega arith
+
+none_without_text : (tokens : List Token) (m : ℕ) → IsLongestRun Module tokens m → ((marks : List Event) → IsText Module tokens m marks → ⊥) → IsModuleText tokens → ⊥
+none_without_text tokens m l none (marks, d) =
+    none marks (subst (λ n. IsText Module tokens n marks) (sym (one_longest Module tokens m (length tokens) l (longest_of_module tokens marks d))) (text_of_module tokens marks d))
+
+-- what is refused as a run from the front is refused as a module
+pub module_refused : (tokens : List Token) (end : ℕ) (span : Span) (kind : MKind) → IsRefused Module tokens 0 end span kind → IsModuleRefused tokens end span kind
+module_refused tokens end span kind (m, l, none, place, why) =
+    let front : 0 + m ≡ m = omega arith in
+    (m, l, none_without_text tokens m l none, place ∙ ap (λ j. refused_at end (drop j tokens)) front, why ∙ ap (λ j. refused_with (drop j tokens)) front)
+
+pub on_refused : (tokens : List Token) (end : ℕ) (f : ReadFault) → OnDiag (λ span kind. IsRefused Module tokens 0 end span kind) f → OnDiag (λ span kind. IsModuleRefused tokens end span kind) f
+on_refused tokens end (fault.Diag span kind) is = module_refused tokens end span kind is
+on_refused tokens end fault.NoMemory is = tt
+
+-- what is left behind the place
+left_at : (tokens : List Token) (to : ℕ) (token : Token) → to < length tokens → token ≡ get_or tokens to token → drop to tokens ≡ token ∷ drop (suc to) tokens
+left_at [] to token less is = absurd (omega arith)
+left_at (t ∷ tokens) zero token less is = ap (λ u. u ∷ tokens) (sym is)
+left_at (t ∷ tokens) (suc to) token less is = left_at tokens to token (omega arith) is
+
+-- a module's text with tokens behind it is refused at the first of them
+pub left_over_refused : (tokens : List Token) (end to : ℕ) (token : Token) (marks : List Event) (f : ReadFault) → to < length tokens → token ≡ get_or tokens to token → IsRead Module tokens 0 marks to
+    → f ≡ fault.Diag token.span (unexpected token.kind) → OnDiag (λ span kind. IsModuleRefused tokens end span kind) f
+left_over_refused tokens end to token marks f less at (m, is, l, text) e =
+    let front : to ≡ m = omega arith in
+    let next : drop m tokens ≡ token ∷ drop (suc to) tokens = ap (λ j. drop j tokens) (sym front) ∙ left_at tokens to token less at in
+    subst (λ f. OnDiag (λ span kind. IsModuleRefused tokens end span kind) f) (sym e)
+    (m, l, none_with_rest tokens m l (omega arith), ap (λ ts. refused_at end ts) (sym next), ap (λ ts. refused_with ts) (sym next))
+
+-- the left over token stands in the source
+pub left_over_inside : (tokens : List Token) (end to : ℕ) (token : Token) (f : ReadFault) → to < length tokens → token ≡ get_or tokens to token → InOrder 0 tokens end
+    → f ≡ fault.Diag token.span (unexpected token.kind) → OnDiag (λ span _. span.from ≤ end) f
+left_over_inside tokens end to token f less at order e =
+    inside_of tokens end to (unexpected token.kind) f (e ∙ ap (λ ts. fault.Diag (refused_at end ts) (unexpected token.kind)) (sym (left_at tokens to token less at))) order
+
+-- what holds of a fault holds where it is passed on
+pub passed_on : {T : Type 0} (r : Result T ReadFault) (fault : ReadFault) (P : ReadFault → Type 0) → IsErrAnd r (λ e. e ≡ fault) → P fault → IfErr r P
+passed_on (Ok v) fault P is by = tt
+passed_on (Err e) fault P is by = subst (λ f. P f) (sym is) by

@@ -1,0 +1,27 @@
+-- Tokens that are the text of a module, and the refusal of those that are none.
+use Rattle.std.specs.Prelude.{ℕ, ◌≡◌, List, drop}
+use Rattle.sp_base.specs.declared.kinds.MKind.{MKind}
+use Rattle.sp_base.specs.declared.places.Span.{Span}
+use Rattle.sp_lex.specs.declared.tokens.Token.{Token}
+use Rattle.sp_parser.specs.declared.symbol.Event.{Event}
+use Rattle.sp_parser.specs.Grammar.{Derives}
+use Rattle.sp_grammar.specs.declared.language.Start.TheVariants.{Module}
+use Rattle.sp_grammar.specs.Language.{language}
+use Rattle.sp_grammar.specs.Starts.{start_number}
+use Rattle.sp_read_expr.specs.Kinds.{numbers_of}
+use Rattle.sp_read_expr.specs.Runs.{IsLongestRun, refused_at, refused_with}
+
+-- all these tokens are the text of a module, and its derivation passes these marks
+abbrev pub IsModule : List Token → List Event → Type 0
+IsModule tokens marks = Derives language (start_number Module) (numbers_of tokens) marks
+
+-- all these tokens are the text of a module
+abbrev pub IsModuleText : List Token → Type 0
+IsModuleText tokens = (marks : List Event) × IsModule tokens marks
+
+-- The tokens are no module's text, and are refused behind the longest run of them that begins one: at the next token,
+-- or at the end of the source.
+abbrev pub IsModuleRefused : List Token → ℕ → Span → MKind → Type 0
+IsModuleRefused tokens end span kind =
+    (m : ℕ) × IsLongestRun Module tokens m × (¬ IsModuleText tokens)
+    × (span ≡ refused_at end (drop m tokens)) × (kind ≡ refused_with (drop m tokens))

@@ -1,0 +1,8 @@
+//! Reading of a module from the tokens of its text.
+#![tactic(auto)]
+
+mod laws;
+mod module;
+
+pub use laws::module_is_one;
+pub use module::accept_module;

@@ -1,0 +1,5 @@
+pub mod Causing
+pub mod Endings
+pub mod Orders
+pub mod Single
+pub mod Wholes

@@ -1,0 +1,32 @@
+// How the program ends.
+use sp_base::{MKind, Place, Text};
+
+/// Why a module was refused, and where.
+#[derive(Drop)]
+pub struct Refusal {
+    pub path: Text,
+    pub place: Place,
+    pub kind: MKind,
+}
+
+/// Why a file was not read as a module.
+#[derive(Drop)]
+pub enum Unread {
+    /// It was refused.
+    Refused(Refusal),
+    /// It could not be read.
+    ModulesFault,
+    /// There was no memory.
+    NoMemory,
+}
+
+/// How the program ends.
+#[derive(Drop)]
+pub enum Exit {
+    /// The command line is faulty.
+    Usage,
+    /// All files were read as modules.
+    Done,
+    /// A file was not, and none behind it was looked at.
+    Unread(Unread),
+}

@@ -1,0 +1,149 @@
+// Whole runs over objects in memory.
+use sp_base::{ByteList, NoMemory, Text};
+use sp_io::{MemModules, MemOut};
+use sp_spicyc::spicyc;
+use std::alloc::Global;
+use std::test::Fail;
+
+/// The files of each run, by their paths.
+const FILES: [(&str, &[u8]); 5] = [
+    (
+        "m.spicy",
+        b"module M;\npublic type U = unit { a: uint8; };\n",
+    ),
+    (
+        "n.spicy",
+        b"module N;\nfunction f(): uint8 { return 1 + 2 * 3; }\n",
+    ),
+    ("early.spicy", b"module M;\ntype U = unit {"),
+    ("word.spicy", b"module M;\ntype U = unit { a: real; };"),
+    ("token.spicy", b"module M;\n  type @"),
+];
+
+/// A run: the words, the calls of the modules and of the output for messages that fail; and what it must answer: the
+/// status, the output and the messages.
+struct Run {
+    words: &'static [&'static str],
+    modules_fails: &'static [u64],
+    err_fails: &'static [u64],
+    answer: &'static str,
+}
+
+const RUNS: [Run; 13] = [
+    Run {
+        words: &["m.spicy"],
+        modules_fails: &[],
+        err_fails: &[],
+        answer: "0|",
+    },
+    Run {
+        words: &["m.spicy", "n.spicy", "m.spicy"],
+        modules_fails: &[],
+        err_fails: &[],
+        answer: "0|",
+    },
+    Run {
+        words: &[],
+        modules_fails: &[],
+        err_fails: &[],
+        answer: "2|spicyc: usage\n",
+    },
+    Run {
+        words: &["m.spicy", ""],
+        modules_fails: &[],
+        err_fails: &[],
+        answer: "2|spicyc: usage\n",
+    },
+    Run {
+        words: &["m.spicy", "-L"],
+        modules_fails: &[],
+        err_fails: &[],
+        answer: "2|spicyc: usage\n",
+    },
+    Run {
+        words: &["early.spicy"],
+        modules_fails: &[],
+        err_fails: &[],
+        answer: "3|early.spicy:2:16: M3 Unexpected\n",
+    },
+    Run {
+        words: &["m.spicy", "word.spicy", "other.spicy"],
+        modules_fails: &[],
+        err_fails: &[],
+        answer: "3|word.spicy:2:20: M30 OutOfProfile\n",
+    },
+    Run {
+        words: &["m.spicy", "token.spicy", "early.spicy"],
+        modules_fails: &[],
+        err_fails: &[],
+        answer: "3|token.spicy:2:8: M2 BadToken\n",
+    },
+    Run {
+        words: &["n.spicy", "other.spicy", "early.spicy"],
+        modules_fails: &[],
+        err_fails: &[],
+        answer: "3|other.spicy:0:0: M5 ModuleNotFound\n",
+    },
+    Run {
+        words: &["m.spicy", "early.spicy"],
+        modules_fails: &[1],
+        err_fails: &[],
+        answer: "4|spicyc: read fault\n",
+    },
+    Run {
+        words: &["early.spicy", "m.spicy"],
+        modules_fails: &[1],
+        err_fails: &[],
+        answer: "3|early.spicy:2:16: M3 Unexpected\n",
+    },
+    Run {
+        words: &["early.spicy"],
+        modules_fails: &[],
+        err_fails: &[0],
+        answer: "5|",
+    },
+    Run {
+        words: &["m.spicy"],
+        modules_fails: &[0],
+        err_fails: &[0],
+        answer: "5|",
+    },
+];
+
+fn texts(alloc: Global, words: &[&str]) -> Result<Vec<Text>, NoMemory> {
+    let mut texts = Vec::new(alloc);
+    for word in words {
+        texts.push(Text::new(alloc, word)?)?;
+    }
+    Ok(texts)
+}
+
+fn files(alloc: Global) -> Result<Vec<(Text, ByteList)>, NoMemory> {
+    let mut files = Vec::new(alloc);
+    for (path, text) in &FILES {
+        files.push((Text::new(alloc, path)?, ByteList::from_slice(alloc, text)?))?;
+    }
+    Ok(files)
+}
+
+fn answer_of(alloc: Global, files: &[(Text, ByteList)], run: &Run) -> Result<String, Fail> {
+    let words = texts(alloc, run.words)?;
+    let mut modules = MemModules::new(alloc, files, run.modules_fails)?;
+    let mut out = MemOut::new(alloc, &[])?;
+    let mut err = MemOut::new(alloc, run.err_fails)?;
+    let status = spicyc(alloc, words.as_slice(), &mut modules, &mut out, &mut err);
+    let mut answer = format!(in alloc; "{status}|")?;
+    answer.push_str(std::str::from_utf8(out.written()).unwrap_or("?"))?;
+    answer.push_str(std::str::from_utf8(err.written()).unwrap_or("?"))?;
+    Ok(answer)
+}
+
+#[test]
+fn runs(rt: HostRuntime) -> Result<(), Fail> {
+    let files = files(rt.alloc())?;
+    for run in &RUNS {
+        let answer = answer_of(rt.alloc(), files.as_slice(), run)?;
+        assert_eq!(rt; answer.as_str(), run.answer);
+    }
+    Ok(())
+}
