@@ -13,4 +13,5 @@ pub use laws::{derivation_is_one, longest_run_is_one, no_production_has_other_wo
 pub use numbered::Numbers;
 pub use passed::Passed;
 pub use read::{Parsed, read_from};
+pub use refusals::unexpected;
 pub use terminals::terminal_of;

@@ -7,8 +7,8 @@ ghost use Rattle.sp_read_expr.specs.Runs.{unexpected, refused_at, refused_with};
 use sp_base::{MKind, Span};
 use sp_lex::{ReadFault, Token, TokenKind};
 
-/// What a token is refused with where no text goes on with it.
-fn unexpected(kind: TokenKind) -> MKind
+/// What a token is refused with where no text goes on with it: M30 where it is a word out of profile, and else M3.
+pub fn unexpected(kind: TokenKind) -> MKind
     ensures { result ≡ unexpected kind }
 {
     match kind {

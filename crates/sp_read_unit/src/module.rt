@@ -5,21 +5,16 @@ ghost use Rattle.sp_lex.specs.declared.tokens.ReadFault.TheVariants as fault_is;
 ghost use Rattle.sp_read_expr.specs.Runs.{unexpected};
 ghost use Rattle.sp_read_unit.specs.Modules.{IsModuleText, IsModuleRefused};
 
-use sp_base::MKind;
 use sp_grammar::Start;
-use sp_lex::{ReadFault, Token, TokenKind, Tokens};
-use sp_read_expr::{Numbers, read_from};
+use sp_lex::{ReadFault, Token, Tokens};
+use sp_read_expr::{Numbers, read_from, unexpected};
 use std::alloc::Global;
 
 /// The refusal of a token that is left over.
 fn left_over(token: Token) -> ReadFault
     ensures { result ≡ fault_is.Diag token.span (unexpected token.kind) }
 {
-    let kind = match token.kind {
-        TokenKind::Absent(_) => MKind::OutOfProfile,
-        _ => MKind::Unexpected,
-    };
-    ReadFault::Diag(token.span, kind)
+    ReadFault::Diag(token.span, unexpected(token.kind))
 }
 
 /// Whether all tokens together are the text of a module. Where they are not, the refusal is at the first token with
