@@ -1,4 +1,5 @@
 pub mod Operators
+pub mod Words
 pub mod Trees
 pub mod Views
-pub mod Words
+pub mod Falls

@@ -1,99 +1,10 @@
 -- The trees of the grammar, apart from memory.
-use Rattle.std.specs.Prelude.{ℕ, List, [], ◌∷◌, Bool}
+use Rattle.std.specs.Prelude.{◌≡◌, ℕ, ◌+◌, List, [], ◌∷◌, refl}
+use Rattle.std.specs.Coded.{Coded}
+use base.Stored.{Gv, gnil, gnum, gcons}
+use Rattle.std.proofs.Common.{ap, arith}
 use Rattle.sp_base.specs.declared.places.Span.{Span}
-use Rattle.sp_ast.specs.declared.operators.BinaryOp.{BinaryOp}
-use Rattle.sp_ast.specs.declared.operators.UnaryOp.{UnaryOp}
-use Rattle.sp_ast.specs.declared.operators.AssignOp.{AssignOp}
-use Rattle.sp_ast.specs.declared.words.IntWord.{IntWord}
-use Rattle.sp_ast.specs.declared.words.AttributeName.{AttributeName}
-use Rattle.sp_ast.specs.declared.words.HookName.{HookName}
-
--- what an expression can be
-pub data ExprForm : Type 0 where
-  path_expr self_expr current_expr true_expr false_expr : ExprForm
-  number_expr : ℕ → ExprForm
-  string_expr bytes_expr regex_expr : List ℕ → ExprForm
-  tuple_expr vector_expr set_expr map_expr : ExprForm
-  empty_vector_expr empty_set_expr empty_map_expr : ExprForm
-  typed_number_expr : IntWord → ExprForm
-  cast_expr new_expr size_expr choice_expr member_expr set_member_expr index_expr call_expr : ExprForm
-  unary_expr : UnaryOp → ExprForm
-  binary_expr : BinaryOp → ExprForm
-
--- what a type can be
-pub data TypeForm : Type 0 where
-  path_type bool_type bytes_type string_type void_type : TypeForm
-  int_type : IntWord → TypeForm
-  tuple_type vector_type set_type map_type enum_type bitfield_type unit_type : TypeForm
-
--- what a statement can be
-pub data StmtForm : Type 0 where
-  block_stmt local_stmt if_stmt while_stmt for_stmt switch_stmt return_stmt : StmtForm
-  break_stmt continue_stmt stop_stmt confirm_stmt reject_stmt : StmtForm
-  print_stmt throw_stmt assert_stmt add_stmt delete_stmt expr_stmt : StmtForm
-  assign_stmt : AssignOp → StmtForm
-
--- what an item of a unit can be
-pub data ItemForm : Type 0 where
-  filter_item byte_order_item mime_type_item description_item variable_item sink_item on_item part_item : ItemForm
-
--- what a hook in a unit hangs on
-pub data TargetForm : Type 0 where
-  name_target : List ℕ → TargetForm
-  event_target : HookName → TargetForm
-
--- what a part of a unit can be
-pub data PartForm : Type 0 where
-  field_part switch_part : PartForm
-
--- when an arm is taken
-pub data GuardForm : Type 0 where
-  otherwise_guard values_guard look_ahead_guard : GuardForm
-
--- what an arm reads
-pub data BodyForm : Type 0 where
-  nothing_body one_body many_body : BodyForm
-
--- what a field reads
-pub data BaseForm : Type 0 where
-  type_base unit_base group_base : BaseForm
-  bytes_base regex_base : List ℕ → BaseForm
-  number_base : IntWord → BaseForm
-
--- what a declaration can be, with whether `public` stands before it
-pub data DeclForm : Type 0 where
-  import_decl byte_order_decl version_decl on_decl : DeclForm
-  type_decl const_decl function_decl : Bool → DeclForm
-
--- The alternative of the grammar that a tree is of, with what its own tokens tell: a number, a text, an operator, a word.
-pub data Form : Type 0 where
-  name text : List ℕ → Form
-  number : ℕ → Form
-  event : HookName → Form
-  path : Form
-  expr : ExprForm → Form
-  -- a key of a map and what belongs to it
-  pair : Form
-  type_tree : TypeForm → Form
-  label bits : Form
-  -- with whether `inout` stands before it
-  parameter : Bool → Form
-  stmt : StmtForm → Form
-  block branch case : Form
-  item : ItemForm → Form
-  target : TargetForm → Form
-  part : PartForm → Form
-  arm : Form
-  guard : GuardForm → Form
-  body : BodyForm → Form
-  base : BaseForm → Form
-  count unit field : Form
-  attribute : AttributeName → Form
-  hook : Form
-  -- with whether `foreach` stands before it
-  hook_body : Bool → Form
-  decl : DeclForm → Form
-  module_tree : Form
+use Rattle.sp_ast.specs.declared.forms.Form.{Form}
 
 -- A tree: the alternative that it is of, the slice of the text on which it stands, and its parts in the order of the text.
 -- A part can be left out, and a part can be several in a row.
@@ -129,3 +40,67 @@ respan span t = t
 abbrev pub span_of : Tree → Span
 span_of (node form span parts) = span
 span_of _ = record { from = 0; to = 0 }
+
+-- how many trees stand inside one
+abbrev mutual
+  pub tree_size : Tree → ℕ
+  tree_size absent = 0
+  tree_size (row ts) = trees_size ts
+  tree_size (node form span ts) = trees_size ts
+
+  pub trees_size : Trees → ℕ
+  trees_size none = 0
+  trees_size (more t ts) = tree_size t + 1 + trees_size ts
+
+-- trees as codes, by which a proof tells them apart
+abbrev pub span_code : Span → Gv
+span_code s = gcons (gnum s.from) (gnum s.to)
+
+abbrev mutual
+  pub tree_code : Coded Form → Tree → Gv
+  tree_code f absent = gnil
+  tree_code f (row ts) = gcons (gnum 0) (trees_code f ts)
+  tree_code f (node form span ts) = gcons (gnum 1) (gcons (f.code form) (gcons (span_code span) (trees_code f ts)))
+
+  pub trees_code : Coded Form → Trees → Gv
+  trees_code f none = gnil
+  trees_code f (more t ts) = gcons (tree_code f t) (trees_code f ts)
+
+abbrev head : Gv → Gv
+head (gcons a b) = a
+head _ = gnil
+
+abbrev tail : Gv → Gv
+tail (gcons a b) = b
+tail _ = gnil
+
+abbrev number : Gv → ℕ
+number (gnum n) = n
+number _ = 0
+
+abbrev span_from : ℕ → ℕ → Span
+span_from a b = record { from = a; to = b }
+
+span_inj : (x y : Span) → span_code x ≡ span_code y → x ≡ y
+span_inj x y p =
+    let a : x.from ≡ y.from = ap (λ g. number (head g)) p in let b : x.to ≡ y.to = ap (λ g. number (tail g)) p in
+    let c : span_from x.from x.to ≡ span_from y.from y.to = cc in c
+
+mutual
+  pub tree_inj : (f : Coded Form) (x y : Tree) → tree_code f x ≡ tree_code f y → x ≡ y
+  tree_inj f absent absent p = refl
+  tree_inj f (row xs) (row ys) p = ap row (trees_inj f xs ys (ap tail p))
+  tree_inj f (node a s xs) (node b t ys) p =
+      let form = f.inj a b (ap (λ g. head (tail g)) p) in
+      let span = span_inj s t (ap (λ g. head (tail (tail g))) p) in
+      let parts = trees_inj f xs ys (ap (λ g. tail (tail (tail g))) p) in cc
+  tree_inj f x y p = cc
+
+  trees_inj : (f : Coded Form) (x y : Trees) → trees_code f x ≡ trees_code f y → x ≡ y
+  trees_inj f none none p = refl
+  trees_inj f (more t xs) (more u ys) p =
+      let first = tree_inj f t u (ap head p) in let rest = trees_inj f xs ys (ap tail p) in cc
+  trees_inj f xs ys p = cc
+
+abbrev pub coded_tree : Coded Form → Coded Tree
+coded_tree f = record { code = tree_code f; inj = tree_inj f }

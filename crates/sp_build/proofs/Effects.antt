@@ -11,7 +11,8 @@ use Rattle.sp_grammar.specs.declared.terminals.Terminal.TheVariants as terminal
 use Rattle.sp_grammar.specs.Terminals.{terminal_number}
 use Rattle.sp_lex.specs.declared.kinds.TokenKind.{TokenKind}
 use Rattle.sp_read_expr.specs.Kinds.{token_number, number_of, terminal_of}
-use Rattle.sp_ast.specs.Trees.{Form, Tree, absent, row, node, tree, trees, in_row, respan, span_of}
+use Rattle.sp_ast.specs.declared.forms.Form.{Form}
+use Rattle.sp_ast.specs.Trees.{Tree, absent, row, node, tree, trees, in_row, respan, span_of}
 use Rattle.sp_build.specs.Groups.{Group, group_number, same_group, group, expressions, Sort, one, rows, is_of, are_of, fits}
 use Rattle.sp_build.specs.Rules.{Slot, part, several, Rule, begins, leaves_out, takes, gathers, closes, closes_integer, closes_attribute, encloses, joins, wraps}
 use Rattle.sp_build.specs.Tokens.{integer_of, attribute_of}

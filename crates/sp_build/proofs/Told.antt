@@ -2,7 +2,7 @@
 use Rattle.std.specs.Prelude.{ℕ, ◌≡◌, List, [], Bool, true, false, ◌==◌, Option, Some, None, option_map, refl}
 use Rattle.std.proofs.Common.{◌∙◌, ap, sym, subst, inl, inr, eq-eqb, eqb-true}
 use Rattle.std.proofs.lemmas.Bool.{or_cases}
-use Rattle.sp_ast.specs.Trees.{Form}
+use Rattle.sp_ast.specs.declared.forms.Form.{Form}
 use Rattle.sp_ast.specs.declared.words.IntWord.{IntWord}
 use Rattle.sp_ast.specs.declared.words.IntWord.TheVariants as integer
 use Rattle.sp_ast.specs.declared.words.AttributeName.{AttributeName}

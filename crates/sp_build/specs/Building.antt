@@ -1,4 +1,5 @@
 -- The tree of a text: what the marks of its derivation build, one after another, on a stack of trees.
+use Rattle.sp_ast.specs.declared.forms.Form.{Form}
 use Rattle.std.specs.Prelude.{ℕ, ◌≡◌, ◌+◌, ◌-◌, zero, suc, List, [], ◌∷◌, ◌++◌, reverse, if◌then◌else◌, Bool, true, false, Option, Some, None, option_map}
 use Rattle.std.proofs.Common.{get_or}
 use Rattle.sp_base.specs.declared.places.Span.{Span}
@@ -8,7 +9,7 @@ use Rattle.sp_lex.specs.Readings.{bytes_of}
 use Rattle.sp_parser.specs.declared.symbol.Event.{Event}
 use Rattle.sp_grammar.specs.declared.marks.Mark.{Mark}
 use Rattle.sp_grammar.specs.Marks.{mark_with}
-use Rattle.sp_ast.specs.Trees.{Form, Tree, absent, row, node, tree, in_row, respan, span_of}
+use Rattle.sp_ast.specs.Trees.{Tree, absent, row, node, tree, in_row, respan, span_of}
 use Rattle.sp_ast.specs.declared.words.IntWord.{IntWord}
 use Rattle.sp_ast.specs.declared.words.AttributeName.{AttributeName}
 use Rattle.sp_build.specs.Groups.{Group, Sort, one, is_of, fits, expressions}

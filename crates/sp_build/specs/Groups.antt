@@ -1,7 +1,8 @@
 -- The groups of alternatives that can stand in one another's place, and what may stand where a part is wanted.
+use Rattle.sp_ast.specs.declared.forms.Form.{Form}
+use Rattle.sp_ast.specs.declared.forms.Form.TheVariants as form_is
 use Rattle.std.specs.Prelude.{ℕ, Bool, true, false, ◌==◌, ◌&&◌, Option, Some, None}
-use Rattle.sp_ast.specs.Trees
-use Rattle.sp_ast.specs.Trees.{Form, Tree, Trees, node, absent, row, none, more}
+use Rattle.sp_ast.specs.Trees.{Tree, Trees, node, absent, row, none, more}
 
 -- names, words, expressions, types and so on
 pub data Group : Type 0 where
@@ -47,36 +48,36 @@ same_group g h = group_number g == group_number h
 
 -- the group of an alternative
 abbrev pub group : Form → Group
-group (Trees.name x) = names
-group (Trees.text x) = texts
-group (Trees.number x) = numbers
-group (Trees.event x) = events
-group Trees.path = paths
-group (Trees.expr form) = expressions
-group Trees.pair = pairs
-group (Trees.type_tree form) = types
-group Trees.label = labels
-group Trees.bits = ranges
-group (Trees.parameter inout) = parameters
-group (Trees.stmt form) = statements
-group Trees.block = blocks
-group Trees.branch = branches
-group Trees.case = cases
-group (Trees.item form) = items
-group (Trees.target form) = targets
-group (Trees.part form) = parts
-group Trees.arm = arms
-group (Trees.guard form) = guards
-group (Trees.body form) = bodies
-group (Trees.base form) = bases
-group Trees.count = counts
-group (Trees.attribute name) = attributes
-group Trees.hook = hooks
-group (Trees.hook_body each) = hook_bodies
-group Trees.unit = units
-group Trees.field = fields
-group (Trees.decl form) = declarations
-group Trees.module_tree = modules
+group (form_is.Name x) = names
+group (form_is.Text x) = texts
+group (form_is.Number x) = numbers
+group (form_is.Event x) = events
+group form_is.Path = paths
+group (form_is.Expr form) = expressions
+group form_is.Pair = pairs
+group (form_is.Type form) = types
+group form_is.Label = labels
+group form_is.Bits = ranges
+group (form_is.Parameter inout) = parameters
+group (form_is.Stmt form) = statements
+group form_is.Block = blocks
+group form_is.Branch = branches
+group form_is.Case = cases
+group (form_is.Item form) = items
+group (form_is.Target form) = targets
+group (form_is.Part form) = parts
+group form_is.Arm = arms
+group (form_is.Guard form) = guards
+group (form_is.Body form) = bodies
+group (form_is.Base form) = bases
+group form_is.Count = counts
+group (form_is.Attribute name) = attributes
+group form_is.Hook = hooks
+group (form_is.HookBody each) = hook_bodies
+group form_is.Unit = units
+group form_is.Field = fields
+group (form_is.Decl form) = declarations
+group form_is.Module = modules
 
 -- What may stand for a part: one of a group, one that may be left out, or any number of them in a row.
 pub data Sort : Type 0 where

@@ -1,7 +1,18 @@
 -- What each mark builds of the trees before it.
+use Rattle.sp_ast.specs.declared.forms.Form.{Form}
+use Rattle.sp_ast.specs.declared.forms.StmtForm.{StmtForm}
+use Rattle.sp_ast.specs.declared.forms.BaseForm.TheVariants as base_is
+use Rattle.sp_ast.specs.declared.forms.BodyForm.TheVariants as body_is
+use Rattle.sp_ast.specs.declared.forms.DeclForm.TheVariants as decl_is
+use Rattle.sp_ast.specs.declared.forms.ExprForm.TheVariants as expr_is
+use Rattle.sp_ast.specs.declared.forms.Form.TheVariants as form_is
+use Rattle.sp_ast.specs.declared.forms.GuardForm.TheVariants as guard_is
+use Rattle.sp_ast.specs.declared.forms.ItemForm.TheVariants as item_is
+use Rattle.sp_ast.specs.declared.forms.PartForm.TheVariants as part_is
+use Rattle.sp_ast.specs.declared.forms.StmtForm.TheVariants as stmt_is
+use Rattle.sp_ast.specs.declared.forms.TargetForm.TheVariants as target_is
+use Rattle.sp_ast.specs.declared.forms.TypeForm.TheVariants as types_is
 use Rattle.std.specs.Prelude.{ℕ, List, [], ◌∷◌, true, false}
-use Rattle.sp_ast.specs.Trees
-use Rattle.sp_ast.specs.Trees.{Form}
 use Rattle.sp_ast.specs.declared.operators.BinaryOp.{BinaryOp}
 use Rattle.sp_ast.specs.declared.operators.BinaryOp.TheVariants as binary
 use Rattle.sp_ast.specs.declared.operators.UnaryOp.{UnaryOp}
@@ -61,13 +72,13 @@ abbrev row_of : Group → Slot
 row_of g = part (rows g)
 
 abbrev operation : BinaryOp → Rule
-operation op = joins (an expressions ∷ an expressions ∷ []) (Trees.expr (Trees.binary_expr op))
+operation op = joins (an expressions ∷ an expressions ∷ []) (form_is.Expr (expr_is.Binary op))
 
 abbrev prefixed : UnaryOp → Rule
-prefixed op = closes (an expressions ∷ []) (Trees.expr (Trees.unary_expr op))
+prefixed op = closes (an expressions ∷ []) (form_is.Expr (expr_is.Unary op))
 
-abbrev word_stmt : Trees.StmtForm → Rule
-word_stmt form = closes [] (Trees.stmt form)
+abbrev word_stmt : StmtForm → Rule
+word_stmt form = closes [] (form_is.Stmt form)
 
 -- what each mark does, its parts in the order of the text
 abbrev pub rule : Mark → Rule
@@ -75,102 +86,102 @@ rule build.Begin = begins
 rule build.Absent = leaves_out
 rule build.Row = gathers
 -- names, texts, numbers
-rule build.Name = takes (by_name (λ x. Trees.name x))
-rule build.Text = takes (by_string (λ x. Trees.text x))
-rule build.Number = takes (by_number (λ n. Trees.number n))
-rule build.Event = takes (by_event (λ h. Trees.event h))
-rule build.Path = closes (several names ∷ []) Trees.path
+rule build.Name = takes (by_name (λ x. form_is.Name x))
+rule build.Text = takes (by_string (λ x. form_is.Text x))
+rule build.Number = takes (by_number (λ n. form_is.Number n))
+rule build.Event = takes (by_event (λ h. form_is.Event h))
+rule build.Path = closes (several names ∷ []) form_is.Path
 -- declarations
-rule build.ModuleDecl = closes (an names ∷ row_of declarations ∷ []) Trees.module_tree
-rule build.ImportDecl = closes (an names ∷ []) (Trees.decl Trees.import_decl)
-rule build.ByteOrderDecl = closes (an paths ∷ []) (Trees.decl Trees.byte_order_decl)
-rule build.VersionDecl = closes (an texts ∷ []) (Trees.decl Trees.version_decl)
-rule build.TypeDecl = closes (an names ∷ an types ∷ []) (Trees.decl (Trees.type_decl false))
-rule build.PublicTypeDecl = closes (an names ∷ an types ∷ []) (Trees.decl (Trees.type_decl true))
-rule build.ConstDecl = closes (an names ∷ may types ∷ an expressions ∷ []) (Trees.decl (Trees.const_decl false))
-rule build.PublicConstDecl = closes (an names ∷ may types ∷ an expressions ∷ []) (Trees.decl (Trees.const_decl true))
-rule build.FunctionDecl = closes (an names ∷ row_of parameters ∷ may types ∷ an blocks ∷ []) (Trees.decl (Trees.function_decl false))
-rule build.PublicFunctionDecl = closes (an names ∷ row_of parameters ∷ may types ∷ an blocks ∷ []) (Trees.decl (Trees.function_decl true))
-rule build.OnDecl = closes (an paths ∷ may events ∷ an hooks ∷ []) (Trees.decl Trees.on_decl)
-rule build.Hook = closes (row_of parameters ∷ an hook_bodies ∷ []) Trees.hook
-rule build.EachBody = closes (may expressions ∷ an blocks ∷ []) (Trees.hook_body true)
-rule build.HookBody = closes (may expressions ∷ an blocks ∷ []) (Trees.hook_body false)
-rule build.InoutParameter = closes (an names ∷ an types ∷ []) (Trees.parameter true)
-rule build.Parameter = closes (an names ∷ an types ∷ []) (Trees.parameter false)
+rule build.ModuleDecl = closes (an names ∷ row_of declarations ∷ []) form_is.Module
+rule build.ImportDecl = closes (an names ∷ []) (form_is.Decl decl_is.Import)
+rule build.ByteOrderDecl = closes (an paths ∷ []) (form_is.Decl decl_is.ByteOrder)
+rule build.VersionDecl = closes (an texts ∷ []) (form_is.Decl decl_is.Version)
+rule build.TypeDecl = closes (an names ∷ an types ∷ []) (form_is.Decl (decl_is.Type false))
+rule build.PublicTypeDecl = closes (an names ∷ an types ∷ []) (form_is.Decl (decl_is.Type true))
+rule build.ConstDecl = closes (an names ∷ may types ∷ an expressions ∷ []) (form_is.Decl (decl_is.Const false))
+rule build.PublicConstDecl = closes (an names ∷ may types ∷ an expressions ∷ []) (form_is.Decl (decl_is.Const true))
+rule build.FunctionDecl = closes (an names ∷ row_of parameters ∷ may types ∷ an blocks ∷ []) (form_is.Decl (decl_is.Function false))
+rule build.PublicFunctionDecl = closes (an names ∷ row_of parameters ∷ may types ∷ an blocks ∷ []) (form_is.Decl (decl_is.Function true))
+rule build.OnDecl = closes (an paths ∷ may events ∷ an hooks ∷ []) (form_is.Decl decl_is.On)
+rule build.Hook = closes (row_of parameters ∷ an hook_bodies ∷ []) form_is.Hook
+rule build.EachBody = closes (may expressions ∷ an blocks ∷ []) (form_is.HookBody true)
+rule build.HookBody = closes (may expressions ∷ an blocks ∷ []) (form_is.HookBody false)
+rule build.InoutParameter = closes (an names ∷ an types ∷ []) (form_is.Parameter true)
+rule build.Parameter = closes (an names ∷ an types ∷ []) (form_is.Parameter false)
 -- types
-rule build.PathType = wraps paths (Trees.type_tree Trees.path_type)
-rule build.IntType = takes (by_integer (λ word. Trees.type_tree (Trees.int_type word)))
-rule build.BoolType = takes (always (Trees.type_tree Trees.bool_type))
-rule build.BytesType = takes (always (Trees.type_tree Trees.bytes_type))
-rule build.StringType = takes (always (Trees.type_tree Trees.string_type))
-rule build.VoidType = takes (always (Trees.type_tree Trees.void_type))
-rule build.TupleType = closes (several types ∷ []) (Trees.type_tree Trees.tuple_type)
-rule build.VectorType = closes (an types ∷ []) (Trees.type_tree Trees.vector_type)
-rule build.SetType = closes (an types ∷ []) (Trees.type_tree Trees.set_type)
-rule build.MapType = closes (an types ∷ an types ∷ []) (Trees.type_tree Trees.map_type)
-rule build.EnumType = closes (several labels ∷ []) (Trees.type_tree Trees.enum_type)
-rule build.BitfieldType = closes (an numbers ∷ row_of ranges ∷ []) (Trees.type_tree Trees.bitfield_type)
-rule build.Unit = closes (row_of parameters ∷ row_of items ∷ []) Trees.unit
-rule build.UnitType = wraps units (Trees.type_tree Trees.unit_type)
-rule build.Label = closes (an names ∷ may expressions ∷ []) Trees.label
-rule build.Bits = closes (an names ∷ an numbers ∷ may numbers ∷ []) Trees.bits
+rule build.PathType = wraps paths (form_is.Type types_is.Path)
+rule build.IntType = takes (by_integer (λ word. form_is.Type (types_is.Int word)))
+rule build.BoolType = takes (always (form_is.Type types_is.Bool))
+rule build.BytesType = takes (always (form_is.Type types_is.Bytes))
+rule build.StringType = takes (always (form_is.Type types_is.String))
+rule build.VoidType = takes (always (form_is.Type types_is.Void))
+rule build.TupleType = closes (several types ∷ []) (form_is.Type types_is.Tuple)
+rule build.VectorType = closes (an types ∷ []) (form_is.Type types_is.Vector)
+rule build.SetType = closes (an types ∷ []) (form_is.Type types_is.Set)
+rule build.MapType = closes (an types ∷ an types ∷ []) (form_is.Type types_is.Map)
+rule build.EnumType = closes (several labels ∷ []) (form_is.Type types_is.Enum)
+rule build.BitfieldType = closes (an numbers ∷ row_of ranges ∷ []) (form_is.Type types_is.Bitfield)
+rule build.Unit = closes (row_of parameters ∷ row_of items ∷ []) form_is.Unit
+rule build.UnitType = wraps units (form_is.Type types_is.Unit)
+rule build.Label = closes (an names ∷ may expressions ∷ []) form_is.Label
+rule build.Bits = closes (an names ∷ an numbers ∷ may numbers ∷ []) form_is.Bits
 -- items, parts and fields of units
-rule build.FilterItem = closes [] (Trees.item Trees.filter_item)
-rule build.ByteOrderItem = closes (an paths ∷ []) (Trees.item Trees.byte_order_item)
-rule build.MimeTypeItem = closes (an texts ∷ []) (Trees.item Trees.mime_type_item)
-rule build.DescriptionItem = closes (an texts ∷ []) (Trees.item Trees.description_item)
-rule build.VariableItem = closes (an names ∷ an types ∷ may expressions ∷ []) (Trees.item Trees.variable_item)
-rule build.SinkItem = closes (an names ∷ []) (Trees.item Trees.sink_item)
-rule build.OnItem = closes (an targets ∷ an hooks ∷ []) (Trees.item Trees.on_item)
-rule build.NameTarget = takes (by_name (λ x. Trees.target (Trees.name_target x)))
-rule build.EventTarget = takes (by_event (λ h. Trees.target (Trees.event_target h)))
-rule build.PartItem = wraps parts (Trees.item Trees.part_item)
-rule build.SwitchPart = closes (may expressions ∷ row_of arms ∷ []) (Trees.part Trees.switch_part)
-rule build.Arm = closes (an guards ∷ an bodies ∷ []) Trees.arm
-rule build.OtherwiseGuard = takes (always (Trees.guard Trees.otherwise_guard))
-rule build.ValuesGuard = closes (several expressions ∷ []) (Trees.guard Trees.values_guard)
-rule build.LookAheadGuard = takes (always (Trees.guard Trees.look_ahead_guard))
-rule build.NothingBody = takes (always (Trees.body Trees.nothing_body))
-rule build.OneBody = closes (an parts ∷ []) (Trees.body Trees.one_body)
-rule build.ManyBody = closes (several parts ∷ []) (Trees.body Trees.many_body)
-rule build.Field = closes (may names ∷ an bases ∷ row_of counts ∷ row_of attributes ∷ may expressions ∷ may expressions ∷ row_of hook_bodies ∷ []) Trees.field
-rule build.FieldPart = wraps fields (Trees.part Trees.field_part)
-rule build.Count = closes (may expressions ∷ []) Trees.count
-rule build.Attribute = closes_attribute (may expressions ∷ []) (λ name. Trees.attribute name)
-rule build.TypeBase = wraps types (Trees.base Trees.type_base)
-rule build.UnitBase = joins (an paths ∷ row_of expressions ∷ []) (Trees.base Trees.unit_base)
-rule build.BytesBase = takes (by_bytes (λ x. Trees.base (Trees.bytes_base x)))
-rule build.RegexBase = takes (by_regex (λ x. Trees.base (Trees.regex_base x)))
-rule build.NumberBase = closes_integer (an numbers ∷ []) (λ word. Trees.base (Trees.number_base word))
-rule build.IntBase = closes_integer [] (λ word. Trees.type_tree (Trees.int_type word))
-rule build.GroupBase = closes (an bases ∷ row_of counts ∷ row_of attributes ∷ []) (Trees.base Trees.group_base)
+rule build.FilterItem = closes [] (form_is.Item item_is.Filter)
+rule build.ByteOrderItem = closes (an paths ∷ []) (form_is.Item item_is.ByteOrder)
+rule build.MimeTypeItem = closes (an texts ∷ []) (form_is.Item item_is.MimeType)
+rule build.DescriptionItem = closes (an texts ∷ []) (form_is.Item item_is.Description)
+rule build.VariableItem = closes (an names ∷ an types ∷ may expressions ∷ []) (form_is.Item item_is.Variable)
+rule build.SinkItem = closes (an names ∷ []) (form_is.Item item_is.Sink)
+rule build.OnItem = closes (an targets ∷ an hooks ∷ []) (form_is.Item item_is.On)
+rule build.NameTarget = takes (by_name (λ x. form_is.Target (target_is.Name x)))
+rule build.EventTarget = takes (by_event (λ h. form_is.Target (target_is.Event h)))
+rule build.PartItem = wraps parts (form_is.Item item_is.Part)
+rule build.SwitchPart = closes (may expressions ∷ row_of arms ∷ []) (form_is.Part part_is.Switch)
+rule build.Arm = closes (an guards ∷ an bodies ∷ []) form_is.Arm
+rule build.OtherwiseGuard = takes (always (form_is.Guard guard_is.Otherwise))
+rule build.ValuesGuard = closes (several expressions ∷ []) (form_is.Guard guard_is.Values)
+rule build.LookAheadGuard = takes (always (form_is.Guard guard_is.LookAhead))
+rule build.NothingBody = takes (always (form_is.Body body_is.Nothing))
+rule build.OneBody = closes (an parts ∷ []) (form_is.Body body_is.One)
+rule build.ManyBody = closes (several parts ∷ []) (form_is.Body body_is.Many)
+rule build.Field = closes (may names ∷ an bases ∷ row_of counts ∷ row_of attributes ∷ may expressions ∷ may expressions ∷ row_of hook_bodies ∷ []) form_is.Field
+rule build.FieldPart = wraps fields (form_is.Part part_is.Field)
+rule build.Count = closes (may expressions ∷ []) form_is.Count
+rule build.Attribute = closes_attribute (may expressions ∷ []) (λ name. form_is.Attribute name)
+rule build.TypeBase = wraps types (form_is.Base base_is.Type)
+rule build.UnitBase = joins (an paths ∷ row_of expressions ∷ []) (form_is.Base base_is.Unit)
+rule build.BytesBase = takes (by_bytes (λ x. form_is.Base (base_is.Bytes x)))
+rule build.RegexBase = takes (by_regex (λ x. form_is.Base (base_is.Regex x)))
+rule build.NumberBase = closes_integer (an numbers ∷ []) (λ word. form_is.Base (base_is.Number word))
+rule build.IntBase = closes_integer [] (λ word. form_is.Type (types_is.Int word))
+rule build.GroupBase = closes (an bases ∷ row_of counts ∷ row_of attributes ∷ []) (form_is.Base base_is.Group)
 -- statements
-rule build.Block = closes (several statements ∷ []) Trees.block
-rule build.BlockStmt = wraps blocks (Trees.stmt Trees.block_stmt)
-rule build.LocalStmt = closes (an names ∷ may types ∷ may expressions ∷ []) (Trees.stmt Trees.local_stmt)
-rule build.IfStmt = closes (row_of branches ∷ may statements ∷ []) (Trees.stmt Trees.if_stmt)
-rule build.Branch = closes (an expressions ∷ an statements ∷ []) Trees.branch
-rule build.WhileStmt = closes (an expressions ∷ an statements ∷ []) (Trees.stmt Trees.while_stmt)
-rule build.ForStmt = closes (an names ∷ an expressions ∷ an statements ∷ []) (Trees.stmt Trees.for_stmt)
-rule build.SwitchStmt = closes (an expressions ∷ row_of cases ∷ may statements ∷ []) (Trees.stmt Trees.switch_stmt)
-rule build.Case = closes (row_of expressions ∷ an statements ∷ []) Trees.case
-rule build.ReturnStmt = closes (may expressions ∷ []) (Trees.stmt Trees.return_stmt)
-rule build.BreakStmt = word_stmt Trees.break_stmt
-rule build.ContinueStmt = word_stmt Trees.continue_stmt
-rule build.StopStmt = word_stmt Trees.stop_stmt
-rule build.ConfirmStmt = word_stmt Trees.confirm_stmt
-rule build.RejectStmt = word_stmt Trees.reject_stmt
-rule build.PrintStmt = closes (several expressions ∷ []) (Trees.stmt Trees.print_stmt)
-rule build.ThrowStmt = closes (an expressions ∷ []) (Trees.stmt Trees.throw_stmt)
-rule build.AssertStmt = closes (an expressions ∷ may texts ∷ []) (Trees.stmt Trees.assert_stmt)
-rule build.AddStmt = closes (an expressions ∷ []) (Trees.stmt Trees.add_stmt)
-rule build.DeleteStmt = closes (an expressions ∷ []) (Trees.stmt Trees.delete_stmt)
-rule build.ExprStmt = closes (an expressions ∷ []) (Trees.stmt Trees.expr_stmt)
-rule build.SetStmt = closes (an expressions ∷ an expressions ∷ []) (Trees.stmt (Trees.assign_stmt assign.Set))
-rule build.AddToStmt = closes (an expressions ∷ an expressions ∷ []) (Trees.stmt (Trees.assign_stmt assign.Add))
-rule build.SubtractFromStmt = closes (an expressions ∷ an expressions ∷ []) (Trees.stmt (Trees.assign_stmt assign.Subtract))
+rule build.Block = closes (several statements ∷ []) form_is.Block
+rule build.BlockStmt = wraps blocks (form_is.Stmt stmt_is.Block)
+rule build.LocalStmt = closes (an names ∷ may types ∷ may expressions ∷ []) (form_is.Stmt stmt_is.Local)
+rule build.IfStmt = closes (row_of branches ∷ may statements ∷ []) (form_is.Stmt stmt_is.If)
+rule build.Branch = closes (an expressions ∷ an statements ∷ []) form_is.Branch
+rule build.WhileStmt = closes (an expressions ∷ an statements ∷ []) (form_is.Stmt stmt_is.While)
+rule build.ForStmt = closes (an names ∷ an expressions ∷ an statements ∷ []) (form_is.Stmt stmt_is.For)
+rule build.SwitchStmt = closes (an expressions ∷ row_of cases ∷ may statements ∷ []) (form_is.Stmt stmt_is.Switch)
+rule build.Case = closes (row_of expressions ∷ an statements ∷ []) form_is.Case
+rule build.ReturnStmt = closes (may expressions ∷ []) (form_is.Stmt stmt_is.Return)
+rule build.BreakStmt = word_stmt stmt_is.Break
+rule build.ContinueStmt = word_stmt stmt_is.Continue
+rule build.StopStmt = word_stmt stmt_is.Stop
+rule build.ConfirmStmt = word_stmt stmt_is.Confirm
+rule build.RejectStmt = word_stmt stmt_is.Reject
+rule build.PrintStmt = closes (several expressions ∷ []) (form_is.Stmt stmt_is.Print)
+rule build.ThrowStmt = closes (an expressions ∷ []) (form_is.Stmt stmt_is.Throw)
+rule build.AssertStmt = closes (an expressions ∷ may texts ∷ []) (form_is.Stmt stmt_is.Assert)
+rule build.AddStmt = closes (an expressions ∷ []) (form_is.Stmt stmt_is.Add)
+rule build.DeleteStmt = closes (an expressions ∷ []) (form_is.Stmt stmt_is.Delete)
+rule build.ExprStmt = closes (an expressions ∷ []) (form_is.Stmt stmt_is.Expr)
+rule build.SetStmt = closes (an expressions ∷ an expressions ∷ []) (form_is.Stmt (stmt_is.Assign assign.Set))
+rule build.AddToStmt = closes (an expressions ∷ an expressions ∷ []) (form_is.Stmt (stmt_is.Assign assign.Add))
+rule build.SubtractFromStmt = closes (an expressions ∷ an expressions ∷ []) (form_is.Stmt (stmt_is.Assign assign.Subtract))
 -- expressions
-rule build.Choice = joins (an expressions ∷ an expressions ∷ an expressions ∷ []) (Trees.expr Trees.choice_expr)
+rule build.Choice = joins (an expressions ∷ an expressions ∷ an expressions ∷ []) (form_is.Expr expr_is.Choice)
 rule build.Or = operation binary.Or
 rule build.And = operation binary.And
 rule build.In = operation binary.In
@@ -194,29 +205,29 @@ rule build.Remainder = operation binary.Remainder
 rule build.Not = prefixed unary.Not
 rule build.Negate = prefixed unary.Negate
 rule build.Complement = prefixed unary.Complement
-rule build.Member = joins (an expressions ∷ an names ∷ []) (Trees.expr Trees.member_expr)
-rule build.SetMember = joins (an expressions ∷ an names ∷ []) (Trees.expr Trees.set_member_expr)
-rule build.Index = joins (an expressions ∷ an expressions ∷ []) (Trees.expr Trees.index_expr)
-rule build.Call = joins (an expressions ∷ row_of expressions ∷ []) (Trees.expr Trees.call_expr)
-rule build.PathExpr = wraps paths (Trees.expr Trees.path_expr)
-rule build.SelfExpr = takes (always (Trees.expr Trees.self_expr))
-rule build.CurrentExpr = takes (always (Trees.expr Trees.current_expr))
-rule build.NumberExpr = takes (by_number (λ n. Trees.expr (Trees.number_expr n)))
-rule build.StringExpr = takes (by_string (λ x. Trees.expr (Trees.string_expr x)))
-rule build.BytesExpr = takes (by_bytes (λ x. Trees.expr (Trees.bytes_expr x)))
-rule build.RegexExpr = takes (by_regex (λ x. Trees.expr (Trees.regex_expr x)))
-rule build.TrueExpr = takes (always (Trees.expr Trees.true_expr))
-rule build.FalseExpr = takes (always (Trees.expr Trees.false_expr))
+rule build.Member = joins (an expressions ∷ an names ∷ []) (form_is.Expr expr_is.Member)
+rule build.SetMember = joins (an expressions ∷ an names ∷ []) (form_is.Expr expr_is.SetMember)
+rule build.Index = joins (an expressions ∷ an expressions ∷ []) (form_is.Expr expr_is.Index)
+rule build.Call = joins (an expressions ∷ row_of expressions ∷ []) (form_is.Expr expr_is.Call)
+rule build.PathExpr = wraps paths (form_is.Expr expr_is.Path)
+rule build.SelfExpr = takes (always (form_is.Expr expr_is.Itself))
+rule build.CurrentExpr = takes (always (form_is.Expr expr_is.Current))
+rule build.NumberExpr = takes (by_number (λ n. form_is.Expr (expr_is.Number n)))
+rule build.StringExpr = takes (by_string (λ x. form_is.Expr (expr_is.String x)))
+rule build.BytesExpr = takes (by_bytes (λ x. form_is.Expr (expr_is.Bytes x)))
+rule build.RegexExpr = takes (by_regex (λ x. form_is.Expr (expr_is.Regex x)))
+rule build.TrueExpr = takes (always (form_is.Expr expr_is.True))
+rule build.FalseExpr = takes (always (form_is.Expr expr_is.False))
 rule build.Paren = encloses
-rule build.TupleExpr = closes (several expressions ∷ []) (Trees.expr Trees.tuple_expr)
-rule build.VectorExpr = closes (several expressions ∷ []) (Trees.expr Trees.vector_expr)
-rule build.SetExpr = closes (several expressions ∷ []) (Trees.expr Trees.set_expr)
-rule build.MapExpr = closes (several pairs ∷ []) (Trees.expr Trees.map_expr)
-rule build.Pair = closes (an expressions ∷ an expressions ∷ []) Trees.pair
-rule build.EmptyVectorExpr = closes (an types ∷ []) (Trees.expr Trees.empty_vector_expr)
-rule build.EmptySetExpr = closes (an types ∷ []) (Trees.expr Trees.empty_set_expr)
-rule build.EmptyMapExpr = closes (an types ∷ an types ∷ []) (Trees.expr Trees.empty_map_expr)
-rule build.TypedNumberExpr = closes_integer (an numbers ∷ []) (λ word. Trees.expr (Trees.typed_number_expr word))
-rule build.CastExpr = closes (an types ∷ an expressions ∷ []) (Trees.expr Trees.cast_expr)
-rule build.NewExpr = closes (an paths ∷ row_of expressions ∷ []) (Trees.expr Trees.new_expr)
-rule build.SizeExpr = closes (an expressions ∷ []) (Trees.expr Trees.size_expr)
+rule build.TupleExpr = closes (several expressions ∷ []) (form_is.Expr expr_is.Tuple)
+rule build.VectorExpr = closes (several expressions ∷ []) (form_is.Expr expr_is.Vector)
+rule build.SetExpr = closes (several expressions ∷ []) (form_is.Expr expr_is.Set)
+rule build.MapExpr = closes (several pairs ∷ []) (form_is.Expr expr_is.Map)
+rule build.Pair = closes (an expressions ∷ an expressions ∷ []) form_is.Pair
+rule build.EmptyVectorExpr = closes (an types ∷ []) (form_is.Expr expr_is.EmptyVector)
+rule build.EmptySetExpr = closes (an types ∷ []) (form_is.Expr expr_is.EmptySet)
+rule build.EmptyMapExpr = closes (an types ∷ an types ∷ []) (form_is.Expr expr_is.EmptyMap)
+rule build.TypedNumberExpr = closes_integer (an numbers ∷ []) (λ word. form_is.Expr (expr_is.TypedNumber word))
+rule build.CastExpr = closes (an types ∷ an expressions ∷ []) (form_is.Expr expr_is.Cast)
+rule build.NewExpr = closes (an paths ∷ row_of expressions ∷ []) (form_is.Expr expr_is.New)
+rule build.SizeExpr = closes (an expressions ∷ []) (form_is.Expr expr_is.Size)

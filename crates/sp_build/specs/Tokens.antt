@@ -1,6 +1,6 @@
 -- What single tokens tell to the trees that are built of them.
+use Rattle.sp_ast.specs.declared.forms.Form.{Form}
 use Rattle.std.specs.Prelude.{ℕ, List, Option, Some, None, option_map}
-use Rattle.sp_ast.specs.Trees.{Form}
 use Rattle.sp_ast.specs.declared.words.IntWord.{IntWord}
 use Rattle.sp_ast.specs.declared.words.IntWord.TheVariants as integer
 use Rattle.sp_ast.specs.declared.words.AttributeName.{AttributeName}
