@@ -4,3 +4,4 @@ pub mod Signatures
 pub mod Standing
 pub mod Texts
 pub mod Told
+pub mod Rows

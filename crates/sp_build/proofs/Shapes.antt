@@ -5,8 +5,14 @@ use Rattle.sp_ast.specs.declared.words.AttributeName.TheVariants as attribute_na
 use Rattle.sp_ast.specs.declared.words.HookName.TheVariants as hook_name
 use Rattle.sp_grammar.specs.declared.terminals.Terminal.TheVariants as terminal
 use Rattle.sp_grammar.specs.Terminals.{terminal_number}
-use Rattle.sp_build.specs.Groups.{Group, same_group, group, expressions, Sort, one, optional, rows}
-use Rattle.sp_build.specs.Rules.{Leaf, always, by_name, by_string, by_bytes, by_regex, by_number, by_integer, by_event, Slot, part, several, Rule, begins, leaves_out, takes, gathers, closes, closes_integer, closes_attribute, encloses, joins, wraps}
+use Rattle.sp_build.specs.declared.groups.Group.{Group}
+use Rattle.sp_build.specs.declared.groups.Sort.{Sort}
+use Rattle.sp_build.specs.declared.groups.Group.TheVariants.{Expressions as expressions}
+use Rattle.sp_build.specs.declared.groups.Sort.TheVariants.{One as one, Optional as optional, Rows as rows}
+use Rattle.sp_build.specs.Groups.{same_group, group}
+use Rattle.sp_build.specs.declared.groups.Slot.{Slot}
+use Rattle.sp_build.specs.declared.groups.Slot.TheVariants.{Part as part, Several as several}
+use Rattle.sp_build.specs.Rules.{Leaf, always, by_name, by_string, by_bytes, by_regex, by_number, by_integer, by_event, Rule, begins, leaves_out, takes, gathers, closes, closes_integer, closes_attribute, encloses, joins, wraps}
 
 -- what stands at a place of the stack
 pub data Shape : Type 0 where

@@ -11,7 +11,9 @@ use Rattle.sp_grammar.specs.Marks.{mark_with}
 use Rattle.sp_grammar.specs.Written.{Part, all_parts}
 use Rattle.sp_grammar.specs.Language.{language}
 use Rattle.sp_grammar.proofs.Spans.{every_production}
-use Rattle.sp_build.specs.Groups.{Group, names, texts, numbers, events, paths, expressions, pairs, types, labels, ranges, parameters, statements, blocks, branches, cases, items, targets, parts, arms, bodies, bases, counts, attributes, hooks, hook_bodies, declarations, modules, one, optional, rows}
+use Rattle.sp_build.specs.declared.groups.Group.{Group}
+use Rattle.sp_build.specs.declared.groups.Group.TheVariants.{Names as names, Texts as texts, Numbers as numbers, Events as events, Paths as paths, Expressions as expressions, Pairs as pairs, Types as types, Labels as labels, Ranges as ranges, Parameters as parameters, Statements as statements, Blocks as blocks, Branches as branches, Cases as cases, Items as items, Targets as targets, Parts as parts, Arms as arms, Bodies as bodies, Bases as bases, Counts as counts, Attributes as attributes, Hooks as hooks, HookBodies as hook_bodies, Declarations as declarations, Modules as modules}
+use Rattle.sp_build.specs.declared.groups.Sort.TheVariants.{One as one, Optional as optional, Rows as rows}
 use Rattle.sp_build.specs.Rules.{rule}
 use Rattle.sp_build.proofs.Shapes.{Shape, opens, opens_at, stands, many, and_then, strip, effect}
 

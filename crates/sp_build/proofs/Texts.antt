@@ -18,7 +18,8 @@ use Rattle.sp_grammar.proofs.Spans.{reads_derived, one_production}
 use Rattle.sp_read_expr.specs.Kinds.{token_number, numbers_of}
 use Rattle.sp_read_expr.specs.Runs.{IsText}
 use Rattle.sp_ast.specs.Trees.{Tree}
-use Rattle.sp_build.specs.Groups.{is_of, one}
+use Rattle.sp_build.specs.declared.groups.Sort.TheVariants.{One as one}
+use Rattle.sp_build.specs.Groups.{is_of}
 use Rattle.sp_build.specs.Rules.{rule}
 use Rattle.sp_build.specs.Starting.{group_of}
 use Rattle.sp_build.specs.Building.{begun, built, Stack, token_of, marked, with_mark, go_on, all_done, IsBuilt}

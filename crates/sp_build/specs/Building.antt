@@ -12,8 +12,14 @@ use Rattle.sp_grammar.specs.Marks.{mark_with}
 use Rattle.sp_ast.specs.Trees.{Tree, absent, row, node, tree, in_row, respan, span_of}
 use Rattle.sp_ast.specs.declared.words.IntWord.{IntWord}
 use Rattle.sp_ast.specs.declared.words.AttributeName.{AttributeName}
-use Rattle.sp_build.specs.Groups.{Group, Sort, one, is_of, fits, expressions}
-use Rattle.sp_build.specs.Rules.{Leaf, Slot, part, several, Rule, begins, leaves_out, takes, gathers, closes, closes_integer, closes_attribute, encloses, joins, wraps, rule}
+use Rattle.sp_build.specs.declared.groups.Group.{Group}
+use Rattle.sp_build.specs.declared.groups.Sort.{Sort}
+use Rattle.sp_build.specs.declared.groups.Group.TheVariants.{Expressions as expressions}
+use Rattle.sp_build.specs.declared.groups.Sort.TheVariants.{One as one}
+use Rattle.sp_build.specs.Groups.{is_node, is_of, fits}
+use Rattle.sp_build.specs.declared.groups.Slot.{Slot}
+use Rattle.sp_build.specs.declared.groups.Slot.TheVariants.{Part as part, Several as several}
+use Rattle.sp_build.specs.Rules.{Leaf, Rule, begins, leaves_out, takes, gathers, closes, closes_integer, closes_attribute, encloses, joins, wraps, rule}
 use Rattle.sp_build.specs.Tokens.{form_of, integer_of, attribute_of}
 
 -- what stands on the stack: a tree that began before so many tokens, or one that is built
@@ -51,12 +57,6 @@ gathered g (built t ∷ s) ts = if is_of g t then gathered g s (t ∷ ts) else l
 
 abbrev pub popped_group : Group → Stack → Left (List Tree)
 popped_group g s = gathered g s []
-
--- a tree that is neither left out nor a row
-abbrev pub is_node : Tree → Bool
-is_node (node form span ts) = true
-is_node absent = false
-is_node (row ts) = false
 
 -- all trees since one began, in the order of the text; they are neither left out nor rows
 abbrev pub collected : Stack → List Tree → Left (List Tree)

@@ -1,15 +1,12 @@
 -- The groups of alternatives that can stand in one another's place, and what may stand where a part is wanted.
+use Rattle.sp_build.specs.declared.groups.Group.{Group}
+use Rattle.sp_build.specs.declared.groups.Group.TheVariants.{Names as names, Texts as texts, Numbers as numbers, Events as events, Paths as paths, Expressions as expressions, Pairs as pairs, Types as types, Labels as labels, Ranges as ranges, Parameters as parameters, Statements as statements, Blocks as blocks, Branches as branches, Cases as cases, Items as items, Targets as targets, Parts as parts, Arms as arms, Guards as guards, Bodies as bodies, Bases as bases, Counts as counts, Attributes as attributes, Hooks as hooks, HookBodies as hook_bodies, Units as units, Fields as fields, Declarations as declarations, Modules as modules}
+use Rattle.sp_build.specs.declared.groups.Sort.{Sort}
+use Rattle.sp_build.specs.declared.groups.Sort.TheVariants.{One as one, Optional as optional, Rows as rows}
 use Rattle.sp_ast.specs.declared.forms.Form.{Form}
 use Rattle.sp_ast.specs.declared.forms.Form.TheVariants as form_is
 use Rattle.std.specs.Prelude.{ℕ, Bool, true, false, ◌==◌, ◌&&◌, Option, Some, None}
 use Rattle.sp_ast.specs.Trees.{Tree, Trees, node, absent, row, none, more}
-
--- names, words, expressions, types and so on
-pub data Group : Type 0 where
-  names texts numbers events paths expressions pairs types labels ranges parameters : Group
-  statements blocks branches cases : Group
-  items targets parts arms guards bodies bases counts attributes hooks hook_bodies units fields : Group
-  declarations modules : Group
 
 abbrev pub group_number : Group → ℕ
 group_number names = 0
@@ -38,10 +35,10 @@ group_number counts = 22
 group_number attributes = 23
 group_number hooks = 24
 group_number hook_bodies = 25
-group_number declarations = 26
-group_number modules = 27
-group_number units = 28
-group_number fields = 29
+group_number declarations = 28
+group_number modules = 29
+group_number units = 26
+group_number fields = 27
 
 abbrev pub same_group : Group → Group → Bool
 same_group g h = group_number g == group_number h
@@ -79,10 +76,6 @@ group form_is.Field = fields
 group (form_is.Decl form) = declarations
 group form_is.Module = modules
 
--- What may stand for a part: one of a group, one that may be left out, or any number of them in a row.
-pub data Sort : Type 0 where
-  one optional rows : Group → Sort
-
 -- the group of a tree, unless it is left out or a row
 abbrev pub tree_group : Tree → Option Group
 tree_group (node form span ts) = Some (group form)
@@ -107,3 +100,9 @@ fits (optional g) absent = true
 fits (optional g) t = is_of g t
 fits (rows g) (row ts) = are_of g ts
 fits (rows g) t = false
+
+-- a tree that is neither left out nor a row
+abbrev pub is_node : Tree → Bool
+is_node (node form span ts) = true
+is_node absent = false
+is_node (row ts) = false

@@ -1,4 +1,6 @@
 -- What each mark builds of the trees before it.
+use Rattle.sp_build.specs.declared.groups.Slot.{Slot}
+use Rattle.sp_build.specs.declared.groups.Slot.TheVariants.{Part as part, Several as several}
 use Rattle.sp_ast.specs.declared.forms.Form.{Form}
 use Rattle.sp_ast.specs.declared.forms.StmtForm.{StmtForm}
 use Rattle.sp_ast.specs.declared.forms.BaseForm.TheVariants as base_is
@@ -23,7 +25,10 @@ use Rattle.sp_ast.specs.declared.words.AttributeName.{AttributeName}
 use Rattle.sp_ast.specs.declared.words.HookName.{HookName}
 use Rattle.sp_grammar.specs.declared.marks.Mark.{Mark}
 use Rattle.sp_grammar.specs.declared.marks.Mark.TheVariants as build
-use Rattle.sp_build.specs.Groups.{Group, names, texts, numbers, events, paths, expressions, pairs, types, labels, ranges, parameters, statements, blocks, branches, cases, items, targets, parts, arms, guards, bodies, bases, counts, attributes, hooks, hook_bodies, units, fields, declarations, modules, Sort, one, optional, rows}
+use Rattle.sp_build.specs.declared.groups.Group.{Group}
+use Rattle.sp_build.specs.declared.groups.Sort.{Sort}
+use Rattle.sp_build.specs.declared.groups.Group.TheVariants.{Names as names, Texts as texts, Numbers as numbers, Events as events, Paths as paths, Expressions as expressions, Pairs as pairs, Types as types, Labels as labels, Ranges as ranges, Parameters as parameters, Statements as statements, Blocks as blocks, Branches as branches, Cases as cases, Items as items, Targets as targets, Parts as parts, Arms as arms, Guards as guards, Bodies as bodies, Bases as bases, Counts as counts, Attributes as attributes, Hooks as hooks, HookBodies as hook_bodies, Units as units, Fields as fields, Declarations as declarations, Modules as modules}
+use Rattle.sp_build.specs.declared.groups.Sort.TheVariants.{One as one, Optional as optional, Rows as rows}
 
 -- The alternative that a token is of: always the same, or by what the token tells (its name, its text, its bytes, its
 -- regular expression, its number, its integer type, its event).
@@ -33,11 +38,6 @@ pub data Leaf : Type 0 where
   by_number : (ℕ → Form) → Leaf
   by_integer : (IntWord → Form) → Leaf
   by_event : (HookName → Form) → Leaf
-
--- a part of the tree that is built: one tree, or all trees of a group that stand there
-pub data Slot : Type 0 where
-  part : Sort → Slot
-  several : Group → Slot
 
 -- What a mark does. A tree that is closed stands on the text from the token at which it began, one that is joined from
 -- its first part; both end before the token at which the mark stands.

@@ -1,6 +1,8 @@
 //! The trees of texts, built at the marks that their derivations pass.
 #![tactic(auto)]
 
+mod groups;
 mod laws;
 
+pub use groups::{Group, Slot, Sort};
 pub use laws::{every_text_is_built, tree_is_one};
