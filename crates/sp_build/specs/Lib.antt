@@ -3,3 +3,4 @@ pub mod Rules
 pub mod Tokens
 pub mod Building
 pub mod Starting
+pub mod RuleViews

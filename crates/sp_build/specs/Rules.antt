@@ -71,10 +71,10 @@ may g = part (optional g)
 abbrev row_of : Group → Slot
 row_of g = part (rows g)
 
-abbrev operation : BinaryOp → Rule
+abbrev pub operation : BinaryOp → Rule
 operation op = joins (an expressions ∷ an expressions ∷ []) (form_is.Expr (expr_is.Binary op))
 
-abbrev prefixed : UnaryOp → Rule
+abbrev pub prefixed : UnaryOp → Rule
 prefixed op = closes (an expressions ∷ []) (form_is.Expr (expr_is.Unary op))
 
 abbrev word_stmt : StmtForm → Rule
