@@ -17,12 +17,14 @@ use Rattle.sp_build.specs.declared.groups.Group.{Group}
 use Rattle.sp_build.specs.declared.groups.Sort.{Sort}
 use Rattle.sp_build.specs.declared.groups.Group.TheVariants.{Expressions as expressions}
 use Rattle.sp_build.specs.declared.groups.Sort.TheVariants.{One as one, Rows as rows}
-use Rattle.sp_build.specs.Groups.{group_number, same_group, group, is_of, are_of, fits}
+use Rattle.sp_build.specs.Groups.{is_node, group_number, same_group, group, is_of, are_of, fits}
 use Rattle.sp_build.specs.declared.groups.Slot.{Slot}
 use Rattle.sp_build.specs.declared.groups.Slot.TheVariants.{Part as part, Several as several}
 use Rattle.sp_build.specs.Rules.{Rule, begins, leaves_out, takes, gathers, closes, closes_integer, closes_attribute, encloses, joins, wraps}
 use Rattle.sp_build.specs.Tokens.{integer_of, attribute_of}
-use Rattle.sp_build.specs.Building.{Item, begun, built, Stack, Left, left, then_do, popped, gathered, collected, opened, parts_of, popped_parts, token_of, stretch, stretch_from, push, push_if, close_with, worded, done_by}
+use Rattle.sp_build.specs.declared.stack.Item.{Item}
+use Rattle.sp_build.specs.declared.stack.Item.TheVariants.{Begun as begun, Built as built}
+use Rattle.sp_build.specs.Building.{Stack, Left, left, then_do, popped, gathered, opened, parts_of, popped_parts, token_of, stretch, stretch_from, push, push_if, close_with, worded, done_by}
 use Rattle.sp_build.proofs.Shapes.{Shape, opens, opens_at, stands, no_row, and_then, under, under_one, under_opening, under_opening_at, is_opening, under_part, under_parts, closed_under, one_of, put, opening, leaf_group, is_told, group_in, rowed, effect}
 use Rattle.sp_build.proofs.Told.{never, an_integer, an_attribute, IsEvenRule, IsKind, told}
 use Rattle.sp_build.proofs.Standing.{is_shaped, Stands, bottom, above, no_more, one_more, some_equal, not_some, then_some, if_some, one_above, Front, no_tree, a_tree, under_front}
@@ -66,13 +68,13 @@ opening_at_under k e (no_more st) = not_some e
 opening_at_under k e (one_more q st) = not_some e
 
 -- the trees of a group down to where a tree begins
-gathered_front : {g : Group} {s r : Stack} (p : ℕ) → Front g s (begun p ∷ r) → (acc : List Tree) → (ts : List Tree) × (gathered g s acc ≡ left ts (begun p ∷ r))
+gathered_front : {g : Group} {s r : Stack} (p : ℕ) → Front g s (begun p ∷ r) → (acc : List Tree) → (ts : List Tree) × (gathered (is_of g) s acc ≡ left ts (begun p ∷ r))
 gathered_front p no_tree acc = (acc, refl)
 gathered_front {g = g} {r = r} p (a_tree {t = t} {s = s} q f) acc =
     let h = gathered_front p f (t ∷ acc) in
-    (h.0, subst (λ c. (if c then gathered g s (t ∷ acc) else left acc (built t ∷ s)) ≡ left h.0 (begun p ∷ r)) (sym q) h.1)
+    (h.0, subst (λ c. (if c then gathered (is_of g) s (t ∷ acc) else left acc (built t ∷ s)) ≡ left h.0 (begun p ∷ r)) (sym q) h.1)
 
-collected_front : {g : Group} {s r : Stack} (p : ℕ) → Front g s (begun p ∷ r) → (acc : List Tree) → are_of g (trees acc) ≡ true → (ts : List Tree) × (collected s acc ≡ left ts (begun p ∷ r)) × (are_of g (trees ts) ≡ true)
+collected_front : {g : Group} {s r : Stack} (p : ℕ) → Front g s (begun p ∷ r) → (acc : List Tree) → are_of g (trees acc) ≡ true → (ts : List Tree) × (gathered is_node s acc ≡ left ts (begun p ∷ r)) × (are_of g (trees ts) ≡ true)
 collected_front p no_tree acc a = (acc, refl, a)
 collected_front {g = g} p (a_tree {t = node form span parts} q f) acc a = collected_front p f (node form span parts ∷ acc) (and_from (is_of g (node form span parts)) (are_of g (trees acc)) q a)
 collected_front p (a_tree {t = absent} q f) acc a = never q
@@ -95,7 +97,7 @@ one_part sort slots acc t {m = m} found e q h =
     let go = λ (t : Tree) (rest : Stack). parts_of slots (t ∷ acc) rest in
     ap (λ z. then_do (popped sort z) go) e ∙ (ap (λ o. then_do o go) (popped_fits sort t m q) ∙ h)
 
-all_parts : (g : Group) (slots : List Slot) (acc ts : List Tree) (s : Stack) {m : Stack} (found : Left (List Tree)) → gathered g s [] ≡ left ts m → parts_of slots (ts ++ acc) m ≡ Some found → parts_of (several g ∷ slots) acc s ≡ Some found
+all_parts : (g : Group) (slots : List Slot) (acc ts : List Tree) (s : Stack) {m : Stack} (found : Left (List Tree)) → gathered (is_of g) s [] ≡ left ts m → parts_of slots (ts ++ acc) m ≡ Some found → parts_of (several g ∷ slots) acc s ≡ Some found
 all_parts g slots acc ts s found e h = ap (λ (z : Left (List Tree)). parts_of slots (z.value ++ acc) z.rest) e ∙ h
 
 -- the parts for the slots are found

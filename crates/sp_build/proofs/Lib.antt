@@ -5,3 +5,4 @@ pub mod Standing
 pub mod Texts
 pub mod Told
 pub mod Rows
+pub mod Stacks

@@ -22,7 +22,8 @@ use Rattle.sp_build.specs.declared.groups.Sort.TheVariants.{One as one}
 use Rattle.sp_build.specs.Groups.{is_of}
 use Rattle.sp_build.specs.Rules.{rule}
 use Rattle.sp_build.specs.Starting.{group_of}
-use Rattle.sp_build.specs.Building.{begun, built, Stack, token_of, marked, with_mark, go_on, all_done, IsBuilt}
+use Rattle.sp_build.specs.declared.stack.Item.TheVariants.{Begun as begun, Built as built}
+use Rattle.sp_build.specs.Building.{Stack, token_of, marked, with_mark, go_on, all_done, IsBuilt}
 use Rattle.sp_build.proofs.Shapes.{Shape, stands, strip}
 use Rattle.sp_build.proofs.Signatures.{signature_at, next_kind, passed, run, is_used_up, keeps_signature, signatures_kept}
 use Rattle.sp_build.proofs.Standing.{Stands, bottom, above, append_stands, strip_stands, some_equal, not_some, then_some}

@@ -1,4 +1,6 @@
 -- The tree of a text: what the marks of its derivation build, one after another, on a stack of trees.
+use Rattle.sp_build.specs.declared.stack.Item.{Item}
+use Rattle.sp_build.specs.declared.stack.Item.TheVariants.{Begun as begun, Built as built}
 use Rattle.sp_ast.specs.declared.forms.Form.{Form}
 use Rattle.std.specs.Prelude.{ℕ, ◌≡◌, ◌+◌, ◌-◌, zero, suc, List, [], ◌∷◌, ◌++◌, reverse, if◌then◌else◌, Bool, true, false, Option, Some, None, option_map}
 use Rattle.std.proofs.Common.{get_or}
@@ -22,11 +24,6 @@ use Rattle.sp_build.specs.declared.groups.Slot.TheVariants.{Part as part, Severa
 use Rattle.sp_build.specs.Rules.{Leaf, Rule, begins, leaves_out, takes, gathers, closes, closes_integer, closes_attribute, encloses, joins, wraps, rule}
 use Rattle.sp_build.specs.Tokens.{form_of, integer_of, attribute_of}
 
--- what stands on the stack: a tree that began before so many tokens, or one that is built
-pub data Item : Type 0 where
-  begun : ℕ → Item
-  built : Tree → Item
-
 -- the last item first
 abbrev pub Stack : Type 0
 Stack = List Item
@@ -49,23 +46,19 @@ abbrev pub popped : Sort → Stack → Option (Left Tree)
 popped sort (built t ∷ s) = if fits sort t then Some (left t s) else None
 popped sort _ = None
 
--- the trees of a group that stand last, in the order of the text
-abbrev pub gathered : Group → Stack → List Tree → Left (List Tree)
-gathered g [] ts = left ts []
-gathered g (begun p ∷ s) ts = left ts (begun p ∷ s)
-gathered g (built t ∷ s) ts = if is_of g t then gathered g s (t ∷ ts) else left ts (built t ∷ s)
+-- the trees that pass a test and stand last, in the order of the text, before those that are found
+abbrev pub gathered : (Tree → Bool) → Stack → List Tree → Left (List Tree)
+gathered wanted [] ts = left ts []
+gathered wanted (begun p ∷ s) ts = left ts (begun p ∷ s)
+gathered wanted (built t ∷ s) ts = if wanted t then gathered wanted s (t ∷ ts) else left ts (built t ∷ s)
 
+-- the trees of a group that stand last
 abbrev pub popped_group : Group → Stack → Left (List Tree)
-popped_group g s = gathered g s []
+popped_group g s = gathered (is_of g) s []
 
--- all trees since one began, in the order of the text; they are neither left out nor rows
-abbrev pub collected : Stack → List Tree → Left (List Tree)
-collected [] ts = left ts []
-collected (begun p ∷ s) ts = left ts (begun p ∷ s)
-collected (built t ∷ s) ts = if is_node t then collected s (t ∷ ts) else left ts (built t ∷ s)
-
+-- all trees since one began, of which none is left out or a row
 abbrev pub popped_all : Stack → Left (List Tree)
-popped_all s = collected s []
+popped_all s = gathered is_node s []
 
 -- the place where the last tree began
 abbrev pub opened : Stack → Option (Left ℕ)

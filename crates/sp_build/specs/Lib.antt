@@ -4,3 +4,4 @@ pub mod Tokens
 pub mod Building
 pub mod Starting
 pub mod RuleViews
+pub mod Popping
