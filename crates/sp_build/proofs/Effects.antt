@@ -97,8 +97,8 @@ one_part sort slots acc t {m = m} found e q h =
     let go = λ (t : Tree) (rest : Stack). parts_of slots (t ∷ acc) rest in
     ap (λ z. then_do (popped sort z) go) e ∙ (ap (λ o. then_do o go) (popped_fits sort t m q) ∙ h)
 
-all_parts : (g : Group) (slots : List Slot) (acc ts : List Tree) (s : Stack) {m : Stack} (found : Left (List Tree)) → gathered (is_of g) s [] ≡ left ts m → parts_of slots (ts ++ acc) m ≡ Some found → parts_of (several g ∷ slots) acc s ≡ Some found
-all_parts g slots acc ts s found e h = ap (λ (z : Left (List Tree)). parts_of slots (z.value ++ acc) z.rest) e ∙ h
+all_parts : (g : Group) (slots : List Slot) (acc ts : List Tree) (s : Stack) {m : Stack} (found : Left (List Tree)) → gathered (is_of g) s acc ≡ left ts m → parts_of slots ts m ≡ Some found → parts_of (several g ∷ slots) acc s ≡ Some found
+all_parts g slots acc ts s found e h = ap (λ (z : Left (List Tree)). parts_of slots z.value z.rest) e ∙ h
 
 -- the parts for the slots are found
 parts_there : {tokens : List Token} (slots : List Slot) {xs ys : List Shape} {s b : Stack} → under_parts slots xs ≡ Some ys → Stands tokens xs s b → (acc : List Tree) → (ts : List Tree) × (m : Stack) × (parts_of slots acc s ≡ Some (left ts m)) × Stands tokens ys m b
@@ -113,8 +113,8 @@ parts_there {tokens = tokens} (several g ∷ slots) {xs = xs} {ys = ys} {s = s} 
     let c = if_some (is_opening (under g xs)) (Some (under g xs)) a.0 a.1 in
     let f = under_front g st in
     let o = opening_there c.0 f.2 in
-    let found = gathered_front o.0 (subst (λ z. Front g s z) o.2 f.1) [] in
-    let h = parts_there slots a.2 (subst (λ z. Stands tokens a.0 z b) o.2 (subst (λ zs. Stands tokens zs f.0 b) (some_equal c.1) f.2)) (found.0 ++ acc) in
+    let found = gathered_front o.0 (subst (λ z. Front g s z) o.2 f.1) acc in
+    let h = parts_there slots a.2 (subst (λ z. Stands tokens a.0 z b) o.2 (subst (λ zs. Stands tokens zs f.0 b) (some_equal c.1) f.2)) found.0 in
     (h.0, h.1, all_parts g slots acc found.0 s (left h.0 h.1) found.1 h.2, h.3)
 
 -- a stack of these shapes is made

@@ -5,6 +5,7 @@ use Rattle.sp_ast.specs.declared.forms.Form.{Form}
 use Rattle.std.specs.Prelude.{ℕ, ◌≡◌, ◌+◌, ◌-◌, zero, suc, List, [], ◌∷◌, ◌++◌, reverse, if◌then◌else◌, Bool, true, false, Option, Some, None, option_map}
 use Rattle.std.proofs.Common.{get_or}
 use Rattle.sp_base.specs.declared.places.Span.{Span}
+use Rattle.sp_lex.specs.declared.kinds.Mark.TheVariants as mark
 use Rattle.sp_lex.specs.declared.kinds.TokenKind.TheVariants as kind
 use Rattle.sp_lex.specs.declared.tokens.Token.{Token}
 use Rattle.sp_lex.specs.Readings.{bytes_of}
@@ -52,10 +53,6 @@ gathered wanted [] ts = left ts []
 gathered wanted (begun p ∷ s) ts = left ts (begun p ∷ s)
 gathered wanted (built t ∷ s) ts = if wanted t then gathered wanted s (t ∷ ts) else left ts (built t ∷ s)
 
--- the trees of a group that stand last
-abbrev pub popped_group : Group → Stack → Left (List Tree)
-popped_group g s = gathered (is_of g) s []
-
 -- all trees since one began, of which none is left out or a row
 abbrev pub popped_all : Stack → Left (List Tree)
 popped_all s = gathered is_node s []
@@ -69,13 +66,13 @@ opened _ = None
 abbrev pub parts_of : List Slot → List Tree → Stack → Option (Left (List Tree))
 parts_of [] ts s = Some (left ts s)
 parts_of (part sort ∷ slots) ts s = then_do (popped sort s) (λ t rest. parts_of slots (t ∷ ts) rest)
-parts_of (several g ∷ slots) ts s = let found = popped_group g s in parts_of slots (found.value ++ ts) found.rest
+parts_of (several g ∷ slots) ts s = let found = gathered (is_of g) s ts in parts_of slots found.value found.rest
 
 abbrev pub popped_parts : List Slot → Stack → Option (Left (List Tree))
 popped_parts slots s = parts_of (reverse slots) [] s
 
 abbrev pub no_token : Token
-no_token = record { kind = kind.Id; span = record { from = 0; to = 0 } }
+no_token = record { kind = kind.Mark mark.Semicolon; span = record { from = 0; to = 0 } }
 
 -- the token before which so many stand
 abbrev pub token_of : List Token → ℕ → Token

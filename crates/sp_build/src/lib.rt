@@ -5,6 +5,7 @@ mod groups;
 mod laws;
 mod rules;
 mod stack;
+mod tokens;
 
 pub use groups::{Group, Slot, Sort};
 pub use laws::{every_text_is_built, tree_is_one};
