@@ -28,9 +28,7 @@ pub enum Form {
     /// `a: 0;`, `a: 0..3;` in a bitfield: the name, the first bit, and the last if there is one.
     Bits,
     /// `x: T`, with whether `inout` stands before it: the name and the type.
-    Parameter {
-        inout: bool,
-    },
+    Parameter { inout: bool },
     /// A statement.
     Stmt(StmtForm),
     /// Statements in braces.
@@ -60,9 +58,7 @@ pub enum Form {
     /// A hook: the parameters in a row, and the body.
     Hook,
     /// What a hook does, with whether `foreach` stands before it: the priority, if there is one, and the block.
-    HookBody {
-        each: bool,
-    },
+    HookBody { each: bool },
     /// `unit (..) { .. }`: the parameters in a row, and the items in a row.
     Unit,
     /// A field: the name, if there is one, the base, the counts in a row, the attributes in a row, the condition and the
@@ -297,15 +293,9 @@ pub enum DeclForm {
     /// `on U::field { .. }`, `on M::U::%init { .. }`: the path, the event, if there is one, and the hook.
     On,
     /// `type T = ..;`: the name and the type.
-    Type {
-        public: bool,
-    },
+    Type { public: bool },
     /// `const C: T = e;`: the name, the type, if there is one, and the value.
-    Const {
-        public: bool,
-    },
+    Const { public: bool },
     /// `function f(x: T): U { .. }`: the name, the parameters in a row, the type, if there is one, and the block.
-    Function {
-        public: bool,
-    },
+    Function { public: bool },
 }

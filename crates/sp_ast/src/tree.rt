@@ -48,3 +48,53 @@ impl Model for Tree {
 
     ghost size_decreases = { λ t h. Prim.omega (arith, deep-Node-le t.node) };
 }
+
+impl Tree {
+    ghost use Rattle.std.specs.Prelude.{◌≡◌};
+    ghost use Rattle.sp_ast.specs.Trees.{absent, in_row, tree, respan, span_of};
+
+    /// A part that is left out.
+    pub fn absent() -> Tree
+        ensures { result ≡ absent }
+    {
+        Tree { node: Node::Absent }
+    }
+
+    /// Parts in a row.
+    pub fn row(parts: Vec<Tree>) -> Tree
+        ensures { result ≡ in_row parts.items }
+    {
+        Tree {
+            node: Node::Row(parts),
+        }
+    }
+
+    /// The tree of an alternative with these parts, on this slice of the text.
+    pub fn of(form: Form, span: Span, parts: Vec<Tree>) -> Tree
+        ensures { result ≡ tree form span parts.items }
+    {
+        Tree {
+            node: Node::Of { form, span, parts },
+        }
+    }
+
+    /// The same tree on another slice of the text, as where parentheses stand round it.
+    pub fn with_span(self, span: Span) -> Tree
+        ensures { result ≡ respan span self }
+    {
+        match self.node {
+            Node::Of { form, parts, .. } => Tree::of(form, span, parts),
+            node => Tree { node },
+        }
+    }
+
+    /// The slice of the text on which it stands; of a part that is left out, and of a row, an empty one at its start.
+    pub fn span(&self) -> Span
+        ensures { result ≡ span_of self.now }
+    {
+        match &self.node {
+            Node::Of { span, .. } => *span,
+            Node::Absent | Node::Row(_) => Span { from: 0, to: 0 },
+        }
+    }
+}

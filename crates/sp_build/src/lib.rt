@@ -1,6 +1,7 @@
 //! The trees of texts, built at the marks that their derivations pass.
 #![tactic(auto)]
 
+mod build;
 mod groups;
 mod laws;
 mod rules;

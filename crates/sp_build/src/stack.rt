@@ -12,7 +12,7 @@ use sp_base::NoMemory;
 #[derive(Drop)]
 pub enum Item {
     /// A tree that began before so many tokens.
-    Begun(u32),
+    Begun(usize),
     /// A tree that is built.
     Built(Tree),
 }
@@ -68,7 +68,7 @@ pub(crate) fn popped(stack: &mut Vec<Item>, sort: Sort) -> Option<Tree>
 }
 
 /// Takes the place where the last tree began.
-pub(crate) fn opened(stack: &mut Vec<Item>) -> Option<u32>
+pub(crate) fn opened(stack: &mut Vec<Item>) -> Option<usize>
     ensures { IsTaken result (opened (reverse stack.old.items)) (reverse stack.new.items) }
 {
     match take(stack) {
