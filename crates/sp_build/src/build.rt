@@ -1,9 +1,9 @@
 // What the rules of the marks do on the stack.
-ghost use Rattle.std.specs.Prelude.{◌≡◌, ◌≤◌, ◌∷◌, [], reverse, length, drop, option_map, IfOk};
-ghost use Rattle.sp_build.specs.Building.{popped_parts, token_of, leaf, done_by, marked};
+ghost use Rattle.std.specs.Prelude.{◌≡◌, ◌≤◌, [], reverse, length, drop, option_map, IfOk};
+ghost use Rattle.sp_build.specs.Building.{popped_parts, token_of, stretch_from, leaf, done_by, marked};
 ghost use Rattle.sp_build.specs.Popping.{IsTaken, IsStep, IsFilled, IsClosed};
 ghost use Rattle.sp_build.specs.RuleViews.{leaf_view, rule_view, worded_form};
-ghost use Rattle.sp_build.specs.Rules.{gathers, closes, closes_integer, closes_attribute, encloses, joins, wraps, takes};
+ghost use Rattle.sp_build.specs.Rules.{gathers, closes, closes_integer, closes_attribute, encloses, joins, wraps};
 ghost use Rattle.sp_ast.specs.declared.forms.Form.TheVariants as form_is;
 
 use crate::groups::{Group, Slot, Sort};
@@ -96,4 +96,220 @@ fn leaf_tree(
             _ => Ok(None),
         }
     }
+}
+
+/// The alternative that is built by an integer type.
+fn worded_form(worded: Worded, word: IntWord) -> Form
+    ensures { result ≡ worded_form worded word }
+{
+    match worded {
+        Worded::TypedNumber => Form::Expr(ExprForm::TypedNumber(word)),
+        Worded::NumberBase => Form::Base(BaseForm::Number(word)),
+        Worded::IntType => Form::Type(TypeForm::Int(word)),
+    }
+}
+
+fn gathers(alloc: Global, stack: &mut Vec<Item>) -> Result<bool, NoMemory>
+    ensures { IfOk result (λ yes. IsStep yes (done_by gathers [] [] 0 (reverse stack.old.items)) (reverse stack.new.items)) }
+{
+    let mut row = Vec::new(alloc);
+    gather(stack, Wanted::Nodes, &mut row)?;
+    row.reverse();
+    let Some(_) = opened(stack) else {
+        return Ok(false);
+    };
+    put(stack, Item::Built(Tree::row(row)))?;
+    Ok(true)
+}
+
+fn closes(
+    alloc: Global,
+    tokens: &Tokens,
+    from: usize,
+    at: usize,
+    slots: &[Slot],
+    form: Form,
+    stack: &mut Vec<Item>,
+) -> Result<bool, NoMemory>
+    requires { from ≤ length tokens.now.list }
+    ensures { IfOk result (λ yes. IsStep yes (done_by (closes slots.now form) tokens.now.text (drop from tokens.now.list) at (reverse stack.old.items)) (reverse stack.new.items)) }
+{
+    let rest = &tokens.as_slice()[from..];
+    let Some((place, parts)) = closed(alloc, slots, stack)? else {
+        return Ok(false);
+    };
+    let tree = Tree::of(form, stretch(rest, place, at), parts);
+    put(stack, Item::Built(tree))?;
+    Ok(true)
+}
+
+fn closes_integer(
+    alloc: Global,
+    tokens: &Tokens,
+    from: usize,
+    at: usize,
+    slots: &[Slot],
+    worded: Worded,
+    stack: &mut Vec<Item>,
+) -> Result<bool, NoMemory>
+    requires { from ≤ length tokens.now.list }
+    ensures { IfOk result (λ yes. IsStep yes (done_by (closes_integer slots.now (worded_form worded)) tokens.now.text (drop from tokens.now.list) at (reverse stack.old.items)) (reverse stack.new.items)) }
+{
+    let rest = &tokens.as_slice()[from..];
+    let Some((place, parts)) = closed(alloc, slots, stack)? else {
+        return Ok(false);
+    };
+    let Some(word) = integer_of(token_at(rest, place).kind) else {
+        return Ok(false);
+    };
+    let tree = Tree::of(worded_form(worded, word), stretch(rest, place, at), parts);
+    put(stack, Item::Built(tree))?;
+    Ok(true)
+}
+
+fn closes_attribute(
+    alloc: Global,
+    tokens: &Tokens,
+    from: usize,
+    at: usize,
+    slots: &[Slot],
+    stack: &mut Vec<Item>,
+) -> Result<bool, NoMemory>
+    requires { from ≤ length tokens.now.list }
+    ensures { IfOk result (λ yes. IsStep yes (done_by (closes_attribute slots.now (λ name. form_is.Attribute name)) tokens.now.text (drop from tokens.now.list) at (reverse stack.old.items)) (reverse stack.new.items)) }
+{
+    let rest = &tokens.as_slice()[from..];
+    let Some((place, parts)) = closed(alloc, slots, stack)? else {
+        return Ok(false);
+    };
+    let Some(name) = attribute_of(token_at(rest, place).kind) else {
+        return Ok(false);
+    };
+    let tree = Tree::of(Form::Attribute(name), stretch(rest, place, at), parts);
+    put(stack, Item::Built(tree))?;
+    Ok(true)
+}
+
+fn encloses(
+    tokens: &Tokens,
+    from: usize,
+    at: usize,
+    stack: &mut Vec<Item>,
+) -> Result<bool, NoMemory>
+    requires { from ≤ length tokens.now.list }
+    ensures { IfOk result (λ yes. IsStep yes (done_by encloses tokens.now.text (drop from tokens.now.list) at (reverse stack.old.items)) (reverse stack.new.items)) }
+{
+    let rest = &tokens.as_slice()[from..];
+    let Some(tree) = popped(stack, Sort::One(Group::Expressions)) else {
+        return Ok(false);
+    };
+    let Some(place) = opened(stack) else {
+        return Ok(false);
+    };
+    put(stack, Item::Built(tree.with_span(stretch(rest, place, at))))?;
+    Ok(true)
+}
+
+/// The text from where these trees begin, up to a place.
+fn stretch_from(rest: &[Token], parts: &[Tree], at: usize) -> Span
+    ensures { result ≡ stretch_from rest.now parts.now at }
+{
+    let from = match parts.first() {
+        Some(tree) => tree.span().from,
+        None => 0,
+    };
+    Span {
+        from,
+        to: end_before(rest, at),
+    }
+}
+
+fn joins(
+    alloc: Global,
+    tokens: &Tokens,
+    from: usize,
+    at: usize,
+    slots: &[Slot],
+    form: Form,
+    stack: &mut Vec<Item>,
+) -> Result<bool, NoMemory>
+    requires { from ≤ length tokens.now.list }
+    ensures { IfOk result (λ yes. IsStep yes (done_by (joins slots.now form) tokens.now.text (drop from tokens.now.list) at (reverse stack.old.items)) (reverse stack.new.items)) }
+{
+    let rest = &tokens.as_slice()[from..];
+    let Some(parts) = parts(alloc, slots, stack)? else {
+        return Ok(false);
+    };
+    let span = stretch_from(rest, parts.as_slice(), at);
+    put(stack, Item::Built(Tree::of(form, span, parts)))?;
+    Ok(true)
+}
+
+fn wraps(alloc: Global, group: Group, form: Form, stack: &mut Vec<Item>) -> Result<bool, NoMemory>
+    ensures { IfOk result (λ yes. IsStep yes (done_by (wraps group form) [] [] 0 (reverse stack.old.items)) (reverse stack.new.items)) }
+{
+    let Some(tree) = popped(stack, Sort::One(group)) else {
+        return Ok(false);
+    };
+    let span = tree.span();
+    let mut parts = Vec::new(alloc);
+    parts.push(tree)?;
+    put(stack, Item::Built(Tree::of(form, span, parts)))?;
+    Ok(true)
+}
+
+/// What a rule does at a place.
+fn step_by(
+    alloc: Global,
+    tokens: &Tokens,
+    from: usize,
+    at: usize,
+    rule: Rule,
+    stack: &mut Vec<Item>,
+) -> Result<bool, NoMemory>
+    requires { from ≤ length tokens.now.list }
+    ensures { IfOk result (λ yes. IsStep yes (done_by (rule_view rule) tokens.now.text (drop from tokens.now.list) at (reverse stack.old.items)) (reverse stack.new.items)) }
+{
+    match rule {
+        Rule::Begins => {
+            put(stack, Item::Begun(at))?;
+            Ok(true)
+        }
+        Rule::LeavesOut => {
+            put(stack, Item::Built(Tree::absent()))?;
+            Ok(true)
+        }
+        Rule::Takes(leaf) => match leaf_tree(alloc, tokens, from, at, leaf)? {
+            Some(tree) => {
+                put(stack, Item::Built(tree))?;
+                Ok(true)
+            }
+            None => Ok(false),
+        },
+        Rule::Gathers => gathers(alloc, stack),
+        Rule::Closes(slots, form) => closes(alloc, tokens, from, at, slots, form, stack),
+        Rule::ClosesInteger(slots, worded) => {
+            closes_integer(alloc, tokens, from, at, slots, worded, stack)
+        }
+        Rule::ClosesAttribute(slots) => closes_attribute(alloc, tokens, from, at, slots, stack),
+        Rule::Encloses => encloses(tokens, from, at, stack),
+        Rule::Joins(slots, form) => joins(alloc, tokens, from, at, slots, form, stack),
+        Rule::Wraps(group, form) => wraps(alloc, group, form, stack),
+    }
+}
+
+/// What a mark does at a place. The tokens from `from` on are those of the text that is built, and the place is counted
+/// from there. It answers false where the mark finds not what it wants.
+pub(crate) fn step(
+    alloc: Global,
+    tokens: &Tokens,
+    from: usize,
+    at: usize,
+    mark: Mark,
+    stack: &mut Vec<Item>,
+) -> Result<bool, NoMemory>
+    requires { from ≤ length tokens.now.list }
+    ensures { IfOk result (λ yes. IsStep yes (marked mark tokens.now.text (drop from tokens.now.list) at (reverse stack.old.items)) (reverse stack.new.items)) }
+{
+    step_by(alloc, tokens, from, at, rule_of(mark), stack)
 }

@@ -182,7 +182,12 @@ fn number_of(tokens: &Tokens, at: usize) -> Option<u64>
 }
 
 /// The alternative that a token is of.
-pub(crate) fn form_of(alloc: Global, tokens: &Tokens, at: usize, leaf: Leaf) -> Result<Option<Form>, NoMemory>
+pub(crate) fn form_of(
+    alloc: Global,
+    tokens: &Tokens,
+    at: usize,
+    leaf: Leaf,
+) -> Result<Option<Form>, NoMemory>
     requires { at < length tokens.now.list }
     ensures { IfOk result (λ o. o ≡ form_of (leaf_view leaf) (kind_at tokens.now at) (bytes_at tokens.now at)) }
 {
