@@ -3,7 +3,7 @@
 
 use sp_grammar::Start;
 use sp_lex::{ReadFault, lex};
-use sp_read_expr::{Numbers, read_from};
+use sp_runs::{Numbers, read_from};
 use std::alloc::Global;
 use std::io;
 use std::io::Read;

@@ -15,8 +15,8 @@ use Rattle.sp_grammar.specs.Starts.{start_number}
 use Rattle.sp_grammar.specs.Language.{language}
 use Rattle.sp_grammar.specs.Reads.{Reads, nothing, whole, half, mark, part}
 use Rattle.sp_grammar.proofs.Spans.{reads_derived, one_production}
-use Rattle.sp_read_expr.specs.Kinds.{token_number, numbers_of}
-use Rattle.sp_read_expr.specs.Runs.{IsText}
+use Rattle.sp_runs.specs.Kinds.{token_number, numbers_of}
+use Rattle.sp_runs.specs.Runs.{IsText}
 use Rattle.sp_ast.specs.Trees.{Tree}
 use Rattle.sp_build.specs.declared.groups.Sort.TheVariants.{One as one}
 use Rattle.sp_build.specs.Groups.{is_of}

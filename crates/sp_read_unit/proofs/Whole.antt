@@ -15,10 +15,10 @@ use Rattle.sp_parser.specs.Grammar.{Derives}
 use Rattle.sp_grammar.specs.declared.language.Start.TheVariants.{Module}
 use Rattle.sp_grammar.specs.Language.{language}
 use Rattle.sp_grammar.specs.Starts.{start_number}
-use Rattle.sp_read_expr.specs.Kinds.{numbers_of}
-use Rattle.sp_read_expr.specs.Runs.{IsLongestRun, IsText, IsRead, IsRefused, refused_at, refused_with, unexpected}
-use Rattle.sp_read_expr.proofs.Longest.{numbers_length, inside_of}
-use Rattle.sp_read_expr.proofs.Unique.{one_longest, one_derivation}
+use Rattle.sp_runs.specs.Kinds.{numbers_of}
+use Rattle.sp_runs.specs.Runs.{IsLongestRun, IsText, IsRead, IsRefused, refused_at, refused_with, unexpected}
+use Rattle.sp_runs.proofs.Longest.{numbers_length, inside_of}
+use Rattle.sp_runs.proofs.Unique.{one_longest, one_derivation}
 use Rattle.sp_read_unit.specs.Modules.{IsModule, IsModuleText, IsModuleRefused}
 
 -- all numbers of the tokens

@@ -8,8 +8,8 @@ use Rattle.sp_parser.specs.Grammar.{Derives}
 use Rattle.sp_grammar.specs.declared.language.Start.TheVariants.{Module}
 use Rattle.sp_grammar.specs.Language.{language}
 use Rattle.sp_grammar.specs.Starts.{start_number}
-use Rattle.sp_read_expr.specs.Kinds.{numbers_of}
-use Rattle.sp_read_expr.specs.Runs.{IsLongestRun, refused_at, refused_with}
+use Rattle.sp_runs.specs.Kinds.{numbers_of}
+use Rattle.sp_runs.specs.Runs.{IsLongestRun, refused_at, refused_with}
 
 -- all these tokens are the text of a module, and its derivation passes these marks
 abbrev pub IsModule : List Token → List Event → Type 0

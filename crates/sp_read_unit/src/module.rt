@@ -2,12 +2,12 @@
 ghost use Rattle.std.specs.Prelude.{◌≡◌, ◌≤◌, length, OnOk, IfErr};
 ghost use Rattle.sp_lex.specs.Faults.{OnDiag};
 ghost use Rattle.sp_lex.specs.declared.tokens.ReadFault.TheVariants as fault_is;
-ghost use Rattle.sp_read_expr.specs.Runs.{unexpected};
+ghost use Rattle.sp_runs.specs.Runs.{unexpected};
 ghost use Rattle.sp_read_unit.specs.Modules.{IsModuleText, IsModuleRefused};
 
 use sp_grammar::Start;
 use sp_lex::{ReadFault, Token, Tokens};
-use sp_read_expr::{Numbers, read_from, unexpected};
+use sp_runs::{Numbers, read_from, unexpected};
 use std::alloc::Global;
 
 /// The refusal of a token that is left over.

@@ -9,8 +9,8 @@ use Rattle.sp_lex.specs.declared.tokens.Token.{Token}
 use Rattle.sp_lex.specs.Faults.{GoesBefore}
 use Rattle.sp_lex.specs.Readings.{Reading, Ends, Stops, Reads as ReadsToken, whole}
 use Rattle.sp_grammar.specs.declared.language.Start.TheVariants.{Module}
-use Rattle.sp_read_expr.specs.Runs.{refused_at as run_refused_at, refused_with}
-use Rattle.sp_read_expr.proofs.Unique.{one_longest}
+use Rattle.sp_runs.specs.Runs.{refused_at as run_refused_at, refused_with}
+use Rattle.sp_runs.proofs.Unique.{one_longest}
 use Rattle.sp_read_unit.specs.Modules.{IsModuleText, IsModuleRefused}
 use Rattle.sp_spicyc.specs.declared.exits.Refusal.{Refusal}
 use Rattle.sp_spicyc.specs.Files.{AreTokens, IsReadable, IsUnreadable, IsRefused, Reads, Refuses, place_in, refused_at}

@@ -1,7 +1,7 @@
 use Rattle.std.proofs.Common.{length}
 use Rattle.std.specs.Prelude.{map}
 use Rattle.sp_lex.specs.Faults.{OnDiag}
-use Rattle.sp_read_expr.specs.Named.{event_of}
+use Rattle.sp_runs.specs.Named.{event_of}
 use Rattle.sp_read_unit.specs.Modules.{IsModuleRefused}
 use Rattle.sp_read_unit.proofs.Whole.{on_refused, left_over_refused, left_over_inside, passed_on}
 use Rattle.sp_read_unit.proofs.module.accept_module.Goals as goal

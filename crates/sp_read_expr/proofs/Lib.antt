@@ -1,4 +1,0 @@
-pub mod Below
-pub mod Longest
-pub mod Marked
-pub mod Unique
