@@ -4,6 +4,7 @@
 mod forms;
 mod operators;
 mod tree;
+mod typed;
 mod words;
 
 pub use forms::{
@@ -12,4 +13,5 @@ pub use forms::{
 };
 pub use operators::{AssignOp, BinaryOp, UnaryOp};
 pub use tree::{Node, Tree};
+pub use typed::{Expr, Module, Stmt, TypeTree};
 pub use words::{AttributeName, HookName, IntWord};
