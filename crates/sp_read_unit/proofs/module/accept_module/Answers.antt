@@ -1,7 +1,5 @@
 use Rattle.std.proofs.Common.{length}
-use Rattle.std.specs.Prelude.{map}
 use Rattle.sp_lex.specs.Faults.{OnDiag}
-use Rattle.sp_runs.specs.Named.{event_of}
 use Rattle.sp_read_unit.specs.Modules.{IsModuleRefused}
 use Rattle.sp_read_unit.proofs.Whole.{on_refused, left_over_refused, left_over_inside, passed_on}
 use Rattle.sp_read_unit.proofs.module.accept_module.Goals as goal
@@ -22,4 +20,4 @@ pub returns-in-Some-clause-refused : goal.returns-in-Some-clause-refused
 returns-in-Some-clause-refused c =
     let tokens = c.args.tokens.now.list in
     let at = rw c.as_slice.ensures at c.in-Some.ensures.lookup.3 in
-    left_over_refused tokens (length c.args.tokens.now.text) c.in_ok-parsed.parsed.to c.in-Some.token.now (map event_of c.in_ok-parsed.parsed.events.items) c.left_over.result at.0 (at.1 c.in-Some.token.now) c.in_ok-parsed.ensures.read c.left_over.ensures
+    left_over_refused tokens (length c.args.tokens.now.text) c.in_ok-parsed.parsed.to c.in-Some.token.now c.in_ok-parsed.parsed.events.items c.left_over.result at.0 (at.1 c.in-Some.token.now) c.in_ok-parsed.ensures.read c.left_over.ensures
