@@ -1,5 +1,5 @@
 -- Tokens that are all together a module's are their own longest run.
-use Rattle.std.proofs.Common.{ℕ, zero, suc, Result, Ok, Err, get_or, ◌≡◌, ◌+◌, ◌≤◌, ◌<◌, List, [], ◌∷◌, length, take, drop, ap, ◌∙◌, sym, subst, arith}
+use Rattle.std.proofs.Common.{ℕ, zero, suc, Result, Ok, Err, get_or, ◌≡◌, ◌+◌, ◌≤◌, ◌<◌, List, [], ◌∷◌, length, take, drop, refl, ap, ◌∙◌, sym, subst, arith}
 use Rattle.std.specs.Prelude.{IfErr}
 use Rattle.std.specs.Result.{IsErrAnd}
 use Rattle.std.proofs.lemmas.List.{take_all, append-nil}
@@ -19,7 +19,10 @@ use Rattle.sp_runs.specs.Kinds.{numbers_of}
 use Rattle.sp_runs.specs.Runs.{IsLongestRun, IsText, IsRead, IsRefused, refused_at, refused_with, unexpected}
 use Rattle.sp_runs.proofs.Longest.{numbers_length, inside_of}
 use Rattle.sp_runs.proofs.Unique.{one_longest, one_derivation}
-use Rattle.sp_read_unit.specs.Modules.{IsModule, IsModuleText, IsModuleRefused}
+use Rattle.sp_ast.specs.Trees.{Tree}
+use Rattle.sp_lex.specs.Lexed.{Lexed}
+use Rattle.sp_read_expr.specs.Reading.{IsTreeRead}
+use Rattle.sp_read_unit.specs.Modules.{IsModule, IsModuleText, IsModuleTree, IsModuleRefused}
 
 -- all numbers of the tokens
 all_numbers : (tokens : List Token) → take (length tokens) (numbers_of tokens) ≡ numbers_of tokens
@@ -83,3 +86,34 @@ left_over_inside tokens end to token f less at order e =
 pub passed_on : {T : Type 0} (r : Result T ReadFault) (fault : ReadFault) (P : ReadFault → Type 0) → IsErrAnd r (λ e. e ≡ fault) → P fault → IfErr r P
 passed_on (Ok v) fault P is by = tt
 passed_on (Err e) fault P is by = subst (λ f. P f) (sym is) by
+
+-- a run of all tokens is the module
+pub whole_tree : (lexed : Lexed) (t : Tree) (to : ℕ) → IsTreeRead Module lexed 0 t to → length lexed.list ≤ to → IsModuleTree lexed t
+whole_tree lexed t to r end =
+    let behind : to ≡ 0 + r.count = r.behind in
+    let within : r.count ≤ length (numbers_of lexed.list) = r.longest.within in
+    let same : length (numbers_of lexed.list) ≡ length lexed.list = numbers_length lexed.list in
+    let all : take r.count (numbers_of lexed.list) ≡ numbers_of lexed.list = take_all r.count (numbers_of lexed.list) (omega arith) in
+    (r.marks, subst (λ w. Derives language (start_number Module) w r.marks) all r.text, r.built, r.kind)
+
+pub text_of_tree : (lexed : Lexed) (t : Tree) → IsModuleTree lexed t → IsModuleText lexed.list
+text_of_tree lexed t m = (m.0, m.1)
+
+-- what is read from the front
+pub run_of_tree : (lexed : Lexed) (t : Tree) (to : ℕ) (r : IsTreeRead Module lexed 0 t to) → IsRead Module lexed.list 0 r.marks to
+run_of_tree lexed t to r = (r.count, r.behind, r.longest, r.text)
+
+get_any : (tokens : List Token) (i : ℕ) (d e : Token) → i < length tokens → get_or tokens i d ≡ get_or tokens i e
+get_any [] i d e h = absurd (omega arith)
+get_any (t ∷ tokens) zero d e h = refl
+get_any (t ∷ tokens) (suc i) d e h = get_any tokens i d e (omega arith)
+
+pub left_inside : (tokens list : List Token) (end to : ℕ) (d : Token) (f : ReadFault) → list ≡ tokens → to < length tokens → InOrder 0 tokens end
+    → f ≡ fault.Diag (get_or list to d).span (unexpected (get_or list to d).kind) → OnDiag (λ span _. span.from ≤ end) f
+left_inside tokens list end to d f same less order e =
+    left_over_inside tokens end to (get_or tokens to d) f less (get_any tokens to d (get_or tokens to d) less) order (e ∙ ap (λ ts. fault.Diag (get_or ts to d).span (unexpected (get_or ts to d).kind)) same)
+
+pub left_refused : (lexed : Lexed) (list : List Token) (end to : ℕ) (d : Token) (t : Tree) (f : ReadFault) → list ≡ lexed.list → to < length lexed.list → IsTreeRead Module lexed 0 t to
+    → f ≡ fault.Diag (get_or list to d).span (unexpected (get_or list to d).kind) → OnDiag (λ span kind. IsModuleRefused lexed.list end span kind) f
+left_refused lexed list end to d t f same less r e =
+    left_over_refused lexed.list end to (get_or lexed.list to d) r.marks f less (get_any lexed.list to d (get_or lexed.list to d) less) (run_of_tree lexed t to r) (e ∙ ap (λ ts. fault.Diag (get_or ts to d).span (unexpected (get_or ts to d).kind)) same)

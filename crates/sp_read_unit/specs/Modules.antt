@@ -1,5 +1,5 @@
 -- Tokens that are the text of a module, and the refusal of those that are none.
-use Rattle.std.specs.Prelude.{ℕ, ◌≡◌, List, drop}
+use Rattle.std.specs.Prelude.{ℕ, ◌≡◌, List, drop, true}
 use Rattle.sp_base.specs.declared.kinds.MKind.{MKind}
 use Rattle.sp_base.specs.declared.places.Span.{Span}
 use Rattle.sp_lex.specs.declared.tokens.Token.{Token}
@@ -8,6 +8,11 @@ use Rattle.sp_parser.specs.Grammar.{Derives}
 use Rattle.sp_grammar.specs.declared.language.Start.TheVariants.{Module}
 use Rattle.sp_grammar.specs.Language.{language}
 use Rattle.sp_grammar.specs.Starts.{start_number}
+use Rattle.sp_ast.specs.Trees.{Tree}
+use Rattle.sp_lex.specs.Lexed.{Lexed}
+use Rattle.sp_build.specs.Building.{IsBuilt}
+use Rattle.sp_build.specs.Groups.{is_of}
+use Rattle.sp_build.specs.Starting.{group_of}
 use Rattle.sp_runs.specs.Kinds.{numbers_of}
 use Rattle.sp_runs.specs.Runs.{IsLongestRun, refused_at, refused_with}
 
@@ -18,6 +23,11 @@ IsModule tokens marks = Derives language (start_number Module) (numbers_of token
 -- all these tokens are the text of a module
 abbrev pub IsModuleText : List Token → Type 0
 IsModuleText tokens = (marks : List Event) × IsModule tokens marks
+
+-- the tokens of a text are that of a module, and this is its tree
+abbrev pub IsModuleTree : Lexed → Tree → Type 0
+IsModuleTree lexed t =
+    (marks : List Event) × IsModule lexed.list marks × IsBuilt lexed.text lexed.list marks t × (is_of (group_of Module) t ≡ true)
 
 -- The tokens are no module's text, and are refused behind the longest run of them that begins one: at the next token,
 -- or at the end of the source.

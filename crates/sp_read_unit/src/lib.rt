@@ -5,4 +5,4 @@ mod laws;
 mod module;
 
 pub use laws::module_is_one;
-pub use module::accept_module;
+pub use module::read_module;

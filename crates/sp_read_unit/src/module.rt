@@ -1,13 +1,15 @@
-// Whether tokens are the text of a module.
-ghost use Rattle.std.specs.Prelude.{◌≡◌, ◌≤◌, length, OnOk, IfErr};
+// Reading of a module.
+ghost use Rattle.std.specs.Prelude.{◌≡◌, ◌≤◌, length, OnOk, IfOk, IfErr};
 ghost use Rattle.sp_lex.specs.Faults.{OnDiag};
 ghost use Rattle.sp_lex.specs.declared.tokens.ReadFault.TheVariants as fault_is;
 ghost use Rattle.sp_runs.specs.Runs.{unexpected};
-ghost use Rattle.sp_read_unit.specs.Modules.{IsModuleText, IsModuleRefused};
+ghost use Rattle.sp_read_unit.specs.Modules.{IsModuleText, IsModuleTree, IsModuleRefused};
 
+use sp_ast::Module;
 use sp_grammar::Start;
 use sp_lex::{ReadFault, Token, Tokens};
-use sp_runs::{Numbers, read_from, unexpected};
+use sp_read_expr::read_tree;
+use sp_runs::unexpected;
 use std::alloc::Global;
 
 /// The refusal of a token that is left over.
@@ -17,19 +19,20 @@ fn left_over(token: Token) -> ReadFault
     ReadFault::Diag(token.span, unexpected(token.kind))
 }
 
-/// Whether all tokens together are the text of a module. Where they are not, the refusal is at the first token with
-/// which no module's text goes on, or at the end of the source, where the tokens end too early: M30 where that token is
-/// a word out of profile, and else M3.
-pub fn accept_module(alloc: Global, tokens: &Tokens) -> Result<(), ReadFault>
-    ensures module { OnOk result (IsModuleText tokens.now.list) }
-    ensures inside { IfErr result (OnDiag (λ span _. span.from ≤ length tokens.now.text)) }
-    ensures refused { IfErr result (OnDiag (IsModuleRefused tokens.now.list (length tokens.now.text))) }
+/// Reads a module: all tokens together. Where they are no module's text, the refusal is at the first token with which no
+/// module's text goes on, or at the end of the source, where the tokens end too early: M30 where that token is a word out
+/// of profile, and else M3.
+pub fn read_module(alloc: Global, t: &Tokens) -> Result<Module, ReadFault>
+    ensures module { OnOk result (IsModuleText t.now.list) }
+    ensures tree { IfOk result (λ m. IsModuleTree t.now m.tree) }
+    ensures inside { IfErr result (OnDiag (λ span _. span.from ≤ length t.now.text)) }
+    ensures refused { IfErr result (OnDiag (IsModuleRefused t.now.list (length t.now.text))) }
 {
-    tokens.are_of_their_text();
-    let numbers = Numbers::new(alloc, tokens)?;
-    let parsed = read_from(alloc, tokens, &numbers, Start::Module, 0)?;
-    match tokens.as_slice().get(parsed.to as usize) {
-        Some(token) => Err(left_over(*token)),
-        None => Ok(()),
+    t.are_of_their_text();
+    let read = read_tree(alloc, t, Start::Module, 0)?;
+    let to = read.1 as usize;
+    if to < t.len() {
+        return Err(left_over(t.as_slice()[to]));
     }
+    Ok(Module { tree: read.0 })
 }

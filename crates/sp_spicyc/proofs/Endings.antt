@@ -1,7 +1,7 @@
 -- What is put, and what a read tells of a file.
 use Rattle.std.specs.Prelude.{IfErr}
 use Rattle.std.specs.Result.{IsErrAnd}
-use Rattle.std.proofs.Common.{◌≡◌, ℕ, List, take, drop, Option, Some, None, Result, Ok, Err, sym, ap, ◌∙◌, refl, subst, inl}
+use Rattle.std.proofs.Common.{◌≡◌, ℕ, List, take, drop, Option, Some, None, Result, Ok, Err, sym, ap, ◌∙◌, refl, subst, inl, inr, length}
 use Rattle.std.proofs.lemmas.List.{take-append-drop}
 use Rattle.sp_base.specs.Places.{line_at, column_at}
 use Rattle.sp_base.specs.declared.kinds.MKind.{MKind}
@@ -10,10 +10,12 @@ use Rattle.sp_base.specs.declared.places.Span.{Span}
 use Rattle.sp_lex.specs.Faults.{OnDiag, IsFault, GoesBefore}
 use Rattle.sp_lex.specs.declared.tokens.ReadFault.{ReadFault}
 use Rattle.sp_lex.specs.declared.tokens.ReadFault.TheVariants as fault
+use Rattle.sp_lex.specs.Lexed.{Lexed}
+use Rattle.sp_read_unit.specs.Modules.{IsModuleRefused}
 use Rattle.sp_io.specs.Moved.{appended}
 use Rattle.sp_spicyc.specs.declared.exits.Unread.{Unread}
 use Rattle.sp_spicyc.specs.Command.{IsPartPut}
-use Rattle.sp_spicyc.specs.Files.{Holds, IsStopped, IsUnreadable, refused_at, place_in}
+use Rattle.sp_spicyc.specs.Files.{AreTokens, Holds, IsStopped, IsUnreadable, refused_at, place_in}
 use Rattle.sp_spicyc.specs.Loads.{IsTextUnread, IsRefusalOrNoMemory}
 
 -- the content that was read is that of the file, where the files are told
@@ -37,6 +39,11 @@ pub unreadable_by : (text : List ℕ) (f : ReadFault) → OnDiag (λ span kind. 
     → OnDiag (λ span kind. (other : Span) (other_kind : MKind) → IsFault text other other_kind → GoesBefore span kind other other_kind) f → OnDiag (λ span kind. IsUnreadable text span kind) f
 unreadable_by text (fault.Diag span kind) is least = inl (is, least)
 unreadable_by text fault.NoMemory is least = tt
+
+-- the refusal of the module makes a text with right tokens unreadable
+pub module_unreadable : (text : List ℕ) (lexed : Lexed) (f : ReadFault) → lexed.text ≡ text → AreTokens text lexed.list → OnDiag (λ span kind. IsModuleRefused lexed.list (length lexed.text) span kind) f → OnDiag (λ span kind. IsUnreadable text span kind) f
+module_unreadable text lexed (fault.Diag span kind) same right is = inr (lexed.list, right, subst (λ bytes. IsModuleRefused lexed.list (length bytes) span kind) same is)
+module_unreadable text lexed fault.NoMemory same right is = tt
 
 -- the refusal stands at the line and the column of the fault
 pub refused_by : (path text : List ℕ) (f : ReadFault) (span : Span) (kind : MKind) (place : Place) (unread : Unread) → f ≡ fault.Diag span kind → OnDiag (λ span kind. IsUnreadable text span kind) f → place.line ≡ line_at text span.from → place.col ≡ column_at text span.from

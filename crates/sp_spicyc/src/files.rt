@@ -9,7 +9,7 @@ use crate::exits::{Refusal, Unread};
 use sp_base::{MKind, Place, Text, place_of};
 use sp_io::{Modules, ModulesFault};
 use sp_lex::{ReadFault, lex};
-use sp_read_unit::accept_module;
+use sp_read_unit::read_module;
 use std::alloc::Global;
 
 /// A refusal, or want of memory for its path.
@@ -29,7 +29,8 @@ fn accept_text(alloc: Global, text: &[u8]) -> Result<(), ReadFault>
     ensures unreadable { IfErr result (OnDiag (IsUnreadable text.now)) }
 {
     let tokens = lex(alloc, text)?;
-    accept_module(alloc, &tokens)
+    read_module(alloc, &tokens)?;
+    Ok(())
 }
 
 /// Whether the text of the file at the path is that of a module.
