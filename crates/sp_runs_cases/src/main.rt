@@ -82,10 +82,8 @@ fn marks(alloc: Global, source: &[u8], start: Start) -> Result<String, AllocErro
         Ok(parsed) => {
             for passed in parsed.events.as_slice() {
                 match mark_of(passed.mark) {
-                    Some(
-                        Mark::Begin | Mark::Name | Mark::Path | Mark::Row | Mark::Absent,
-                    )
-                    | None => {}
+                    Some(Mark::Begin | Mark::Name | Mark::Path | Mark::Row | Mark::Absent) | None =>
+                        {}
                     Some(mark) => words = format!(in alloc; "{words} {mark:?}")?,
                 }
             }
