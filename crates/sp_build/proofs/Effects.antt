@@ -1,5 +1,5 @@
 -- What a rule makes of known shapes it makes of each stack that has them.
-use Rattle.std.specs.Prelude.{ℕ, ◌≡◌, List, [], ◌∷◌, ◌++◌, reverse, true, ◌==◌, if◌then◌else◌, Option, Some, None, option_map, refl}
+use Rattle.std.specs.Prelude.{ℕ, ◌≡◌, List, [], ◌∷◌, reverse, true, ◌==◌, if◌then◌else◌, Option, Some, None, option_map, refl}
 use Rattle.std.proofs.Common.{◌∙◌, ap, sym, subst, eq-eqb, eqb-true}
 use Rattle.std.proofs.lemmas.Bool.{and_from}
 use Rattle.sp_base.specs.declared.places.Span.{Span}

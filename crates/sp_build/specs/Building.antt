@@ -2,7 +2,7 @@
 use Rattle.sp_build.specs.declared.stack.Item.{Item}
 use Rattle.sp_build.specs.declared.stack.Item.TheVariants.{Begun as begun, Built as built}
 use Rattle.sp_ast.specs.declared.forms.Form.{Form}
-use Rattle.std.specs.Prelude.{ℕ, ◌≡◌, ◌+◌, ◌-◌, zero, suc, List, [], ◌∷◌, ◌++◌, reverse, if◌then◌else◌, Bool, true, false, Option, Some, None, option_map}
+use Rattle.std.specs.Prelude.{ℕ, ◌≡◌, zero, suc, List, [], ◌∷◌, reverse, if◌then◌else◌, Bool, Option, Some, None, option_map}
 use Rattle.std.proofs.Common.{get_or}
 use Rattle.sp_base.specs.declared.places.Span.{Span}
 use Rattle.sp_lex.specs.declared.kinds.Mark.TheVariants as mark
@@ -12,10 +12,7 @@ use Rattle.sp_lex.specs.Readings.{bytes_of}
 use Rattle.sp_parser.specs.declared.symbol.Event.{Event}
 use Rattle.sp_grammar.specs.declared.marks.Mark.{Mark}
 use Rattle.sp_grammar.specs.Marks.{mark_with}
-use Rattle.sp_ast.specs.Trees.{Tree, absent, row, node, tree, in_row, respan, span_of}
-use Rattle.sp_ast.specs.declared.words.IntWord.{IntWord}
-use Rattle.sp_ast.specs.declared.words.AttributeName.{AttributeName}
-use Rattle.sp_build.specs.declared.groups.Group.{Group}
+use Rattle.sp_ast.specs.Trees.{Tree, absent, tree, in_row, respan, span_of}
 use Rattle.sp_build.specs.declared.groups.Sort.{Sort}
 use Rattle.sp_build.specs.declared.groups.Group.TheVariants.{Expressions as expressions}
 use Rattle.sp_build.specs.declared.groups.Sort.TheVariants.{One as one}

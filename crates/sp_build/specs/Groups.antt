@@ -45,35 +45,35 @@ same_group g h = group_number g == group_number h
 
 -- the group of an alternative
 abbrev pub group : Form → Group
-group (form_is.Name x) = names
-group (form_is.Text x) = texts
-group (form_is.Number x) = numbers
-group (form_is.Event x) = events
+group (form_is.Name _) = names
+group (form_is.Text _) = texts
+group (form_is.Number _) = numbers
+group (form_is.Event _) = events
 group form_is.Path = paths
-group (form_is.Expr form) = expressions
+group (form_is.Expr _) = expressions
 group form_is.Pair = pairs
-group (form_is.Type form) = types
+group (form_is.Type _) = types
 group form_is.Label = labels
 group form_is.Bits = ranges
-group (form_is.Parameter inout) = parameters
-group (form_is.Stmt form) = statements
+group (form_is.Parameter _) = parameters
+group (form_is.Stmt _) = statements
 group form_is.Block = blocks
 group form_is.Branch = branches
 group form_is.Case = cases
-group (form_is.Item form) = items
-group (form_is.Target form) = targets
-group (form_is.Part form) = parts
+group (form_is.Item _) = items
+group (form_is.Target _) = targets
+group (form_is.Part _) = parts
 group form_is.Arm = arms
-group (form_is.Guard form) = guards
-group (form_is.Body form) = bodies
-group (form_is.Base form) = bases
+group (form_is.Guard _) = guards
+group (form_is.Body _) = bodies
+group (form_is.Base _) = bases
 group form_is.Count = counts
-group (form_is.Attribute name) = attributes
+group (form_is.Attribute _) = attributes
 group form_is.Hook = hooks
-group (form_is.HookBody each) = hook_bodies
+group (form_is.HookBody _) = hook_bodies
 group form_is.Unit = units
 group form_is.Field = fields
-group (form_is.Decl form) = declarations
+group (form_is.Decl _) = declarations
 group form_is.Module = modules
 
 -- the group of a tree, unless it is left out or a row

@@ -26,8 +26,7 @@ use Rattle.sp_ast.specs.declared.words.HookName.{HookName}
 use Rattle.sp_grammar.specs.declared.marks.Mark.{Mark}
 use Rattle.sp_grammar.specs.declared.marks.Mark.TheVariants as build
 use Rattle.sp_build.specs.declared.groups.Group.{Group}
-use Rattle.sp_build.specs.declared.groups.Sort.{Sort}
-use Rattle.sp_build.specs.declared.groups.Group.TheVariants.{Names as names, Texts as texts, Numbers as numbers, Events as events, Paths as paths, Expressions as expressions, Pairs as pairs, Types as types, Labels as labels, Ranges as ranges, Parameters as parameters, Statements as statements, Blocks as blocks, Branches as branches, Cases as cases, Items as items, Targets as targets, Parts as parts, Arms as arms, Guards as guards, Bodies as bodies, Bases as bases, Counts as counts, Attributes as attributes, Hooks as hooks, HookBodies as hook_bodies, Units as units, Fields as fields, Declarations as declarations, Modules as modules}
+use Rattle.sp_build.specs.declared.groups.Group.TheVariants.{Names as names, Texts as texts, Numbers as numbers, Events as events, Paths as paths, Expressions as expressions, Pairs as pairs, Types as types, Labels as labels, Ranges as ranges, Parameters as parameters, Statements as statements, Blocks as blocks, Branches as branches, Cases as cases, Items as items, Targets as targets, Parts as parts, Arms as arms, Guards as guards, Bodies as bodies, Bases as bases, Counts as counts, Attributes as attributes, Hooks as hooks, HookBodies as hook_bodies, Units as units, Fields as fields, Declarations as declarations}
 use Rattle.sp_build.specs.declared.groups.Sort.TheVariants.{One as one, Optional as optional, Rows as rows}
 
 -- The alternative that a token is of: always the same, or by what the token tells (its name, its text, its bytes, its

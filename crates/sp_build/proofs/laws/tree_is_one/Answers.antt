@@ -1,8 +1,8 @@
 use Rattle.std.specs.Prelude.{Some}
-use Rattle.std.proofs.Common.{◌≡◌, List, [], ◌∷◌, subst, sym, ◌∙◌}
+use Rattle.std.proofs.Common.{◌≡◌, [], ◌∷◌, subst, sym, ◌∙◌}
 use Rattle.sp_ast.specs.Trees.{Tree}
 use Rattle.sp_build.specs.declared.stack.Item.TheVariants.{Built as built}
-use Rattle.sp_build.specs.Building.{Stack, IsBuilt}
+use Rattle.sp_build.specs.Building.{IsBuilt}
 use Rattle.sp_build.proofs.laws.tree_is_one.Goals as goal
 
 same_tree : (t u : Tree) → Some (built t ∷ []) ≡ Some (built u ∷ []) → t ≡ u
