@@ -1,0 +1,5 @@
+pub mod Val
+pub mod Codes
+pub mod Sizes
+pub mod View
+pub mod Falls
