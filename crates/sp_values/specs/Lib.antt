@@ -3,3 +3,4 @@ pub mod Codes
 pub mod Sizes
 pub mod View
 pub mod Falls
+pub mod Order

@@ -2,6 +2,8 @@
 #![tactic(auto)]
 
 mod make;
+mod order;
 mod value;
 
+pub use order::compare;
 pub use value::Value;
