@@ -1,1 +1,5 @@
 pub mod Members
+pub mod Total
+pub mod Search
+pub mod Kept
+pub mod Lists

@@ -4,3 +4,6 @@ pub mod Sizes
 pub mod View
 pub mod Falls
 pub mod Order
+pub mod Ascending
+pub mod InOrder
+pub mod Parts

@@ -3,6 +3,7 @@
 
 mod make;
 mod order;
+mod read;
 mod value;
 
 pub use order::compare;

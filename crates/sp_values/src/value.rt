@@ -53,6 +53,10 @@ impl Model for Value {
 
     ghost view = { λ v. val_of v.node };
 
+    ghost use Rattle.sp_values.specs.InOrder.{IsInOrder};
+
+    ghost invariant = { λ v. IsInOrder v.node };
+
     ghost size = { val_size };
 
     ghost use Rattle.std.proofs.Common.{arith};
