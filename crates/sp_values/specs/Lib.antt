@@ -7,3 +7,4 @@ pub mod Order
 pub mod Ascending
 pub mod InOrder
 pub mod Parts
+pub mod Changes

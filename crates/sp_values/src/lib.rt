@@ -1,6 +1,7 @@
 //! Values of a run: cheap to copy, since a copy shares what it holds, and changed in place where nothing is shared.
 #![tactic(auto)]
 
+mod change;
 mod make;
 mod order;
 mod read;
