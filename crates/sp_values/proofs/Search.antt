@@ -1,9 +1,9 @@
 -- Where a key is in an ascending list, or where it belongs, and what a change at that place does.
-use Rattle.std.proofs.Common.{◌≡◌, ℕ, zero, suc, ◌+◌, ◌<◌, ◌≤◌, List, [], ◌∷◌, length, get_or, false, Some, None, Result, Ok, Err, refl, sym, ap, ◌∙◌, subst, arith}
+use Rattle.std.proofs.Common.{◌≡◌, ℕ, zero, suc, ◌+◌, ◌<◌, List, [], ◌∷◌, length, get_or, false, Some, None, Result, Ok, Err, refl, sym, ap, ◌∙◌, subst, arith}
 use Rattle.std.proofs.Math.ListN.{set}
-use Rattle.std.specs.List.{insert, remove, HoldsAt, AllWithin}
+use Rattle.std.specs.List.{insert, remove}
 use Rattle.std.specs.List.Sorted.{IsBinarySearchResult, IsSortedBy, IsSearchInRange}
-use Rattle.std.specs.Prelude.{MatchResult}
+use Rattle.std.specs.Prelude.{is_ok, is_some}
 use Rattle.std.specs.declared.cmp.Ordering.TheVariants.{Less, Equal, Greater}
 use Rattle.std.specs.Ordering.{match_ordering, ordering_reverse, is_lt}
 use Rattle.std.proofs.lemmas.Cmp.{alike_right}
@@ -11,23 +11,10 @@ use Rattle.std.proofs.lemmas.List.Sorted.{searchable_from_sorted}
 use Rattle.sp_values.specs.Val.{Val}
 use Rattle.sp_values.specs.Order.{val_cmp}
 use Rattle.sp_values.specs.Ascending.{IsBelowAll, IsAscending, found, with_key, without}
+use Rattle.sp_values.specs.Places.{IsKeyAt, IsGapAt, IsPlace}
 use Rattle.sp_values.proofs.Total.{val_cmp_total}
 
 module _ {X : Type 0} (key : X → Val) where
-  -- i is the place of k
-  pub record IsKeyAt (xs : List X) (k : Val) (i : ℕ) : Type 0 where
-    pub within : i < length xs
-    pub same : HoldsAt (λ x. val_cmp (key x) k ≡ Equal) xs i
-
-  -- k belongs at i, and no key is k
-  pub record IsGapAt (xs : List X) (k : Val) (i : ℕ) : Type 0 where
-    pub within : i ≤ length xs
-    pub before : AllWithin (λ x. val_cmp (key x) k ≡ Less) xs 0 i
-    pub behind : AllWithin (λ x. val_cmp (key x) k ≡ Greater) xs i (length xs)
-
-  abbrev pub IsPlace : List X → Val → Result ℕ ℕ → Type 0
-  IsPlace xs k r = MatchResult r (IsKeyAt xs k) (IsGapAt xs k)
-
   below_at : (k : Val) (xs : List X) (i : ℕ) (d : X) → IsBelowAll key k xs → i < length xs → val_cmp k (key (get_or xs i d)) ≡ Less
   below_at k [] i d h g = absurd (omega arith)
   below_at k (x ∷ xs) zero d h g = h.0
@@ -48,21 +35,21 @@ module _ {X : Type 0} (key : X → Val) where
   sorted xs h = λ i d low high. not_back (key (get_or xs i d)) (key (get_or xs (i + 1) d)) (next_above xs i d h high)
 
   -- what a binary search finds
-  pub place_found : (xs : List X) (k : Val) (r : Result ℕ ℕ) → IsAscending key xs → IsSearchInRange r (length xs) → IsBinarySearchResult (λ x. val_cmp (key x) k) xs r → IsPlace xs k r
+  pub place_found : (xs : List X) (k : Val) (r : Result ℕ ℕ) → IsAscending key xs → IsSearchInRange r (length xs) → IsBinarySearchResult (λ x. val_cmp (key x) k) xs r → IsPlace key xs k r
   place_found xs k (Ok i) h range at = record { within = range; same = at }
   place_found xs k (Err i) h range at =
       let parts = at (searchable_from_sorted val_cmp_total key xs k (sorted xs h)) in
       record { within = range; before = parts.0; behind = parts.1 }
 
   -- the gap without the first
-  gap_first : (x : X) (xs : List X) (k : Val) → IsGapAt (x ∷ xs) k zero → IsGapAt xs k zero
+  gap_first : (x : X) (xs : List X) (k : Val) → IsGapAt key (x ∷ xs) k zero → IsGapAt key xs k zero
   gap_first x xs k gap = record {
     within = omega arith;
     before = λ j d low high. absurd (omega arith);
     behind = λ j d low high. gap.behind (suc j) d (omega arith) (omega arith);
   }
 
-  gap_rest : (x : X) (xs : List X) (k : Val) (i : ℕ) → IsGapAt (x ∷ xs) k (suc i) → IsGapAt xs k i
+  gap_rest : (x : X) (xs : List X) (k : Val) (i : ℕ) → IsGapAt key (x ∷ xs) k (suc i) → IsGapAt key xs k i
   gap_rest x xs k i gap = record {
     within = omega (arith, gap.within);
     before = λ j d low high. gap.before (suc j) d (omega arith) (omega arith);
@@ -85,7 +72,7 @@ module _ {X : Type 0} (key : X → Val) where
   found_at (x ∷ xs) k (suc i) d h g e =
       found_at xs k i d h.1 (omega arith) e ∙ sym (ap (λ o. match_ordering o (found key k xs) (Some x) (found key k xs)) (first_below x xs k i d h (omega arith) e))
 
-  pub found_not : (xs : List X) (k : Val) (i : ℕ) → IsGapAt xs k i → None ≡ found key k xs
+  pub found_not : (xs : List X) (k : Val) (i : ℕ) → IsGapAt key xs k i → None ≡ found key k xs
   found_not [] k i gap = refl
   found_not (x ∷ xs) k zero gap =
       found_not xs k zero (gap_first x xs k gap)
@@ -100,7 +87,7 @@ module _ {X : Type 0} (key : X → Val) where
   put_at (y ∷ ys) x (suc i) d h g e =
       ap (λ zs. y ∷ zs) (put_at ys x i d h.1 (omega arith) e) ∙ sym (ap (λ o. match_ordering o (y ∷ with_key key x ys) (x ∷ ys) (x ∷ y ∷ ys)) (first_below y ys (key x) i d h (omega arith) e))
 
-  pub put_gap : (xs : List X) (x : X) (i : ℕ) → IsGapAt xs (key x) i → insert xs i x ≡ with_key key x xs
+  pub put_gap : (xs : List X) (x : X) (i : ℕ) → IsGapAt key xs (key x) i → insert xs i x ≡ with_key key x xs
   put_gap [] x zero gap = refl
   put_gap [] x (suc i) gap = absurd (omega (arith, gap.within))
   put_gap (y ∷ ys) x zero gap = sym (ap (λ o. match_ordering o (y ∷ with_key key x ys) (x ∷ ys) (x ∷ y ∷ ys)) (gap.behind 0 y (omega arith) (omega arith)))
@@ -121,7 +108,7 @@ module _ {X : Type 0} (key : X → Val) where
   without_at (x ∷ xs) k (suc i) d h g e =
       ap (λ ys. x ∷ ys) (without_at xs k i d h.1 (omega arith) e) ∙ sym (ap (λ o. match_ordering o (x ∷ without key k xs) (without key k xs) (x ∷ without key k xs)) (first_below x xs k i d h (omega arith) e))
 
-  pub without_gap : (xs : List X) (k : Val) (i : ℕ) → IsGapAt xs k i → xs ≡ without key k xs
+  pub without_gap : (xs : List X) (k : Val) (i : ℕ) → IsGapAt key xs k i → xs ≡ without key k xs
   without_gap [] k i gap = refl
   without_gap (x ∷ xs) k zero gap =
       ap (λ ys. x ∷ ys) (without_gap xs k zero (gap_first x xs k gap))
@@ -129,3 +116,12 @@ module _ {X : Type 0} (key : X → Val) where
   without_gap (x ∷ xs) k (suc i) gap =
       ap (λ ys. x ∷ ys) (without_gap xs k i (gap_rest x xs k i gap))
       ∙ sym (ap (λ o. match_ordering o (x ∷ without key k xs) (without key k xs) (x ∷ without key k xs)) (gap.before 0 x (omega arith) (omega arith)))
+
+  pub has_from_place : (xs : List X) (k : Val) (r : Result ℕ ℕ) → IsAscending key xs → IsPlace key xs k r → is_ok r ≡ is_some (found key k xs)
+  has_from_place [] k (Ok i) h at = absurd (omega (arith, at.within))
+  has_from_place (x ∷ xs) k (Ok i) h at = ap is_some (found_at (x ∷ xs) k i x h at.within (at.same x))
+  has_from_place xs k (Err i) h gap = ap is_some (found_not xs k i gap)
+
+  pub without_key_at : (xs : List X) (k : Val) (i : ℕ) → IsAscending key xs → IsKeyAt key xs k i → remove xs i ≡ without key k xs
+  without_key_at [] k i h at = absurd (omega (arith, at.within))
+  without_key_at (x ∷ xs) k i h at = without_at (x ∷ xs) k i x h at.within (at.same x)

@@ -25,6 +25,11 @@ abbrev pub IsMap : Val → Type 0
 IsMap (map es) = Unit {0}
 IsMap _ = ⊥
 
+abbrev pub IsKeyed : Val → Type 0
+IsKeyed (set vs) = Unit {0}
+IsKeyed (map es) = Unit {0}
+IsKeyed _ = ⊥
+
 -- the items of a vector
 abbrev pub items_of : Val → List Val
 items_of (vector vs) = list_of vs

@@ -8,3 +8,4 @@ pub mod Ascending
 pub mod InOrder
 pub mod Parts
 pub mod Changes
+pub mod Places

@@ -2,6 +2,7 @@
 #![tactic(auto)]
 
 mod change;
+mod keyed;
 mod make;
 mod order;
 mod read;
