@@ -3,3 +3,4 @@ pub mod Total
 pub mod Search
 pub mod Kept
 pub mod Lists
+pub mod Laws
