@@ -3,4 +3,5 @@ pub mod Total
 pub mod Search
 pub mod Kept
 pub mod Lists
-pub mod Laws
+pub mod Found
+pub mod KeyLaws

@@ -9,3 +9,4 @@ pub mod InOrder
 pub mod Parts
 pub mod Changes
 pub mod Places
+pub mod OneKey

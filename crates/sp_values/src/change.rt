@@ -1,5 +1,5 @@
 // Changes of bytes, texts and vectors, in place. What a copy of the value shares is copied first, one level of it.
-ghost use Rattle.std.specs.Prelude.{◌≡◌, ◌++◌, ◌∷◌, [], ◌<◌, length, slice_set, OnOk, OnErr, string_bytes};
+ghost use Rattle.std.specs.Prelude.{◌≡◌, ◌++◌, ◌∷◌, [], ◌<◌, length, slice_set, IfOk, OnOk, OnErr, MatchOption, string_bytes};
 ghost use Rattle.sp_values.specs.Changes.{IsBytes, IsText, IsVector, items_of, with_bytes, with_text, with_last, with_item};
 
 use crate::value::{Node, Value};
@@ -41,6 +41,16 @@ fn assign_in(items: &mut Rc<Vec<Value>>, i: usize, x: Value) -> Result<(), NoMem
     let own = Rc::make_mut(items)?;
     own[i] = x;
     Ok(())
+}
+
+fn pop_from(items: &mut Rc<Vec<Value>>) -> Result<Option<Value>, NoMemory>
+    ensures ok { IfOk result (λ last. MatchOption last
+        ((items.new.value.items ≡ items.old.value.items) × (items.old.value.items ≡ []))
+        (λ x. items.old.value.items ≡ items.new.value.items ++ x ∷ [])) }
+    ensures err { OnErr result (items.new.value.items ≡ items.old.value.items) }
+{
+    let own = Rc::make_mut(items)?;
+    Ok(own.pop())
 }
 
 impl Value {
@@ -91,6 +101,21 @@ impl Value {
     {
         match &mut self.node {
             Node::Vector(items) => assign_in(items, i, x),
+            _ => unreachable!(),
+        }
+    }
+
+    /// Takes the last item of a vector away, and answers it: `None` where there is none. At an error nothing is changed.
+    #[tactic(auto, using(crate::proofs::Lists::list_of_vals_of))]
+    pub fn pop_back(&mut self) -> Result<Option<Value>, NoMemory>
+        requires { IsVector self.old }
+        ensures ok { IfOk result (λ last. MatchOption last
+            ((self.new ≡ self.old) × (items_of self.old ≡ []))
+            (λ x. self.old ≡ with_last self.new x)) }
+        ensures err { OnErr result (self.new ≡ self.old) }
+    {
+        match &mut self.node {
+            Node::Vector(items) => pop_from(items),
             _ => unreachable!(),
         }
     }

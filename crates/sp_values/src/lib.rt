@@ -3,10 +3,12 @@
 
 mod change;
 mod keyed;
+mod laws;
 mod make;
 mod order;
 mod read;
 mod value;
 
+pub use laws::{law_of_keys, law_of_order};
 pub use order::compare;
 pub use value::Value;
