@@ -7,6 +7,8 @@ mod laws;
 mod make;
 mod order;
 mod read;
+#[cfg(test)]
+mod tests;
 mod value;
 
 pub use laws::{law_of_keys, law_of_order};
