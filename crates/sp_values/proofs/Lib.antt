@@ -5,3 +5,4 @@ pub mod Kept
 pub mod Lists
 pub mod Found
 pub mod KeyLaws
+pub mod Equals

@@ -10,3 +10,4 @@ pub mod Parts
 pub mod Changes
 pub mod Places
 pub mod OneKey
+pub mod Alike

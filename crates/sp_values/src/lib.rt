@@ -11,6 +11,6 @@ mod read;
 mod tests;
 mod value;
 
-pub use laws::{law_of_keys, law_of_order};
+pub use laws::{law_of_equality, law_of_keys, law_of_order};
 pub use order::compare;
 pub use value::Value;
