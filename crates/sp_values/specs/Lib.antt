@@ -1,0 +1,13 @@
+pub mod Val
+pub mod Codes
+pub mod Sizes
+pub mod View
+pub mod Falls
+pub mod Order
+pub mod Ascending
+pub mod InOrder
+pub mod Parts
+pub mod Changes
+pub mod Places
+pub mod OneKey
+pub mod Alike
