@@ -81,10 +81,13 @@ takes_half_no g f Half i ss k ts us vs before between after n x y = absurd (y.2.
 takes_half_no g f Refused i ss k ts us vs before between after n x y = λ w τ r. let z = (x.2.1 w).back τ r in y.2 (SECOND ∷ w) refl z.0 z.2
 takes_half_no g f Emptied i ss k ts us vs before between after n x y = λ w τ r. let z = (x.2.1 w).back τ r in let q = (y.2.1 (SECOND ∷ w) refl).back z.0 z.2 in empty_no g i SECOND w q.0 q.2
 
-pub kind_at : (w : List ℕ) (i : ℕ) → AreKinds w → i < length w → get_or w i 0 < SECOND
-kind_at [] i a h = absurd (omega arith)
-kind_at (k ∷ w) zero a h = a.0
-kind_at (k ∷ w) (suc i) a h = kind_at w i a.1 (omega arith)
+kinds_at : (w : List ℕ) (i : ℕ) → AreKinds w → i < length w → get_or w i 0 < SECOND
+kinds_at [] i a h = absurd (omega arith)
+kinds_at (k ∷ w) zero a h = a.0
+kinds_at (k ∷ w) (suc i) a h = kinds_at w i a.1 (omega arith)
+
+pub kind_at : (w : List ℕ) (i k : ℕ) → AreKinds w → i < length w → k ≡ get_or w i 0 → k < SECOND
+kind_at w i k a h e = subst (λ j. j < SECOND) (sym e) (kinds_at w i a h)
 
 pub going_init : (g : Table) (f : Certificate) (n : ℕ) (items before : List Symbol) (events : List Event) → n < length f.height → IsStart f n → items ≡ before ++ Nonterminal n ∷ [] → before ≡ [] → events ≡ [] → Going g f (Nonterminal n ∷ []) [] 0 (reverse items) events
 going_init g f n items before events h s e b v =
@@ -92,14 +95,14 @@ going_init g f n items before events h s e b v =
     (subst (λ ts. Going g f (Nonterminal n ∷ []) [] 0 ts []) (sym (ap reverse (e ∙ ap (λ r. r ++ Nonterminal n ∷ []) b)))
     (going_start g f (Nonterminal n ∷ []) (ready_start f n h s)))
 
-pub takes_as : (g : Table) (f : Certificate) (b d : Bool) (i : ℕ) (ss : List Symbol) (k : ℕ) (ts : List Symbol) (before after : List Event) → b ≡ d → Takes g f b i ss k ts before after → Takes g f d i ss k ts before after
-takes_as g f b d i ss k ts before after e t = subst (λ r. Takes g f r i ss k ts before after) e t
+takes_as : (g : Table) (f : Certificate) (b d : Bool) (i : ℕ) (ss : List Symbol) (k j : ℕ) (ts : List Symbol) (before after : List Event) → b ≡ d → k ≡ j → Takes g f b i ss k ts before after → Takes g f d i ss j ts before after
+takes_as g f b d i ss k j ts before after e q t = subst (λ m. Takes g f d i ss m ts before after) q (subst (λ r. Takes g f r i ss k ts before after) e t)
 
-pub going_next : (g : Table) (f : Certificate) (ss : List Symbol) (ks : List ℕ) (i : ℕ) (ts us : List Symbol) (before after : List Event) (b : Bool) → b ≡ true → i < length ks → Going g f ss (take i ks) i ts before → Takes g f b i ts (get_or ks i 0) us before after → Going g f ss (take (i + 1) ks) (i + 1) us after
-going_next g f ss ks i ts us before after b e h x t =
+pub going_next : (g : Table) (f : Certificate) (ss : List Symbol) (ks : List ℕ) (i k : ℕ) (ts us : List Symbol) (before after : List Event) (b : Bool) → b ≡ true → i < length ks → k ≡ get_or ks i 0 → Going g f ss (take i ks) i ts before → Takes g f b i ts k us before after → Going g f ss (take (i + 1) ks) (i + 1) us after
+going_next g f ss ks i k ts us before after b e h q x t =
     subst (λ j. Going g f ss (take (i + 1) ks) j us after) (omega arith)
     (subst (λ w. Going g f ss w (suc i) us after) (sym (take_more ks i 0 h))
-    (going_more g f ss (take i ks) i (get_or ks i 0) ts us before after x (takes_as g f b true i ts (get_or ks i 0) us before after e t)))
+    (going_more g f ss (take i ks) i (get_or ks i 0) ts us before after x (takes_as g f b true i ts k (get_or ks i 0) us before after e q t)))
 
 take_whole : (ks : List ℕ) → take (length ks) ks ≡ ks
 take_whole [] = refl
@@ -110,14 +113,14 @@ take_on [] i h = absurd (omega arith)
 take_on (k ∷ ks) zero h = refl
 take_on (k ∷ ks) (suc i) h = ap (λ r. k ∷ r) (take_on ks i (omega arith))
 
-pub going_stopped : (g : Table) (f : Certificate) (n : ℕ) (ks : List ℕ) (i : ℕ) (ts us : List Symbol) (events later : List Event) (b : Bool) → b ≡ false → i < length ks → Going g f (Nonterminal n ∷ []) (take i ks) i ts events → Takes g f b i ts (get_or ks i 0) us events later → IsViable g n (take (i + 1) ks) → ⊥
-going_stopped g f n ks i ts us events later b e h x t d = going_refused g f n (take i ks) i (get_or ks i 0) ts us events later x (takes_as g f b false i ts (get_or ks i 0) us events later e t) (subst (λ w. IsViable g n w) (take_more ks i 0 h) d)
+pub going_stopped : (g : Table) (f : Certificate) (n : ℕ) (ks : List ℕ) (i k : ℕ) (ts us : List Symbol) (events later : List Event) (b : Bool) → b ≡ false → i < length ks → k ≡ get_or ks i 0 → Going g f (Nonterminal n ∷ []) (take i ks) i ts events → Takes g f b i ts k us events later → IsViable g n (take (i + 1) ks) → ⊥
+going_stopped g f n ks i k ts us events later b e h q x t d = going_refused g f n (take i ks) i (get_or ks i 0) ts us events later x (takes_as g f b false i ts k (get_or ks i 0) us events later e q t) (subst (λ w. IsViable g n w) (take_more ks i 0 h) d)
 
-pub going_none : (g : Table) (f : Certificate) (n : ℕ) (ks : List ℕ) (i : ℕ) (ts us : List Symbol) (events later : List Event) (b : Bool) → b ≡ false → i < length ks → Going g f (Nonterminal n ∷ []) (take i ks) i ts events → Takes g f b i ts (get_or ks i 0) us events later → (τ : List Event) → Derives g n ks τ → ⊥
-going_none g f n ks i ts us events later b e h x t τ r = going_no_text g f n (take i ks) i (get_or ks i 0) (drop (suc i) ks) ts us events later x (takes_as g f b false i ts (get_or ks i 0) us events later e t) τ (subst (λ w. Derives g n w τ) (take_on ks i h) r)
+pub going_none : (g : Table) (f : Certificate) (n : ℕ) (ks : List ℕ) (i k : ℕ) (ts us : List Symbol) (events later : List Event) (b : Bool) → b ≡ false → i < length ks → k ≡ get_or ks i 0 → Going g f (Nonterminal n ∷ []) (take i ks) i ts events → Takes g f b i ts k us events later → (τ : List Event) → Derives g n ks τ → ⊥
+going_none g f n ks i k ts us events later b e h q x t τ r = going_no_text g f n (take i ks) i (get_or ks i 0) (drop (suc i) ks) ts us events later x (takes_as g f b false i ts k (get_or ks i 0) us events later e q t) τ (subst (λ w. Derives g n w τ) (take_on ks i h) r)
 
-pub going_whole : (g : Table) (f : Certificate) (ss : List Symbol) (ks : List ℕ) (i : ℕ) (ts : List Symbol) (events : List Event) → i ≡ length ks → Going g f ss (take i ks) i ts events → Going g f ss ks (length ks) ts events
-going_whole g f ss ks i ts events e x = subst (λ w. Going g f ss w (length ks) ts events) (take_whole ks) (subst (λ j. Going g f ss (take j ks) j ts events) e x)
+pub going_whole : (g : Table) (f : Certificate) (ss : List Symbol) (ks : List ℕ) (i j : ℕ) (ts : List Symbol) (events : List Event) → i ≡ j → j ≡ length ks → Going g f ss (take i ks) i ts events → Going g f ss ks j ts events
+going_whole g f ss ks i j ts events e q x = subst (λ w. Going g f ss w j ts events) (ap (λ m. take m ks) q ∙ take_whole ks) (subst (λ m. Going g f ss (take m ks) m ts events) e x)
 
 pub going_at : (g : Table) (f : Certificate) (ss : List Symbol) (ks : List ℕ) (i j : ℕ) (ts : List Symbol) (events : List Event) → i ≡ j → Going g f ss (take i ks) i ts events → Going g f ss (take j ks) j ts events
 going_at g f ss ks i j ts events e x = subst (λ m. Going g f ss (take m ks) m ts events) e x

@@ -1,11 +1,12 @@
 // The parser: a stack of symbols that holds what is left of the derivation.
 ghost use Rattle.std.specs.Prelude.{◌≡◌, ℕ, ◌+◌, ◌<◌, ◌≤◌, List, [], ◌∷◌, ◌++◌, length, reverse, take, IfOk, OnOk, IfSome, IfNone, MatchOption, true};
-ghost use Rattle.sp_parser.specs.Grammar.{Table, productions_of, right, predict, takes, taken_of, Tells, Advances, Derivation, Derives, IsViable, AreKinds, SECOND, END};
+ghost use Rattle.sp_parser.specs.Grammar.{Table, productions_of, right, predict, takes, taken_of, Tells, Advances, Derivation, Derives, IsViable, SECOND, END};
 ghost use Rattle.sp_parser.specs.Certificate.{Certificate, Ready, IsStart, Takes};
 ghost use Rattle.sp_parser.specs.Test.{table_test};
 ghost use Rattle.sp_parser.specs.declared.symbol.Event.{Event};
 
 use crate::symbol::{CLOSE, END, Event, GREATER, SECOND, SHIFT, Step, Symbol};
+use crate::tokens::Kinds;
 use sp_base::NoMemory;
 use std::alloc::Global;
 
@@ -110,54 +111,54 @@ fn take_token<G: Grammar>(
 
 /// The length of the longest viable prefix: how many of the tokens begin some text of the nonterminal, at most. Each
 /// token is looked at once.
-pub fn viable_prefix<G: Grammar>(
+pub fn viable_prefix<G: Grammar, K: Kinds>(
     alloc: Global,
     grammar: &G,
     nonterminal: u8,
-    kinds: &[u8],
+    tokens: &K,
 ) -> Result<usize, NoMemory>
     requires nonterminal { nonterminal < length G.certificate.height }
     requires end { IsStart G.certificate nonterminal }
-    requires kinds { AreKinds kinds.now }
-    ensures within { IfOk result (λ n. n ≤ length kinds.now) }
-    ensures begins { IfOk result (λ n. IsViable G.table nonterminal (take n kinds.now)) }
-    ensures longest { IfOk result (λ n. n < length kinds.now → IsViable G.table nonterminal (take (n + 1) kinds.now) → ⊥) }
+    ensures within { IfOk result (λ n. n ≤ length (K.kinds tokens.now)) }
+    ensures begins { IfOk result (λ n. IsViable G.table nonterminal (take n (K.kinds tokens.now))) }
+    ensures longest { IfOk result (λ n. n < length (K.kinds tokens.now) → IsViable G.table nonterminal (take (n + 1) (K.kinds tokens.now)) → ⊥) }
 {
+    let count = tokens.count();
     let mut stack = Vec::new(alloc);
     let mut events = Vec::new(alloc);
     stack.push(Symbol::Nonterminal(nonterminal))?;
-    for (i, kind) in kinds.iter().enumerate() {
-        if !take_token(grammar, &mut stack, &mut events, i, *kind)? {
+    for i in 0..count {
+        if !take_token(grammar, &mut stack, &mut events, i, tokens.kind(i))? {
             return Ok(i);
         }
     }
-    Ok(kinds.len())
+    Ok(count)
 }
 
 /// The marks of the one derivation of the tokens from the nonterminal, in order, or None where there is none. Each token
 /// is looked at once.
-pub fn parse<G: Grammar>(
+pub fn parse<G: Grammar, K: Kinds>(
     alloc: Global,
     grammar: &G,
     nonterminal: u8,
-    kinds: &[u8],
+    tokens: &K,
 ) -> Result<Option<Vec<Event>>, NoMemory>
     requires nonterminal { nonterminal < length G.certificate.height }
     requires end { IsStart G.certificate nonterminal }
-    requires kinds { AreKinds kinds.now }
-    ensures text { IfOk result (λ r. IfSome r (λ v. Derives G.table nonterminal kinds.now v.items)) }
-    ensures only { IfOk result (λ r. IfSome r (λ v. (τ : List Event) → Derives G.table nonterminal kinds.now τ → τ ≡ v.items)) }
-    ensures none { IfOk result (λ r. IfNone r ((τ : List Event) → Derives G.table nonterminal kinds.now τ → ⊥)) }
+    ensures text { IfOk result (λ r. IfSome r (λ v. Derives G.table nonterminal (K.kinds tokens.now) v.items)) }
+    ensures only { IfOk result (λ r. IfSome r (λ v. (τ : List Event) → Derives G.table nonterminal (K.kinds tokens.now) τ → τ ≡ v.items)) }
+    ensures none { IfOk result (λ r. IfNone r ((τ : List Event) → Derives G.table nonterminal (K.kinds tokens.now) τ → ⊥)) }
 {
+    let count = tokens.count();
     let mut stack = Vec::new(alloc);
     let mut events = Vec::new(alloc);
     stack.push(Symbol::Nonterminal(nonterminal))?;
-    for (i, kind) in kinds.iter().enumerate() {
-        if !take_token(grammar, &mut stack, &mut events, i, *kind)? {
+    for i in 0..count {
+        if !take_token(grammar, &mut stack, &mut events, i, tokens.kind(i))? {
             return Ok(None);
         }
     }
-    match step(grammar, &mut stack, &mut events, kinds.len(), END)? {
+    match step(grammar, &mut stack, &mut events, count, END)? {
         Step::Emptied => Ok(Some(events)),
         _ => Ok(None),
     }

@@ -6,9 +6,11 @@ mod entry;
 mod outcome;
 mod symbol;
 mod table;
+mod tokens;
 
 pub use engine::{Grammar, parse, viable_prefix};
 pub use entry::parse_from;
 pub use outcome::Outcome;
 pub use symbol::{CLOSE, END, Event, GREATER, SECOND, SHIFT, Symbol};
 pub use table::{Row, Span, choose_in};
+pub use tokens::Kinds;
