@@ -71,6 +71,10 @@ open(OUT+'/src/terminals.rt','w').write(s)
 s="-- The numbers of the kinds of tokens in the table.\nuse Rattle.std.specs.Prelude.{ℕ}\nuse Rattle.sp_grammar.specs.declared.terminals.Terminal.{Terminal}\nuse Rattle.sp_grammar.specs.declared.terminals.Terminal.TheVariants as kind\n\nabbrev pub terminal_number : Terminal → ℕ\n"
 for n,k,v in tn: s+=f"terminal_number kind.{n} = {v}\n"
 open(OUT+'/specs/Terminals.antt','w').write(s)
+s="-- The numbers of terminals are kinds of tokens, by their cases, which a script writes from tools/grammar.txt.\nuse Rattle.std.specs.Prelude.{map}\nuse Rattle.std.proofs.Common.{◌<◌, List, [], ◌∷◌, lit<}\nuse Rattle.sp_parser.specs.Grammar.{AreKinds, SECOND}\nuse Rattle.sp_grammar.specs.declared.terminals.Terminal.{Terminal}\nuse Rattle.sp_grammar.specs.declared.terminals.Terminal.TheVariants as kind\nuse Rattle.sp_grammar.specs.Terminals.{terminal_number}\n\npub is_kind : (t : Terminal) → terminal_number t < SECOND\n"
+for n,k,v in tn: s+=f"is_kind kind.{n} = lit< tt\n"
+s+="\npub terminals_are_kinds : (terminals : List Terminal) → AreKinds (map terminal_number terminals)\nterminals_are_kinds [] = tt\nterminals_are_kinds (t ∷ terminals) = (is_kind t, terminals_are_kinds terminals)\n"
+open(OUT+'/specs/TerminalKinds.antt','w').write(s)
 cam=lambda m:''.join(x[:1].upper()+x[1:] for x in m.split('_'))
 s="// The marks of the grammar, which a script writes from tools/grammar.txt.\nghost use Rattle.std.specs.Prelude.{◌≡◌, IfSome, IfNone};\nghost use Rattle.sp_grammar.specs.Marks.{mark_number, mark_with};\nghost use Rattle.sp_grammar.specs.declared.marks.Mark.{Mark};\n\n/// What is built where a derivation passes a mark. `Begin` opens a tree. A mark with the name of an alternative closes it, or\n/// makes it of one token or of the trees before it.\n#[derive(Clone, Copy, Debug)]\npub enum Mark {\n"
 for m in MARKS: s+=f"    {cam(m)},\n"

@@ -1,5 +1,5 @@
 -- The list of the marks in the code is that of the definitions, and their numbers are their places in it.
-use Rattle.std.specs.Prelude.{◌==◌, map, Option, Some, None}
+use Rattle.std.specs.Prelude.{◌==◌, map, Some, None}
 use Rattle.std.proofs.Common.{◌≡◌, ◌≤◌, ◌<◌, ◌+◌, ℕ, zero, suc, List, [], ◌∷◌, Bool, true, ◌&&◌, get_or, length, refl, ◌∙◌, arith, lit<}
 use Rattle.std.proofs.lemmas.Bool.{eqb-true, and_parts}
 use Rattle.sp_grammar.specs.declared.marks.Mark.{Mark}

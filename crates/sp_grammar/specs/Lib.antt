@@ -4,5 +4,6 @@ pub mod Own
 pub mod Reads
 pub mod Sets
 pub mod Starts
+pub mod TerminalKinds
 pub mod Terminals
 pub mod Written

@@ -9,7 +9,7 @@ mod terminals;
 #[cfg(test)]
 mod tests;
 
-pub use language::{Language, Start, kinds_of, parse_kinds};
+pub use language::{Language, Start, parse_kinds};
 pub use laws::{grammar_is_unambiguous, table_is_written, table_reads_the_grammar};
 pub use marks::{Mark, mark_of};
 pub use tables::{ROWS, SPANS, SYMBOLS};

@@ -11,7 +11,7 @@ use Rattle.sp_grammar.proofs.Starting.{ends_after, is_part}
 use Rattle.sp_grammar.specs.Starts.{start_number}
 use Rattle.sp_runs.specs.Kinds.{numbers_of}
 use Rattle.sp_runs.specs.Runs.{IsLongestRun, IsText}
-use Rattle.sp_runs.proofs.Below.{are_kinds}
+use Rattle.sp_runs.specs.TokenKinds.{tokens_are_kinds}
 
 kinds_take : (xs : List ℕ) (n : ℕ) → AreKinds xs → AreKinds (take n xs)
 kinds_take [] zero a = tt
@@ -60,7 +60,7 @@ same_place (suc i) (suc j) a b = ap (λ n. suc n) (same_place i j (λ h. a (omeg
 
 pub one_longest : (start : Start) (tokens : List Token) (m n : ℕ) → IsLongestRun start tokens m → IsLongestRun start tokens n → m ≡ n
 one_longest start tokens m n x y =
-    same_place m n (not_longer language (start_number start) (numbers_of tokens) m n (are_kinds tokens) x y) (not_longer language (start_number start) (numbers_of tokens) n m (are_kinds tokens) y x)
+    same_place m n (not_longer language (start_number start) (numbers_of tokens) m n (tokens_are_kinds tokens) x y) (not_longer language (start_number start) (numbers_of tokens) n m (tokens_are_kinds tokens) y x)
 
 pub one_derivation : (start : Start) (tokens : List Token) (m : ℕ) (first second : List Event) → IsText start tokens m first → IsText start tokens m second → first ≡ second
 one_derivation start tokens m first second p q =

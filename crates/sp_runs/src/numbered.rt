@@ -1,42 +1,33 @@
-// The kinds of tokens by their numbers in the table.
-ghost use Rattle.std.specs.Prelude.{◌≡◌, IfOk};
+// Tokens as the parser sees them.
 ghost use Rattle.sp_runs.specs.Kinds.{numbers_of};
+ghost use Rattle.sp_runs.specs.TokenKinds.{tokens_are_kinds};
 
 use crate::terminals::token_number;
-use sp_base::NoMemory;
-use sp_lex::Tokens;
-use std::alloc::Global;
-use std::marker::Model;
+use sp_lex::Token;
+use sp_parser::Kinds;
 
-/// The numbers of the kinds of a text's tokens. They are made once for all that is read from the tokens.
-#[derive(Drop)]
-pub struct Numbers {
-    items: Vec<u8>,
+/// Tokens by the numbers of their kinds in the table. A number is told where it is asked for.
+#[derive(Clone, Copy)]
+pub(crate) struct Numbered<'a> {
+    pub(crate) tokens: &'a [Token],
 }
 
-impl Model for Numbers {
-    ghost use Rattle.std.specs.Prelude.{List, ℕ};
+impl<'a> Kinds for Numbered<'a> {
+    ghost kinds = { λ numbered. numbers_of numbered.tokens.now };
 
-    ghost Value = { List ℕ };
+    fn count(&self) -> usize {
+        self.tokens.len()
+    }
 
-    ghost view = { λ n. n.items.items };
-}
+    fn kind(&self, at: usize) -> u8 {
+        token_number(self.tokens[at])
+    }
 
-impl Numbers {
-    /// The numbers of these tokens.
-    pub fn new(alloc: Global, tokens: &Tokens) -> Result<Numbers, NoMemory>
-        ensures { IfOk result (λ n. n ≡ numbers_of tokens.now.list) }
-    {
-        let mut items = Vec::new(alloc);
-        for token in tokens.as_slice() {
-            items.push(token_number(*token))?;
+    fn part(&self, from: usize, to: usize) -> Self {
+        Numbered {
+            tokens: &self.tokens[from..to],
         }
-        Ok(Numbers { items })
     }
 
-    pub fn as_slice(&self) -> &[u8]
-        ensures { result.now ≡ self.now }
-    {
-        self.items.as_slice()
-    }
+    ghost are_kinds = { λ numbered. tokens_are_kinds numbered.tokens.now };
 }

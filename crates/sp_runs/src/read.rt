@@ -1,10 +1,9 @@
 // Reading from a place on.
 ghost use Rattle.std.specs.Prelude.{◌≡◌, ◌≤◌, length, IfOk, IfErr};
 ghost use Rattle.sp_lex.specs.Faults.{OnDiag};
-ghost use Rattle.sp_runs.specs.Kinds.{numbers_of};
 ghost use Rattle.sp_runs.specs.Runs.{IsRead, IsRefused};
 
-use crate::numbered::Numbers;
+use crate::numbered::Numbered;
 use crate::refusals::refusal;
 use sp_grammar::{Start, parse_kinds};
 use sp_lex::{ReadFault, Tokens};
@@ -22,23 +21,24 @@ pub struct Parsed {
 
 /// Reads the longest run of tokens from `at` on that begins some text of this kind. Where the run is such a text, the
 /// answer is its marks and the place behind it. Where it is none, the refusal is at the next token, or at the end of the
-/// text: M30 where that token is a word out of profile, and else M3. The numbers are those of the tokens. Each token of
-/// the run is looked at twice, and none behind the run but the next.
+/// text: M30 where that token is a word out of profile, and else M3. Each token of the run is looked at twice, and none
+/// behind the run but the next.
 pub fn read_from(
     alloc: Global,
     tokens: &Tokens,
-    numbers: &Numbers,
     start: Start,
     at: u32,
 ) -> Result<Parsed, ReadFault>
-    requires numbers { numbers.now ≡ numbers_of tokens.now.list }
     requires at { at ≤ length tokens.now.list }
     ensures read { IfOk result (λ p. IsRead start tokens.now.list at p.events.items p.to) }
     ensures inside { IfErr result (OnDiag (λ span _. span.from ≤ length tokens.now.text)) }
     ensures refused { IfErr result (OnDiag (λ span kind. IsRefused start tokens.now.list at (length tokens.now.text) span kind)) }
 {
     tokens.are_of_their_text();
-    match parse_kinds(alloc, start, numbers.as_slice(), at as usize)? {
+    let numbered = Numbered {
+        tokens: tokens.as_slice(),
+    };
+    match parse_kinds(alloc, start, &numbered, at as usize)? {
         Outcome::Text(events, to) => Ok(Parsed {
             events,
             to: to as u32,

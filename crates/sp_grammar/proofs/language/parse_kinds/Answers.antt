@@ -5,7 +5,7 @@ use Rattle.sp_grammar.proofs.Starting.{ends_after, is_part}
 use Rattle.sp_grammar.proofs.language.parse_kinds.Goals as goal
 
 pub parse_from-requires-clause-nonterminal : goal.parse_from-requires-clause-nonterminal
-parse_from-requires-clause-nonterminal c = subst (λ n. n < length language_sets.height) (sym c.number.ensures) (is_part c.args.start)
+parse_from-requires-clause-nonterminal g c = subst (λ n. n < length language_sets.height) (sym c.number.ensures) (is_part c.args.start)
 
 pub parse_from-requires-clause-end : goal.parse_from-requires-clause-end
-parse_from-requires-clause-end c = subst (λ n. IsStart language_sets n) (sym c.number.ensures) (ends_after c.args.start)
+parse_from-requires-clause-end g c = subst (λ n. IsStart language_sets n) (sym c.number.ensures) (ends_after c.args.start)
