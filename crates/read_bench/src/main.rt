@@ -1,10 +1,13 @@
-//! Reads the statements of the text on standard input one behind the other, and counts them, for measurements.
+//! Reads the statements of the text on standard input one behind the other, and counts them, for measurements. With the
+//! word `trees` it makes their trees, and without it no more than their marks, which it counts too.
 #![tactic(auto)]
 
 use sp_grammar::Start;
-use sp_lex::{ReadFault, lex};
-use sp_runs::{Numbers, read_from};
+use sp_lex::{ReadFault, Tokens, lex};
+use sp_read_expr::read_stmt;
+use sp_runs::read_from;
 use std::alloc::Global;
+use std::env;
 use std::io;
 use std::io::Read;
 
@@ -19,9 +22,8 @@ struct Counts {
     marks: u64,
 }
 
-fn count(alloc: Global, source: &[u8]) -> Result<Counts, ReadFault> {
-    let tokens = lex(alloc, source)?;
-    let numbers = Numbers::new(alloc, &tokens)?;
+/// Counts the statements and their marks.
+fn count_marks(alloc: Global, tokens: &Tokens) -> Result<Counts, ReadFault> {
     let mut statements: u64 = 0;
     let mut marks: u64 = 0;
     let mut at: u32 = 0;
@@ -29,7 +31,7 @@ fn count(alloc: Global, source: &[u8]) -> Result<Counts, ReadFault> {
         if at as usize >= tokens.len() {
             break;
         }
-        let parsed = read_from(alloc, &tokens, &numbers, Start::Stmt, at)?;
+        let parsed = read_from(alloc, tokens, Start::Stmt, at)?;
         statements = statements.saturating_add(1);
         marks = marks.saturating_add(parsed.events.len() as u64);
         at = parsed.to;
@@ -41,10 +43,39 @@ fn count(alloc: Global, source: &[u8]) -> Result<Counts, ReadFault> {
     })
 }
 
+/// Counts the statements, of each of which the tree is made.
+fn count_trees(alloc: Global, tokens: &Tokens) -> Result<Counts, ReadFault> {
+    let mut statements: u64 = 0;
+    let mut at: u32 = 0;
+    for _ in 0..tokens.len() {
+        if at as usize >= tokens.len() {
+            break;
+        }
+        let (_, to) = read_stmt(alloc, tokens, at)?;
+        statements = statements.saturating_add(1);
+        at = to;
+    }
+    Ok(Counts {
+        tokens: tokens.len(),
+        statements,
+        marks: 0,
+    })
+}
+
+fn count(alloc: Global, source: &[u8], trees: bool) -> Result<Counts, ReadFault> {
+    let tokens = lex(alloc, source)?;
+    if trees {
+        count_trees(alloc, &tokens)
+    } else {
+        count_marks(alloc, &tokens)
+    }
+}
+
 fn main(rt: HostRuntime) -> io::Result<()> {
+    let trees = env::args(&rt)?.skip(1).any(|word| word.as_str() == "trees");
     let mut source = Vec::new(rt.alloc());
     rt.stdin().take(LONGEST).read_to_end(&mut source)?;
-    match count(rt.alloc(), source.as_slice()) {
+    match count(rt.alloc(), source.as_slice(), trees) {
         Ok(counts) => {
             println!(rt;
                 "{} tokens, {} statements, {} marks",

@@ -9,7 +9,7 @@ use sp_ast::{Expr, Stmt, Tree, TypeTree};
 use sp_build::{build, every_text_is_built};
 use sp_grammar::Start;
 use sp_lex::{ReadFault, Tokens};
-use sp_runs::{Numbers, read_from};
+use sp_runs::read_from;
 use std::alloc::Global;
 
 /// Reads the longest run of tokens from `at` on that begins some text of this kind. Where the run is such a text, the
@@ -27,8 +27,7 @@ pub fn read_tree(
     ensures refused { IfErr result (OnDiag (λ span kind. IsRefused start tokens.now.list at (length tokens.now.text) span kind)) }
 {
     every_text_is_built();
-    let numbers = Numbers::new(alloc, tokens)?;
-    let parsed = read_from(alloc, tokens, &numbers, start, at)?;
+    let parsed = read_from(alloc, tokens, start, at)?;
     let tree = build(alloc, tokens, at as usize, parsed.events.as_slice())?;
     Ok((tree, parsed.to))
 }

@@ -8,7 +8,7 @@
 use sp_base::{Place, place_of};
 use sp_grammar::{Mark, Start, mark_of};
 use sp_lex::{ReadFault, Token, lex};
-use sp_runs::{Numbers, Parsed, read_from};
+use sp_runs::{Parsed, read_from};
 use std::alloc::{AllocError, Global};
 use std::io;
 
@@ -63,16 +63,14 @@ fn read(alloc: Global, source: &[u8], start: Start, at: u32) -> Result<u32, Read
     if at as usize > tokens.len() {
         return Ok(0);
     }
-    let numbers = Numbers::new(alloc, &tokens)?;
-    let parsed = read_from(alloc, &tokens, &numbers, start, at)?;
+    let parsed = read_from(alloc, &tokens, start, at)?;
     Ok(byte_at(source, tokens.as_slice(), parsed.to))
 }
 
 /// What is read of the text.
 fn parsed(alloc: Global, source: &[u8], start: Start) -> Result<Parsed, ReadFault> {
     let tokens = lex(alloc, source)?;
-    let numbers = Numbers::new(alloc, &tokens)?;
-    read_from(alloc, &tokens, &numbers, start, 0)
+    read_from(alloc, &tokens, start, 0)
 }
 
 /// The marks of the text's derivation by their names.
