@@ -7,9 +7,8 @@ use sp_lex::{ReadFault, Tokens, lex};
 use sp_read_expr::read_stmt;
 use sp_runs::read_from;
 use std::alloc::Global;
-use std::env;
-use std::io;
 use std::io::Read;
+use std::{env, io};
 
 /// More bytes than a module may have, so that a longer one is seen to be too large.
 const LONGEST: u64 = 1_048_577;

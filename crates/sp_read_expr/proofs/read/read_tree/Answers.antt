@@ -1,4 +1,4 @@
-use Rattle.std.proofs.Common.{◌≡◌, drop, sym, subst}
+use Rattle.std.proofs.Common.{drop, sym, subst}
 use Rattle.sp_build.specs.Building.{IsBuilt}
 use Rattle.sp_read_expr.proofs.Trees.{tree_read}
 use Rattle.sp_read_expr.proofs.read.read_tree.Goals as goal
