@@ -2,7 +2,7 @@ use Rattle.sp_lex.specs.Faults.{OnDiag}
 use Rattle.sp_read_unit.proofs.Whole.{passed_on}
 use Rattle.sp_spicyc.specs.Files.{IsUnreadable}
 use Rattle.sp_spicyc.proofs.Endings.{unreadable_by, module_unreadable}
-use Rattle.sp_spicyc.proofs.files.accept_text.Goals as goal
+use Rattle.sp_spicyc.proofs.files.module_of.Goals as goal
 
 pub returns-in_err-tokens-clause-unreadable : goal.returns-in_err-tokens-clause-unreadable
 returns-in_err-tokens-clause-unreadable c =
