@@ -112,9 +112,9 @@ one_fault text first second k m a b =
 
 -- no text that reads is refused
 not_both : (text : List ℕ) (tree : Tree) (span : Span) (kind : MKind) → IsModuleOf text tree → IsUnreadable text span kind → ⊥
-not_both text tree span kind (tokens, are, marks, is, rest) b =
+not_both text tree span kind (tokens, are, unit) b =
     ⊎_elim (λ x. are.right span kind x.0)
-    (λ y. let read : IsModuleText tokens = (marks, is) in y.2.2 (subst (λ ts. IsModuleText ts) (one_list text tokens y.0 are y.1) read)) b
+    (λ y. let read : IsModuleText tokens = (unit.0, unit.1) in y.2.2 (subst (λ ts. IsModuleText ts) (one_list text tokens y.0 are y.1) read)) b
 
 abbrev Told : Type 0
 Told = List ℕ → Option (List ℕ)
@@ -200,10 +200,7 @@ done text = record { status = 0; out = text; err = [] }
 one_wanted : (o : Option Words) (a b : Words) → o ≡ Some a → o ≡ Some b → a ≡ b
 one_wanted o a b x y = let e : Some a ≡ Some b = sym x ∙ y in cc
 
-nabbrev done : List ℕ → Answer
-done text = record { status = 0; out = text; err = [] }
-
-one_wanted : (o : Option Words) (a : Words) → o ≡ None → o ≡ Some a → ⊥
+none_wanted : (o : Option Words) (a : Words) → o ≡ None → o ≡ Some a → ⊥
 none_wanted o a x y = let e : None ≡ Some a = sym x ∙ y in cc
 
 pub one_answer : (words : List (List ℕ)) (files : Told) (first second : Answer) → IsAnswer words files first → IsAnswer words files second → first ≡ second

@@ -3,6 +3,8 @@ use Rattle.std.specs.Prelude.{◌≡◌, ◌<◌, ◌⊎◌, ℕ, List, [], ◌+
 use Rattle.sp_ast.specs.Trees.{Tree}
 use Rattle.sp_base.specs.Kinds.{module_kind_name, module_kind_number}
 use Rattle.sp_io.specs.Moved.{appended}
+use Rattle.sp_io.specs.declared.traits.OutFault.{OutFault}
+use Rattle.sp_io.specs.declared.traits.OutFault.TheVariants as out_fault
 use Rattle.sp_spicyc.specs.declared.exits.Exit.{Exit}
 use Rattle.sp_spicyc.specs.declared.exits.Refusal.{Refusal}
 use Rattle.sp_spicyc.specs.declared.exits.Unread.{Unread}
@@ -61,6 +63,16 @@ IsFront xs ys = (rest : List ℕ) × (ys ≡ xs ++ rest)
 -- a front of these bytes was put
 abbrev pub IsPartPut : Option (List ℕ) → Option (List ℕ) → List ℕ → Type 0
 IsPartPut before after bytes = (front : List ℕ) × IsFront front bytes × (after ≡ appended before front)
+
+-- the status where an output was not written
+abbrev pub failure_status : OutFault → ℕ
+failure_status out_fault.Failed = 5
+failure_status out_fault.NoMemory = 7
+
+-- whether the count of faults rose where an output was not written
+abbrev pub PutCause : ℕ → ℕ → OutFault → Type 0
+PutCause before after out_fault.Failed = before < after
+PutCause before after out_fault.NoMemory = after ≡ before
 
 -- what was put to the output and to the output for messages, where they tell it, and how often they failed
 pub record Outputs : Type 0 where

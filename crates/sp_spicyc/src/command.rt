@@ -1,11 +1,10 @@
 // The program: it reads its words and the files, and answers a status.
 ghost use Rattle.std.specs.Prelude.{◌≡◌, ◌<◌, ◌-◌, ◌^◌, ◌++◌, decimal, IfOk, OnOk, OnErr, MatchResult};
 ghost use Rattle.sp_io.specs.Moved.{appended};
-ghost use Rattle.sp_io.specs.Causes.{OutCause};
 ghost use Rattle.sp_spicyc.specs.declared.exits.Exit.{Exit};
 ghost use Rattle.sp_spicyc.specs.Causes.{IsCausedBy};
 ghost use Rattle.sp_spicyc.specs.Whole.{IsAnswered};
-ghost use Rattle.sp_spicyc.specs.Command.{Says, ExitCause, IsPartPut, Reported, status_of, output_of, message_of, refusal_text};
+ghost use Rattle.sp_spicyc.specs.Command.{Says, ExitCause, IsPartPut, PutCause, Reported, failure_status, status_of, output_of, message_of, refusal_text};
 
 use crate::exits::{Exit, Refusal, Unread};
 use crate::files::read_files;
@@ -79,16 +78,33 @@ fn status(exit: &Exit) -> u8
     }
 }
 
-/// Puts what an exit writes to the output.
-fn put_output<O: Out>(exit: &Exit, out: &mut O) -> Result<(), OutFault>
+/// The status where an output was not written.
+fn failure_status(fault: &OutFault) -> u8
+    ensures { result ≡ failure_status fault.now }
+{
+    match fault {
+        OutFault::Failed => 5,
+        OutFault::NoMemory => 7,
+    }
+}
+
+/// Puts a text. After a fault a front of it was put.
+fn put_text<O: Out>(out: &mut O, text: &[u8]) -> Result<(), OutFault>
     requires { O.faults out.old < 2 ^ 64 - 1 }
-    ensures held { OnOk result (O.held out.new ≡ appended (O.held out.old) (output_of exit.now)) }
-    ensures part { OnErr result (IsPartPut (O.held out.old) (O.held out.new) (output_of exit.now)) }
-    ensures cause { MatchResult result (λ _. O.faults out.new ≡ O.faults out.old) (OutCause (O.faults out.old) (O.faults out.new)) }
+    ensures held { OnOk result (O.held out.new ≡ appended (O.held out.old) text.now) }
+    ensures part { OnErr result (IsPartPut (O.held out.old) (O.held out.new) text.now) }
+    ensures cause { MatchResult result (λ _. O.faults out.new ≡ O.faults out.old) (PutCause (O.faults out.old) (O.faults out.new)) }
+{
+    put_all(out, text)
+}
+
+/// What an exit writes to the output.
+fn output(exit: &Exit) -> &[u8]
+    ensures { result.now ≡ output_of exit.now }
 {
     match exit {
-        Exit::Done(text) => put_all(out, text.as_slice()),
-        Exit::Usage | Exit::Unread(_) => Ok(()),
+        Exit::Done(text) => text.as_slice(),
+        Exit::Usage | Exit::Unread(_) => &[],
     }
 }
 
@@ -103,15 +119,13 @@ fn report<O: Out, E: Out>(alloc: Global, exit: &Exit, out: &mut O, err: &mut E) 
     let Ok(message) = message(alloc, exit) else {
         return 7;
     };
-    let put = match put_output(exit, out) {
-        Ok(()) => put_all(err, message.as_slice()),
-        Err(fault) => Err(fault),
-    };
-    match put {
-        Ok(()) => status(exit),
-        Err(OutFault::Failed) => 5,
-        Err(OutFault::NoMemory) => 7,
+    if let Err(fault) = put_text(out, output(exit)) {
+        return failure_status(&fault);
     }
+    if let Err(fault) = put_text(err, message.as_slice()) {
+        return failure_status(&fault);
+    }
+    status(exit)
 }
 
 /// Reads the files that the words name as modules, in their order, writes their canonical texts to `out` where the words

@@ -31,7 +31,8 @@ fn module_of(alloc: Global, text: &[u8]) -> Result<Module, ReadFault>
     ensures unreadable { IfErr result (OnDiag (IsUnreadable text.now)) }
 {
     let tokens = lex(alloc, text)?;
-    read_module(alloc, &tokens)
+    let module = read_module(alloc, &tokens)?;
+    Ok(module)
 }
 
 /// The module of the text of the file at the path.
@@ -97,9 +98,9 @@ pub fn read_files<M: Modules>(
     let mut text = ByteList::new(alloc);
     for path in paths {
         let module = read_file(alloc, path.as_str(), modules)?;
-        if append_printed(alloc, print, &module, &mut text).is_err() {
+        let Ok(()) = append_printed(alloc, print, &module, &mut text) else {
             return Err(Unread::NoMemory);
-        }
+        };
     }
     Ok(text)
 }
