@@ -35,7 +35,7 @@ pub(crate) enum Start {
 
 impl TokenKind {
     /// Whether a `/` behind a token of this kind divides. Behind all others it begins a regular expression.
-    pub(crate) fn ends_operand(self) -> bool
+    pub fn ends_operand(self) -> bool
         ensures { result ≡ ends_operand self }
     {
         match self {

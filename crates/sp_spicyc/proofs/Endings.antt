@@ -11,11 +11,12 @@ use Rattle.sp_lex.specs.Faults.{OnDiag, IsFault, GoesBefore}
 use Rattle.sp_lex.specs.declared.tokens.ReadFault.{ReadFault}
 use Rattle.sp_lex.specs.declared.tokens.ReadFault.TheVariants as fault
 use Rattle.sp_lex.specs.Lexed.{Lexed}
-use Rattle.sp_read_unit.specs.Modules.{IsModuleRefused}
+use Rattle.sp_ast.specs.Trees.{Tree}
+use Rattle.sp_read_unit.specs.Modules.{IsModuleTree, IsModuleRefused}
 use Rattle.sp_io.specs.Moved.{appended}
 use Rattle.sp_spicyc.specs.declared.exits.Unread.{Unread}
 use Rattle.sp_spicyc.specs.Command.{IsPartPut}
-use Rattle.sp_spicyc.specs.Files.{AreTokens, Holds, IsStopped, IsUnreadable, refused_at, place_in}
+use Rattle.sp_spicyc.specs.Files.{AreTokens, IsModuleOf, Holds, IsStopped, IsUnreadable, refused_at, place_in}
 use Rattle.sp_spicyc.specs.Loads.{IsTextUnread, IsRefusalOrNoMemory}
 
 -- the content that was read is that of the file, where the files are told
@@ -39,6 +40,10 @@ pub unreadable_by : (text : List ℕ) (f : ReadFault) → OnDiag (λ span kind. 
     → OnDiag (λ span kind. (other : Span) (other_kind : MKind) → IsFault text other other_kind → GoesBefore span kind other other_kind) f → OnDiag (λ span kind. IsUnreadable text span kind) f
 unreadable_by text (fault.Diag span kind) is least = inl (is, least)
 unreadable_by text fault.NoMemory is least = tt
+
+-- the tree of right tokens is that of the text
+pub module_by : (text : List ℕ) (lexed : Lexed) (tree : Tree) → lexed.text ≡ text → AreTokens text lexed.list → IsModuleTree lexed tree → IsModuleOf text tree
+module_by text lexed tree same right is = (lexed.list, right, subst (λ bytes. IsModuleTree (record { text = bytes; list = lexed.list }) tree) same is)
 
 -- the refusal of the module makes a text with right tokens unreadable
 pub module_unreadable : (text : List ℕ) (lexed : Lexed) (f : ReadFault) → lexed.text ≡ text → AreTokens text lexed.list → OnDiag (λ span kind. IsModuleRefused lexed.list (length lexed.text) span kind) f → OnDiag (λ span kind. IsUnreadable text span kind) f

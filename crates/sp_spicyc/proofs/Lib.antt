@@ -3,3 +3,4 @@ pub mod Endings
 pub mod Orders
 pub mod Single
 pub mod Wholes
+pub mod Reports

@@ -1,6 +1,5 @@
 -- The answer of a call is one.
 use Rattle.std.proofs.Common.{◌≡◌, ℕ, List, [], ◌∷◌, ◌++◌, length, drop, get_or, Option, Some, None, sym, ap, ◌∙◌, refl, subst, arith, ⊎_elim}
-use Rattle.std.specs.List.{AllByRecursion}
 use Rattle.sp_base.specs.Kinds.{module_kind_number}
 use Rattle.sp_base.specs.declared.kinds.MKind.{MKind}
 use Rattle.sp_base.specs.declared.kinds.MKind.TheVariants as module_kind
@@ -11,9 +10,14 @@ use Rattle.sp_lex.specs.Readings.{Reading, Ends, Stops, Reads as ReadsToken, who
 use Rattle.sp_grammar.specs.declared.language.Start.TheVariants.{Module}
 use Rattle.sp_runs.specs.Runs.{refused_at as run_refused_at, refused_with}
 use Rattle.sp_runs.proofs.Unique.{one_longest}
-use Rattle.sp_read_unit.specs.Modules.{IsModuleText, IsModuleRefused}
+use Rattle.sp_lex.specs.Lexed.{Lexed}
+use Rattle.sp_ast.specs.Trees.{Tree}
+use Rattle.sp_build.specs.declared.stack.Item.TheVariants.{Built as built}
+use Rattle.sp_build.specs.Building.{IsBuilt}
+use Rattle.sp_read_unit.specs.Modules.{IsModuleText, IsModuleTree, IsModuleRefused}
+use Rattle.sp_read_unit.proofs.Whole.{one_module}
 use Rattle.sp_spicyc.specs.declared.exits.Refusal.{Refusal}
-use Rattle.sp_spicyc.specs.Files.{AreTokens, IsReadable, IsUnreadable, IsRefused, Reads, Refuses, place_in, refused_at}
+use Rattle.sp_spicyc.specs.Files.{AreTokens, IsModuleOf, IsUnreadable, IsRefused, Reads, AllRead, printed, Refuses, place_in, refused_at}
 use Rattle.sp_spicyc.specs.Command.{refusal_text}
 use Rattle.sp_spicyc.specs.Whole.{Answer, IsAnswer, IsFirstRefusal}
 use Rattle.sp_spicyc.specs.Words.{Words, words_of}
@@ -107,18 +111,48 @@ one_fault text first second k m a b =
     a
 
 -- no text that reads is refused
-not_both : (text : List ℕ) (span : Span) (kind : MKind) → IsReadable text → IsUnreadable text span kind → ⊥
-not_both text span kind (tokens, are, unit) b =
+not_both : (text : List ℕ) (tree : Tree) (span : Span) (kind : MKind) → IsModuleOf text tree → IsUnreadable text span kind → ⊥
+not_both text tree span kind (tokens, are, unit) b =
     ⊎_elim (λ x. are.right span kind x.0)
-    (λ y. y.2.2 (subst (λ ts. IsModuleText ts) (one_list text tokens y.0 are y.1) unit)) b
+    (λ y. let read : IsModuleText tokens = (unit.0, unit.1) in y.2.2 (subst (λ ts. IsModuleText ts) (one_list text tokens y.0 are y.1) read)) b
 
 abbrev Told : Type 0
 Told = List ℕ → Option (List ℕ)
 
-reads_or_refused : (files : Told) (path : List ℕ) (refusal : Refusal) → Reads (Some files) path → Refuses (Some files) path refusal → ⊥
-reads_or_refused files path refusal (text, holds, is) (content, held, refused) =
+reads_or_refused : (files : Told) (path : List ℕ) (tree : Tree) (refusal : Refusal) → Reads (Some files) path tree → Refuses (Some files) path refusal → ⊥
+reads_or_refused files path tree refusal (text, holds, is) (content, held, refused) =
     let r : IsRefused path (Some text) refusal = subst (λ c. IsRefused path c refusal) (held ∙ sym holds) refused in
-    not_both text r.0 r.1 is r.2
+    not_both text tree r.0 r.1 is r.2
+
+-- a text has one tree
+same_tree : (t u : Tree) → Some (built t ∷ []) ≡ Some (built u ∷ []) → t ≡ u
+same_tree t u e = cc
+
+tree_of_tokens : (lexed : Lexed) (t u : Tree) → IsModuleTree lexed t → IsModuleTree lexed u → t ≡ u
+tree_of_tokens lexed t u x y =
+    let e = one_module lexed.list x.0 y.0 x.1 y.1 in
+    let z : IsBuilt lexed.text lexed.list y.0 t = subst (λ marks. IsBuilt lexed.text lexed.list marks t) e x.2 in
+    same_tree t u (sym z ∙ y.2)
+
+one_tree : (text : List ℕ) (t u : Tree) → IsModuleOf text t → IsModuleOf text u → t ≡ u
+one_tree text t u x y =
+    let e = one_list text y.0 x.0 y.1 x.1 in
+    tree_of_tokens (record { text = text; list = x.0 }) t u x.2 (subst (λ tokens. IsModuleTree (record { text = text; list = tokens }) u) e y.2)
+
+one_reading : (files : Told) (path : List ℕ) (t u : Tree) → Reads (Some files) path t → Reads (Some files) path u → t ≡ u
+one_reading files path t u (text, holds, is) (other, held, reads) =
+    let e : Some other ≡ Some text = held ∙ sym holds in
+    let same : other ≡ text = cc in
+    one_tree text t u is (subst (λ x. IsModuleOf x u) same reads)
+
+one_list_of_trees : (files : Told) (paths : List (List ℕ)) (ts us : List Tree) → AllRead (Some files) paths ts → AllRead (Some files) paths us → ts ≡ us
+one_list_of_trees files [] [] [] x y = refl
+one_list_of_trees files [] [] (u ∷ us) x y = absurd y
+one_list_of_trees files [] (t ∷ ts) us x y = absurd x
+one_list_of_trees files (p ∷ paths) [] us x y = absurd x
+one_list_of_trees files (p ∷ paths) (t ∷ ts) [] x y = absurd y
+one_list_of_trees files (p ∷ paths) (t ∷ ts) (u ∷ us) x y =
+    let first = one_reading files p t u x.0 y.0 in let rest = one_list_of_trees files paths ts us x.1 y.1 in cc
 
 refused_once : (path : List ℕ) (content : Option (List ℕ)) (first second : Refusal) → IsRefused path content first → IsRefused path content second → first ≡ second
 refused_once path None first second a b = a ∙ sym b
@@ -130,28 +164,38 @@ one_refusal : (files : Told) (path : List ℕ) (first second : Refusal) → Refu
 one_refusal files path first second (content, held, a) (other, holds, b) =
     refused_once path content first second a (subst (λ c. IsRefused path c second) (holds ∙ sym held) b)
 
--- the first of which something does not hold
-one_first : (P : List ℕ → Type 0) (before before' after after' : List (List ℕ)) (path path' : List ℕ) → before ++ path ∷ after ≡ before' ++ path' ∷ after'
-    → AllByRecursion P before → AllByRecursion P before' → (P path → ⊥) → (P path' → ⊥) → path ≡ path'
-one_first P [] [] after after' path path' e a a' n n' = cc
-one_first P [] (y ∷ before') after after' path path' e a a' n n' = let same : y ≡ path = cc in absurd (n (subst (λ p. P p) same a'.0))
-one_first P (x ∷ before) [] after after' path path' e a a' n n' = let same : x ≡ path' = cc in absurd (n' (subst (λ p. P p) same a.0))
-one_first P (x ∷ before) (y ∷ before') after after' path path' e a a' n n' =
+-- the first that doesn't read
+one_first : (files : Told) (before before' after after' : List (List ℕ)) (ts us : List Tree) (path path' : List ℕ) → before ++ path ∷ after ≡ before' ++ path' ∷ after'
+    → AllRead (Some files) before ts → AllRead (Some files) before' us → ((t : Tree) → Reads (Some files) path t → ⊥) → ((t : Tree) → Reads (Some files) path' t → ⊥) → path ≡ path'
+one_first files [] [] after after' ts us path path' e a a' n n' = cc
+one_first files [] (y ∷ before') after after' ts [] path path' e a a' n n' = absurd a'
+one_first files [] (y ∷ before') after after' ts (u ∷ us) path path' e a a' n n' = let same : y ≡ path = cc in absurd (n u (subst (λ p. Reads (Some files) p u) same a'.0))
+one_first files (x ∷ before) [] after after' [] us path path' e a a' n n' = absurd a
+one_first files (x ∷ before) [] after after' (t ∷ ts) us path path' e a a' n n' = let same : x ≡ path' = cc in absurd (n' t (subst (λ p. Reads (Some files) p t) same a.0))
+one_first files (x ∷ before) (y ∷ before') after after' [] us path path' e a a' n n' = absurd a
+one_first files (x ∷ before) (y ∷ before') after after' (t ∷ ts) [] path path' e a a' n n' = absurd a'
+one_first files (x ∷ before) (y ∷ before') after after' (t ∷ ts) (u ∷ us) path path' e a a' n n' =
     let rest : before ++ path ∷ after ≡ before' ++ path' ∷ after' = cc in
-    one_first P before before' after after' path path' rest a.1 a'.1 n n'
+    one_first files before before' after after' ts us path path' rest a.1 a'.1 n n'
 
-at_reached : (P : List ℕ → Type 0) (before after : List (List ℕ)) (path : List ℕ) → AllByRecursion P (before ++ path ∷ after) → P path
-at_reached P [] after path a = a.0
-at_reached P (x ∷ before) after path a = at_reached P before after path a.1
+at_reached : (files : Told) (before after : List (List ℕ)) (ts : List Tree) (path : List ℕ) → AllRead (Some files) (before ++ path ∷ after) ts → (t : Tree) × Reads (Some files) path t
+at_reached files [] after [] path a = absurd a
+at_reached files [] after (t ∷ ts) path a = (t, a.0)
+at_reached files (x ∷ before) after [] path a = absurd a
+at_reached files (x ∷ before) after (t ∷ ts) path a = at_reached files before after ts path a.1
 
 one_first_refusal : (files : Told) (paths : List (List ℕ)) (first second : Refusal) → IsFirstRefusal files paths first → IsFirstRefusal files paths second → first ≡ second
 one_first_refusal files paths first second (p, reached, r) (q, reaches, s) =
-    let same : q ≡ p = one_first (Reads (Some files)) reaches.0 reached.0 reaches.1 reached.1 q p (sym reaches.2 ∙ reached.2) reaches.3 reached.3 (λ x. reads_or_refused files q second x s) (λ x. reads_or_refused files p first x r) in
+    let same : q ≡ p = one_first files reaches.0 reached.0 reaches.1 reached.1 reaches.2 reached.2 q p (sym reaches.3 ∙ reached.3) reaches.4 reached.4 (λ t x. reads_or_refused files q t second x s) (λ t x. reads_or_refused files p t first x r) in
     one_refusal files p first second r (subst (λ path. Refuses (Some files) path second) same s)
 
-all_or_refused : (files : Told) (paths : List (List ℕ)) (refusal : Refusal) → AllByRecursion (Reads (Some files)) paths → IsFirstRefusal files paths refusal → ⊥
-all_or_refused files paths refusal all (p, reached, r) =
-    reads_or_refused files p refusal (at_reached (Reads (Some files)) reached.0 reached.1 p (subst (λ ps. AllByRecursion (Reads (Some files)) ps) reached.2 all)) r
+all_or_refused : (files : Told) (paths : List (List ℕ)) (ts : List Tree) (refusal : Refusal) → AllRead (Some files) paths ts → IsFirstRefusal files paths refusal → ⊥
+all_or_refused files paths ts refusal all (p, reached, r) =
+    let read = at_reached files reached.0 reached.1 ts p (subst (λ ps. AllRead (Some files) ps ts) reached.3 all) in
+    reads_or_refused files p read.0 refusal read.1 r
+
+abbrev done : List ℕ → Answer
+done text = record { status = 0; out = text; err = [] }
 
 one_wanted : (o : Option Words) (a b : Words) → o ≡ Some a → o ≡ Some b → a ≡ b
 one_wanted o a b x y = let e : Some a ≡ Some b = sym x ∙ y in cc
@@ -162,19 +206,21 @@ none_wanted o a x y = let e : None ≡ Some a = sym x ∙ y in cc
 pub one_answer : (words : List (List ℕ)) (files : Told) (first second : Answer) → IsAnswer words files first → IsAnswer words files second → first ≡ second
 one_answer words files first second a b =
     ⊎_elim
-    (λ x. ⊎_elim (λ y. x.1 ∙ sym y.1) (λ z. ⊎_elim (λ y. absurd (none_wanted (words_of words) y.0 x.0 y.2)) (λ y. absurd (none_wanted (words_of words) y.0 x.0 y.1)) z) b)
+    (λ x. ⊎_elim (λ y. x.1 ∙ sym y.1) (λ z. ⊎_elim (λ y. absurd (none_wanted (words_of words) y.0 x.0 y.2)) (λ y. absurd (none_wanted (words_of words) y.0 x.0 y.2)) z) b)
     (λ w. ⊎_elim
     (λ x. ⊎_elim (λ y. absurd (none_wanted (words_of words) x.0 y.0 x.2))
     (λ z. ⊎_elim
     (λ y. let same = one_wanted (words_of words) y.0 x.0 y.2 x.2 in
     let r : IsFirstRefusal files x.0.files y.1 = subst (λ w. let v : Words = w in IsFirstRefusal files v.files y.1) same y.3 in
     x.4 ∙ ap (λ refusal. let v : Answer = record { status = 3; out = []; err = refusal_text refusal } in v) (one_first_refusal files x.0.files x.1 y.1 x.3 r) ∙ sym y.4)
-    (λ y. let same = one_wanted (words_of words) y.0 x.0 y.1 x.2 in
-    absurd (all_or_refused files x.0.files x.1 (subst (λ w. let v : Words = w in AllByRecursion (Reads (Some files)) v.files) same y.2) x.3)) z) b)
-    (λ x. ⊎_elim (λ y. absurd (none_wanted (words_of words) x.0 y.0 x.1))
+    (λ y. let same = one_wanted (words_of words) y.0 x.0 y.2 x.2 in
+    absurd (all_or_refused files x.0.files y.1 x.1 (subst (λ w. let v : Words = w in AllRead (Some files) v.files y.1) same y.3) x.3)) z) b)
+    (λ x. ⊎_elim (λ y. absurd (none_wanted (words_of words) x.0 y.0 x.2))
     (λ z. ⊎_elim
-    (λ y. let same = one_wanted (words_of words) y.0 x.0 y.2 x.1 in
-    absurd (all_or_refused files x.0.files y.1 x.2 (subst (λ w. let v : Words = w in IsFirstRefusal files v.files y.1) same y.3)))
-    (λ y. x.3 ∙ sym y.3) z) b)
+    (λ y. let same = one_wanted (words_of words) y.0 x.0 y.2 x.2 in
+    absurd (all_or_refused files x.0.files x.1 y.1 x.3 (subst (λ w. let v : Words = w in IsFirstRefusal files v.files y.1) same y.3)))
+    (λ y. let same = one_wanted (words_of words) y.0 x.0 y.2 x.2 in
+    let trees = one_list_of_trees files x.0.files x.1 y.1 x.3 (subst (λ w. let v : Words = w in AllRead (Some files) v.files y.1) same y.3) in
+    x.4 ∙ ap (λ ts. done (printed x.0.print ts)) trees ∙ ap (λ w. let v : Words = w in done (printed v.print y.1)) (sym same) ∙ sym y.4) z) b)
     w)
     a

@@ -1,19 +1,22 @@
 -- What the program does, by its exit.
 use Rattle.std.specs.Prelude.{◌≡◌, ◌<◌, ◌⊎◌, ℕ, List, [], ◌++◌, Option, Some, None, codes, decimal}
-use Rattle.std.specs.List.{AllByRecursion}
+use Rattle.sp_ast.specs.Trees.{Tree}
 use Rattle.sp_base.specs.Kinds.{module_kind_name, module_kind_number}
 use Rattle.sp_io.specs.Moved.{appended}
+use Rattle.sp_io.specs.declared.traits.OutFault.{OutFault}
+use Rattle.sp_io.specs.declared.traits.OutFault.TheVariants as out_fault
 use Rattle.sp_spicyc.specs.declared.exits.Exit.{Exit}
 use Rattle.sp_spicyc.specs.declared.exits.Refusal.{Refusal}
 use Rattle.sp_spicyc.specs.declared.exits.Unread.{Unread}
-use Rattle.sp_spicyc.specs.Files.{Reads, IsUnread}
+use Rattle.sp_spicyc.specs.Files.{AllRead, printed, IsUnread}
 use Rattle.sp_spicyc.specs.Loads.{UnreadCause}
 use Rattle.sp_spicyc.specs.Words.{Words, words_of}
 
 -- what the words and the files have to do with an exit
 abbrev pub Says : List (List ℕ) → Option (List ℕ → Option (List ℕ)) → Exit → Type 0
 Says words files Exit.Usage = words_of words ≡ None
-Says words files Exit.Done = (wanted : Words) × (words_of words ≡ Some wanted) × AllByRecursion (Reads files) wanted.files
+Says words files (Exit.Done text) =
+    (wanted : Words) × (trees : List Tree) × (words_of words ≡ Some wanted) × AllRead files wanted.files trees × (text ≡ printed wanted.print trees)
 Says words files (Exit.Unread unread) = (wanted : Words) × (words_of words ≡ Some wanted) × IsUnread files wanted.files unread
 
 -- whether the count of faults of the modules rose at an exit
@@ -29,7 +32,7 @@ unread_status Unread.NoMemory = 7
 -- the status that an exit stands for
 abbrev pub status_of : Exit → ℕ
 status_of Exit.Usage = 2
-status_of Exit.Done = 0
+status_of (Exit.Done text) = 0
 status_of (Exit.Unread unread) = unread_status unread
 
 -- `PATH:LINE:COL: M9 TypeMismatch`
@@ -45,8 +48,13 @@ unread_message Unread.NoMemory = []
 -- the message of an exit
 abbrev pub message_of : Exit → List ℕ
 message_of Exit.Usage = codes "spicyc: usage\n"
-message_of Exit.Done = []
+message_of (Exit.Done text) = []
 message_of (Exit.Unread unread) = unread_message unread
+
+-- what an exit writes to the output
+abbrev pub output_of : Exit → List ℕ
+output_of (Exit.Done text) = text
+output_of exit = []
 
 -- xs stands at the front of ys
 abbrev pub IsFront : List ℕ → List ℕ → Type 0
@@ -56,10 +64,35 @@ IsFront xs ys = (rest : List ℕ) × (ys ≡ xs ++ rest)
 abbrev pub IsPartPut : Option (List ℕ) → Option (List ℕ) → List ℕ → Type 0
 IsPartPut before after bytes = (front : List ℕ) × IsFront front bytes × (after ≡ appended before front)
 
--- the message of an exit was put whole and the status is that of the exit; or it was put in part, if at
--- all, since the output for messages failed or there was no memory
-abbrev pub Reported : Exit → Option (List ℕ) → Option (List ℕ) → ℕ → ℕ → ℕ → Type 0
-Reported exit held_before held_after faults_before faults_after status =
-    ((status ≡ status_of exit) × (held_after ≡ appended held_before (message_of exit)) × (faults_after ≡ faults_before))
-    ⊎ (((status ≡ 5) × IsPartPut held_before held_after (message_of exit) × (faults_before < faults_after))
-    ⊎ ((status ≡ 7) × IsPartPut held_before held_after (message_of exit) × (faults_after ≡ faults_before)))
+-- the status where an output was not written
+abbrev pub failure_status : OutFault → ℕ
+failure_status out_fault.Failed = 5
+failure_status out_fault.NoMemory = 7
+
+-- whether the count of faults rose where an output was not written
+abbrev pub PutCause : ℕ → ℕ → OutFault → Type 0
+PutCause before after out_fault.Failed = before < after
+PutCause before after out_fault.NoMemory = after ≡ before
+
+-- what was put to the output and to the output for messages, where they tell it, and how often they failed
+pub record Outputs : Type 0 where
+  pub out : Option (List ℕ)
+  pub err : Option (List ℕ)
+  pub out_faults : ℕ
+  pub err_faults : ℕ
+
+-- neither failed
+abbrev pub SameFaults : Outputs → Outputs → Type 0
+SameFaults before after = (after.out_faults ≡ before.out_faults) × (after.err_faults ≡ before.err_faults)
+
+-- of the texts of an exit a front was put, or nothing
+abbrev pub ArePartPut : Exit → Outputs → Outputs → Type 0
+ArePartPut exit before after = IsPartPut before.out after.out (output_of exit) × IsPartPut before.err after.err (message_of exit)
+
+-- The texts of an exit were put whole and the status is that of the exit; or they were put in part, since an output
+-- failed or there was no memory.
+abbrev pub Reported : Exit → Outputs → Outputs → ℕ → Type 0
+Reported exit before after status =
+    ((status ≡ status_of exit) × (after.out ≡ appended before.out (output_of exit)) × (after.err ≡ appended before.err (message_of exit)) × SameFaults before after)
+    ⊎ (((status ≡ 5) × ArePartPut exit before after × ((before.out_faults < after.out_faults) ⊎ (before.err_faults < after.err_faults)))
+    ⊎ ((status ≡ 7) × ArePartPut exit before after × SameFaults before after))

@@ -1,6 +1,5 @@
 -- Which files read as modules, and with what the others are refused.
-use Rattle.std.specs.Prelude.{◌≡◌, ◌⊎◌, ℕ, List, ◌∷◌, ◌++◌, length, Option, Some, None}
-use Rattle.std.specs.List.{AllByRecursion}
+use Rattle.std.specs.Prelude.{◌≡◌, ◌⊎◌, ℕ, List, [], ◌∷◌, ◌++◌, length, Bool, true, false, Option, Some, None, flat_map}
 use Rattle.sp_base.specs.Places.{line_at, column_at}
 use Rattle.sp_base.specs.declared.kinds.MKind.{MKind}
 use Rattle.sp_base.specs.declared.kinds.MKind.TheVariants.{ModuleNotFound}
@@ -9,7 +8,9 @@ use Rattle.sp_base.specs.declared.places.Span.{Span}
 use Rattle.sp_lex.specs.declared.tokens.Token.{Token}
 use Rattle.sp_lex.specs.Faults.{IsFault, GoesBefore}
 use Rattle.sp_lex.specs.Readings.{reading, whole}
-use Rattle.sp_read_unit.specs.Modules.{IsModuleText, IsModuleRefused}
+use Rattle.sp_ast.specs.Trees.{Tree}
+use Rattle.sp_read_unit.specs.Modules.{IsModuleTree, IsModuleRefused}
+use Rattle.sp_print.specs.Canonical.{canonical}
 use Rattle.sp_spicyc.specs.declared.exits.Refusal.{Refusal}
 use Rattle.sp_spicyc.specs.declared.exits.Unread.{Unread}
 
@@ -18,9 +19,9 @@ pub record AreTokens (text : List ℕ) (tokens : List Token) : Type 0 where
   pub read : reading text ≡ whole tokens
   pub right : (span : Span) (kind : MKind) → ¬ IsFault text span kind
 
--- the text is that of a module
-abbrev pub IsReadable : List ℕ → Type 0
-IsReadable text = (tokens : List Token) × AreTokens text tokens × IsModuleText tokens
+-- the text is that of a module, and this is its tree
+abbrev pub IsModuleOf : List ℕ → Tree → Type 0
+IsModuleOf text tree = (tokens : List Token) × AreTokens text tokens × IsModuleTree (record { text = text; list = tokens }) tree
 
 -- what is wrong with the text or its tokens, and goes before all else that is
 abbrev pub IsFirstFault : List ℕ → Span → MKind → Type 0
@@ -51,9 +52,20 @@ abbrev pub Holds : Option (List ℕ → Option (List ℕ)) → List ℕ → Opti
 Holds None path content = Unit {0}
 Holds (Some files) path content = content ≡ files path
 
--- the file at the path is there, and its text is that of a module
-abbrev pub Reads : Option (List ℕ → Option (List ℕ)) → List ℕ → Type 0
-Reads files path = (text : List ℕ) × Holds files path (Some text) × IsReadable text
+-- the file at the path is there, and its text is that of a module, of which this is the tree
+abbrev pub Reads : Option (List ℕ → Option (List ℕ)) → List ℕ → Tree → Type 0
+Reads files path tree = (text : List ℕ) × Holds files path (Some text) × IsModuleOf text tree
+
+-- all of the files read, and these are their trees
+abbrev pub AllRead : Option (List ℕ → Option (List ℕ)) → List (List ℕ) → List Tree → Type 0
+AllRead files [] [] = Unit {0}
+AllRead files (path ∷ paths) (tree ∷ trees) = Reads files path tree × AllRead files paths trees
+AllRead files _ _ = ⊥
+
+-- what is printed of modules, if they are
+abbrev pub printed : Bool → List Tree → List ℕ
+printed true trees = flat_map canonical trees
+printed false trees = []
 
 -- the file at the path is refused
 abbrev pub Refuses : Option (List ℕ → Option (List ℕ)) → List ℕ → Refusal → Type 0
@@ -62,7 +74,7 @@ Refuses files path refusal = (content : Option (List ℕ)) × Holds files path c
 -- the path is one of these, and the files before it read
 abbrev pub IsReached : Option (List ℕ → Option (List ℕ)) → List (List ℕ) → List ℕ → Type 0
 IsReached files paths path =
-    (before after : List (List ℕ)) × (paths ≡ before ++ path ∷ after) × AllByRecursion (Reads files) before
+    (before after : List (List ℕ)) × (trees : List Tree) × (paths ≡ before ++ path ∷ after) × AllRead files before trees
 
 -- why the file at the path was not read: it was refused, could not be read, or there was no memory
 abbrev pub IsStopped : Option (List ℕ → Option (List ℕ)) → List ℕ → Unread → Type 0

@@ -1,10 +1,10 @@
 -- The answer of a call, where nothing fails and there is memory: its status and all that it writes.
 use Rattle.std.specs.Prelude.{◌≡◌, ◌≢◌, ◌⊎◌, ℕ, List, [], Option, Some, None, codes}
-use Rattle.std.specs.List.{AllByRecursion}
+use Rattle.sp_ast.specs.Trees.{Tree}
 use Rattle.sp_io.specs.Moved.{appended}
 use Rattle.sp_spicyc.specs.declared.exits.Refusal.{Refusal}
 use Rattle.sp_spicyc.specs.Command.{refusal_text}
-use Rattle.sp_spicyc.specs.Files.{Reads, IsReached, Refuses}
+use Rattle.sp_spicyc.specs.Files.{AllRead, printed, IsReached, Refuses}
 use Rattle.sp_spicyc.specs.Words.{Words, words_of}
 
 -- a status, the bytes on the output, and those on the output for messages
@@ -17,17 +17,17 @@ pub record Answer : Type 0 where
 abbrev pub IsFirstRefusal : (List ℕ → Option (List ℕ)) → List (List ℕ) → Refusal → Type 0
 IsFirstRefusal files paths refusal = (path : List ℕ) × IsReached (Some files) paths path × Refuses (Some files) path refusal
 
--- the answer of these words over these files: a usage fault, the refusal of the first file that is none of a module, or
--- nothing where all are
+-- the answer of these words over these files: a usage fault, the refusal of the first file that is none of a module, or,
+-- where all are, their canonical texts, if these are wanted
 abbrev pub IsAnswer : List (List ℕ) → (List ℕ → Option (List ℕ)) → Answer → Type 0
 IsAnswer words files answer =
     ((words_of words ≡ None) × (answer ≡ record { status = 2; out = []; err = codes "spicyc: usage\n" }))
     ⊎ (((wanted : Words) × (refusal : Refusal)
     × (words_of words ≡ Some wanted) × IsFirstRefusal files wanted.files refusal
     × (answer ≡ record { status = 3; out = []; err = refusal_text refusal }))
-    ⊎ ((wanted : Words)
-    × (words_of words ≡ Some wanted) × AllByRecursion (Reads (Some files)) wanted.files
-    × (answer ≡ record { status = 0; out = []; err = [] })))
+    ⊎ ((wanted : Words) × (trees : List Tree)
+    × (words_of words ≡ Some wanted) × AllRead (Some files) wanted.files trees
+    × (answer ≡ record { status = 0; out = printed wanted.print trees; err = [] })))
 
 -- where the files are told, nothing failed and there was memory, the status and what was put are those of the answer
 abbrev pub IsAnswered : List (List ℕ) → Option (List ℕ → Option (List ℕ)) → Option (List ℕ) → Option (List ℕ) → Option (List ℕ) → Option (List ℕ) → ℕ → Type 0

@@ -1,9 +1,10 @@
 // The program: it reads its words and the files, and answers a status.
-ghost use Rattle.std.specs.Prelude.{◌≡◌, ◌<◌, ◌-◌, ◌^◌, ◌++◌, decimal, IfOk, OnOk};
+ghost use Rattle.std.specs.Prelude.{◌≡◌, ◌<◌, ◌-◌, ◌^◌, ◌++◌, decimal, IfOk, OnOk, OnErr, MatchResult};
+ghost use Rattle.sp_io.specs.Moved.{appended};
 ghost use Rattle.sp_spicyc.specs.declared.exits.Exit.{Exit};
 ghost use Rattle.sp_spicyc.specs.Causes.{IsCausedBy};
 ghost use Rattle.sp_spicyc.specs.Whole.{IsAnswered};
-ghost use Rattle.sp_spicyc.specs.Command.{Says, ExitCause, Reported, status_of, message_of, refusal_text};
+ghost use Rattle.sp_spicyc.specs.Command.{Says, ExitCause, IsPartPut, PutCause, Reported, failure_status, status_of, output_of, message_of, refusal_text};
 
 use crate::exits::{Exit, Refusal, Unread};
 use crate::files::read_files;
@@ -22,8 +23,8 @@ fn drive<M: Modules>(alloc: Global, words: &[Text], modules: &mut M) -> Exit
     let Some(wanted) = words_wanted(words) else {
         return Exit::Usage;
     };
-    match read_files(alloc, wanted.files, modules) {
-        Ok(()) => Exit::Done,
+    match read_files(alloc, wanted.files, wanted.print, modules) {
+        Ok(text) => Exit::Done(text),
         Err(unread) => Exit::Unread(unread),
     }
 }
@@ -61,7 +62,7 @@ fn message(alloc: Global, exit: &Exit) -> Result<ByteList, NoMemory>
         Exit::Usage => ByteList::from_slice(alloc, b"spicyc: usage\n"),
         Exit::Unread(Unread::Refused(refusal)) => refusal_message(alloc, refusal),
         Exit::Unread(Unread::ModulesFault) => ByteList::from_slice(alloc, b"spicyc: read fault\n"),
-        Exit::Unread(Unread::NoMemory) | Exit::Done => Ok(ByteList::new(alloc)),
+        Exit::Unread(Unread::NoMemory) | Exit::Done(_) => Ok(ByteList::new(alloc)),
     }
 }
 
@@ -69,7 +70,7 @@ fn status(exit: &Exit) -> u8
     ensures { result ≡ status_of exit.now }
 {
     match exit {
-        Exit::Done => 0,
+        Exit::Done(_) => 0,
         Exit::Usage => 2,
         Exit::Unread(Unread::Refused(_)) => 3,
         Exit::Unread(Unread::ModulesFault) => 4,
@@ -77,23 +78,59 @@ fn status(exit: &Exit) -> u8
     }
 }
 
-/// Puts the message of an exit, and answers the status.
-fn report<E: Out>(alloc: Global, exit: &Exit, err: &mut E) -> u8
-    requires { E.faults err.old < 2 ^ 64 - 1 }
-    ensures { Reported exit.now (E.held err.old) (E.held err.new) (E.faults err.old) (E.faults err.new) result }
+/// The status where an output was not written.
+fn failure_status(fault: &OutFault) -> u8
+    ensures { result ≡ failure_status fault.now }
+{
+    match fault {
+        OutFault::Failed => 5,
+        OutFault::NoMemory => 7,
+    }
+}
+
+/// Puts a text. After a fault a front of it was put.
+fn put_text<O: Out>(out: &mut O, text: &[u8]) -> Result<(), OutFault>
+    requires { O.faults out.old < 2 ^ 64 - 1 }
+    ensures held { OnOk result (O.held out.new ≡ appended (O.held out.old) text.now) }
+    ensures part { OnErr result (IsPartPut (O.held out.old) (O.held out.new) text.now) }
+    ensures cause { MatchResult result (λ _. O.faults out.new ≡ O.faults out.old) (PutCause (O.faults out.old) (O.faults out.new)) }
+{
+    put_all(out, text)
+}
+
+/// What an exit writes to the output.
+fn output(exit: &Exit) -> &[u8]
+    ensures { result.now ≡ output_of exit.now }
+{
+    match exit {
+        Exit::Done(text) => text.as_slice(),
+        Exit::Usage | Exit::Unread(_) => &[],
+    }
+}
+
+/// Puts the texts of an exit, and answers the status.
+fn report<O: Out, E: Out>(alloc: Global, exit: &Exit, out: &mut O, err: &mut E) -> u8
+    requires out_faults { O.faults out.old < 2 ^ 64 - 1 }
+    requires err_faults { E.faults err.old < 2 ^ 64 - 1 }
+    ensures { Reported exit.now
+        (record { out = O.held out.old; err = E.held err.old; out_faults = O.faults out.old; err_faults = E.faults err.old })
+        (record { out = O.held out.new; err = E.held err.new; out_faults = O.faults out.new; err_faults = E.faults err.new }) result }
 {
     let Ok(message) = message(alloc, exit) else {
         return 7;
     };
-    match put_all(err, message.as_slice()) {
-        Ok(()) => status(exit),
-        Err(OutFault::Failed) => 5,
-        Err(OutFault::NoMemory) => 7,
+    if let Err(fault) = put_text(out, output(exit)) {
+        return failure_status(&fault);
     }
+    if let Err(fault) = put_text(err, message.as_slice()) {
+        return failure_status(&fault);
+    }
+    status(exit)
 }
 
-/// Reads the files that the words name as modules, in their order, writes a message to `err` where something is wrong,
-/// and answers the status of the program. No import is followed, and nothing is put to `out`.
+/// Reads the files that the words name as modules, in their order, writes their canonical texts to `out` where the words
+/// want it, and a message to `err` where something is wrong, and answers the status of the program. No import is followed.
+/// Nothing is written to `out` unless all files are modules.
 pub fn spicyc<M: Modules, O: Out, E: Out>(
     alloc: Global,
     words: &[Text],
@@ -105,12 +142,14 @@ pub fn spicyc<M: Modules, O: Out, E: Out>(
     requires out_faults { O.faults out.old < 2 ^ 64 - 1 }
     requires err_faults { E.faults err.old < 2 ^ 64 - 1 }
     ensures exits { (exit : Exit)
-        × Says words.now (M.files modules.old) exit × (O.held out.new ≡ O.held out.old)
-        × Reported exit (E.held err.old) (E.held err.new) (E.faults err.old) (E.faults err.new) result }
+        × Says words.now (M.files modules.old) exit
+        × Reported exit
+        (record { out = O.held out.old; err = E.held err.old; out_faults = O.faults out.old; err_faults = E.faults err.old })
+        (record { out = O.held out.new; err = E.held err.new; out_faults = O.faults out.new; err_faults = E.faults err.new }) result }
     ensures causes { IsCausedBy (record { modules = M.faults modules.old; out = O.faults out.old; err = E.faults err.old })
         (record { modules = M.faults modules.new; out = O.faults out.new; err = E.faults err.new }) result }
     ensures answer { IsAnswered words.now (M.files modules.old) (O.held out.old) (O.held out.new) (E.held err.old) (E.held err.new) result }
 {
     let exit = drive(alloc, words, modules);
-    report(alloc, &exit, err)
+    report(alloc, &exit, out, err)
 }

@@ -1,5 +1,5 @@
 // How the program ends.
-use sp_base::{MKind, Place, Text};
+use sp_base::{ByteList, MKind, Place, Text};
 
 /// Why a module was refused, and where.
 #[derive(Drop)]
@@ -25,8 +25,8 @@ pub enum Unread {
 pub enum Exit {
     /// The command line is faulty.
     Usage,
-    /// All files were read as modules.
-    Done,
+    /// All files were read as modules; this is printed of them.
+    Done(ByteList),
     /// A file was not, and none behind it was looked at.
     Unread(Unread),
 }

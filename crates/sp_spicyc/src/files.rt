@@ -1,14 +1,16 @@
-// Files are read as modules.
-ghost use Rattle.std.specs.Prelude.{◌≡◌, ◌≤◌, ◌<◌, ◌+◌, ◌-◌, ◌^◌, length, OnOk, IfErr, MatchResult};
-ghost use Rattle.std.specs.List.{AllByRecursion};
+// Files are read as modules, and printed.
+ghost use Rattle.std.specs.Prelude.{◌≡◌, ◌≤◌, ◌<◌, ◌+◌, ◌-◌, ◌^◌, List, [], ◌∷◌, ◌++◌, length, OnOk, IfOk, IfErr, MatchResult};
+ghost use Rattle.sp_ast.specs.Trees.{Tree};
 ghost use Rattle.sp_lex.specs.Faults.{OnDiag, most_bytes};
-ghost use Rattle.sp_spicyc.specs.Files.{IsReadable, IsUnreadable, Reads, refused_at, IsStopped, IsUnread};
+ghost use Rattle.sp_spicyc.specs.Files.{IsModuleOf, IsUnreadable, Reads, AllRead, printed, refused_at, IsStopped, IsUnread};
 ghost use Rattle.sp_spicyc.specs.Loads.{IsRefusalOrNoMemory, IsTextUnread, UnreadCause};
 
 use crate::exits::{Refusal, Unread};
-use sp_base::{MKind, Place, Text, place_of};
+use sp_ast::Module;
+use sp_base::{ByteList, MKind, NoMemory, Place, Text, place_of};
 use sp_io::{Modules, ModulesFault};
 use sp_lex::{ReadFault, lex};
+use sp_print::print_module;
 use sp_read_unit::read_module;
 use std::alloc::Global;
 
@@ -22,24 +24,24 @@ fn refused(alloc: Global, path: &str, place: Place, kind: MKind) -> Unread
     }
 }
 
-/// Whether the text is that of a module. Where it is none the fault is the first of its tokens, or else that of the module.
-fn accept_text(alloc: Global, text: &[u8]) -> Result<(), ReadFault>
-    ensures readable { OnOk result (IsReadable text.now) }
+/// The module of a text. Where it is none the fault is the first of its tokens, or else that of the module.
+fn module_of(alloc: Global, text: &[u8]) -> Result<Module, ReadFault>
+    ensures module { IfOk result (λ m. IsModuleOf text.now m.tree) }
     ensures inside { IfErr result (OnDiag (λ span _. (span.from ≤ length text.now) × (span.from ≤ most_bytes + 1))) }
     ensures unreadable { IfErr result (OnDiag (IsUnreadable text.now)) }
 {
     let tokens = lex(alloc, text)?;
-    read_module(alloc, &tokens)?;
-    Ok(())
+    let module = read_module(alloc, &tokens)?;
+    Ok(module)
 }
 
-/// Whether the text of the file at the path is that of a module.
-fn read_text(alloc: Global, path: &str, text: &[u8]) -> Result<(), Unread>
-    ensures readable { OnOk result (IsReadable text.now) }
+/// The module of the text of the file at the path.
+fn read_text(alloc: Global, path: &str, text: &[u8]) -> Result<Module, Unread>
+    ensures module { IfOk result (λ m. IsModuleOf text.now m.tree) }
     ensures unread { IfErr result (IsTextUnread path.now text.now) }
 {
-    match accept_text(alloc, text) {
-        Ok(()) => Ok(()),
+    match module_of(alloc, text) {
+        Ok(module) => Ok(module),
         Err(ReadFault::Diag(span, kind)) => {
             Err(refused(alloc, path, place_of(text, span.from), kind))
         }
@@ -47,10 +49,10 @@ fn read_text(alloc: Global, path: &str, text: &[u8]) -> Result<(), Unread>
     }
 }
 
-/// Reads the file at the path as a module.
-fn read_file<M: Modules>(alloc: Global, path: &str, modules: &mut M) -> Result<(), Unread>
+/// The module of the file at the path.
+fn read_file<M: Modules>(alloc: Global, path: &str, modules: &mut M) -> Result<Module, Unread>
     requires { M.faults modules.old < 2 ^ 64 - 1 }
-    ensures reads { OnOk result (Reads (M.files modules.old) path.now) }
+    ensures reads { IfOk result (λ m. Reads (M.files modules.old) path.now m.tree) }
     ensures unread { IfErr result (IsStopped (M.files modules.old) path.now) }
     ensures files { M.files modules.new ≡ M.files modules.old }
     ensures cause { MatchResult result (λ _. M.faults modules.new ≡ M.faults modules.old) (UnreadCause (M.faults modules.old) (M.faults modules.new)) }
@@ -66,15 +68,39 @@ fn read_file<M: Modules>(alloc: Global, path: &str, modules: &mut M) -> Result<(
     }
 }
 
-/// Reads the files in their order, up to the first that is not read as a module.
-pub fn read_files<M: Modules>(alloc: Global, paths: &[Text], modules: &mut M) -> Result<(), Unread>
+/// Appends what is printed of a module, if it is.
+fn append_printed(
+    alloc: Global,
+    print: bool,
+    module: &Module,
+    text: &mut ByteList,
+) -> Result<(), NoMemory>
+    ensures { OnOk result (text.new ≡ text.old ++ printed print (module.now.tree ∷ [])) }
+{
+    if print {
+        text.append(print_module(alloc, module)?.as_str().as_bytes())?;
+    }
+    Ok(())
+}
+
+/// Reads the files in their order, up to the first that is not read as a module, and answers what is printed of all.
+pub fn read_files<M: Modules>(
+    alloc: Global,
+    paths: &[Text],
+    print: bool,
+    modules: &mut M,
+) -> Result<ByteList, Unread>
     requires { M.faults modules.old < 2 ^ 64 - 1 }
-    ensures reads { OnOk result (AllByRecursion (Reads (M.files modules.old)) paths.now) }
+    ensures reads { IfOk result (λ text. (trees : List Tree) × AllRead (M.files modules.old) paths.now trees × (text ≡ printed print trees)) }
     ensures unread { IfErr result (IsUnread (M.files modules.old) paths.now) }
     ensures cause { MatchResult result (λ _. M.faults modules.new ≡ M.faults modules.old) (UnreadCause (M.faults modules.old) (M.faults modules.new)) }
 {
+    let mut text = ByteList::new(alloc);
     for path in paths {
-        read_file(alloc, path.as_str(), modules)?;
+        let module = read_file(alloc, path.as_str(), modules)?;
+        let Ok(()) = append_printed(alloc, print, &module, &mut text) else {
+            return Err(Unread::NoMemory);
+        };
     }
-    Ok(())
+    Ok(text)
 }

@@ -1,12 +1,15 @@
 // The command line.
 ghost use Rattle.std.specs.Prelude.{◌≡◌, option_map};
-ghost use Rattle.sp_spicyc.specs.Words.{is_file, are_files, words_of};
+ghost use Rattle.sp_spicyc.specs.Words.{is_file, are_files, with_files, words_of};
 
 use sp_base::Text;
 
-/// The words of a call: the files that are to be read.
+/// The words of a call.
 #[derive(Clone, Copy)]
 pub struct Wanted<'w> {
+    /// Whether the modules are printed.
+    pub print: bool,
+    /// The files that are to be read.
     pub files: &'w [Text],
 }
 
@@ -25,12 +28,28 @@ fn are_paths(words: &[Text]) -> bool
     words.iter().all(|word| is_path(word.as_str().as_bytes()))
 }
 
-/// What the words want, or `None` at a usage fault.
-pub fn words_wanted(words: &[Text]) -> Option<Wanted<'_>>
-    ensures { option_map (λ w. record { files = w.files.now }) result ≡ words_of words.now }
+/// These files, unless there are none or one of them can be no file.
+fn with_files(print: bool, files: &[Text]) -> Option<Wanted<'_>>
+    ensures { option_map (λ w. record { print = w.print; files = w.files.now }) result ≡ with_files print files.now }
 {
-    if words.is_empty() || !are_paths(words) {
+    if files.is_empty() || !are_paths(files) {
         return None;
     }
-    Some(Wanted { files: words })
+    Some(Wanted { print, files })
+}
+
+/// What the words want, or `None` at a usage fault.
+pub fn words_wanted(words: &[Text]) -> Option<Wanted<'_>>
+    ensures { option_map (λ w. record { print = w.print; files = w.files.now }) result ≡ words_of words.now }
+{
+    match words {
+        [] => None,
+        [first, files @ ..] => {
+            if first.as_str() == "--print" {
+                with_files(true, files)
+            } else {
+                with_files(false, words)
+            }
+        }
+    }
 }

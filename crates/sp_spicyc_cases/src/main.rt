@@ -1,6 +1,7 @@
-// Reads texts of modules with the answers that `spicyc` must have, and tells which have another. A line is the answer,
-// ` | ` and the text: the status, and behind it the message, if there is one. In the text `\n`, `\r`, `\t`, `\\` and
-// `\xHH` stand for bytes, and `\*K,N;` says that the last K bytes stand N times.
+// Reads texts of modules with the answers that `spicyc --print` must have, and tells which have another. A line is the
+// answer, a tab and the text: the status, and behind it the message or what is printed; where `0` stands alone, anything
+// may be printed. What is printed must itself have the same answer. In the texts `\n`, `\r`, `\t`, `\\` and `\xHH` stand
+// for bytes, and `\*K,N;` says that the last K bytes stand N times.
 #![tactic(auto)]
 
 use sp_base::{ByteList, NoMemory, Text};
@@ -83,20 +84,60 @@ fn bytes_of(alloc: Global, text: &[u8]) -> Result<Vec<u8>, AllocError> {
     Ok(bytes)
 }
 
-/// The answer to a file of this text, in the form of the lines.
-fn answer(alloc: Global, text: &[u8]) -> Result<String, NoMemory> {
+/// Appends bytes in the form of the lines.
+fn show(text: &mut String, bytes: &[u8]) -> Result<(), AllocError> {
+    for byte in bytes {
+        match byte {
+            b'\n' => text.push_str("\\n")?,
+            b'\\' => text.push_str("\\\\")?,
+            32..=126 => text.push(char::from(*byte))?,
+            _ => {
+                text.push_str("\\x")?;
+                for digit in [byte / 16, byte % 16] {
+                    text.push(char::from_digit(u32::from(digit), 16).unwrap_or('?'))?;
+                }
+            }
+        }
+    }
+    Ok(())
+}
+
+/// The answer to a file of this text, in the form of the lines, and what is printed.
+fn answer(alloc: Global, text: &[u8]) -> Result<(String, Vec<u8>), NoMemory> {
     let mut files = Vec::new(alloc);
     files.push((
         Text::new(alloc, "m.spicy")?,
         ByteList::from_slice(alloc, text)?,
     ))?;
-    let words = [Text::new(alloc, "m.spicy")?];
+    let words = [Text::new(alloc, "--print")?, Text::new(alloc, "m.spicy")?];
     let mut modules = SureModules::new(alloc, files.as_slice())?;
     let mut out = SureOut::new(alloc)?;
     let mut err = SureOut::new(alloc)?;
     let status = spicyc(alloc, &words, &mut modules, &mut out, &mut err);
     let message = std::str::from_utf8(err.written()).unwrap_or("?");
-    Ok(format!(in alloc; "{status} {message}")?)
+    let mut answer = format!(in alloc; "{status} {message}")?;
+    show(&mut answer, out.written())?;
+    Ok((answer, Vec::from_slice(alloc, out.written())?))
+}
+
+/// Whether an answer is as it must be.
+fn is_wanted(wanted: &str, got: &str) -> bool {
+    got == wanted || (wanted == "0" && got.starts_with("0 "))
+}
+
+/// What is wrong with the answer to this text, if something is.
+fn fault(alloc: Global, wanted: &str, text: &[u8]) -> Result<Option<String>, NoMemory> {
+    let (got, printed) = answer(alloc, text)?;
+    if !is_wanted(wanted, got.as_str().trim()) {
+        return Ok(Some(got));
+    }
+    if got.as_str().starts_with("0 ") {
+        let (again, _) = answer(alloc, printed.as_slice())?;
+        if again.as_str() != got.as_str() {
+            return Ok(Some(again));
+        }
+    }
+    Ok(None)
 }
 
 fn main(rt: HostRuntime) -> io::Result<()> {
@@ -104,11 +145,10 @@ fn main(rt: HostRuntime) -> io::Result<()> {
     for line in rt.lines(rt.alloc()) {
         let line = line?;
         let case = line.as_str();
-        if let Some((wanted, text)) = case.split_once(" | ") {
+        if let Some((wanted, text)) = case.split_once("\t") {
             let bytes = bytes_of(rt.alloc(), text.as_bytes())?;
-            let got = answer(rt.alloc(), bytes.as_slice()).map_err(|_| AllocError)?;
-            let got = got.as_str().trim();
-            if got != wanted {
+            let found = fault(rt.alloc(), wanted, bytes.as_slice()).map_err(|_| AllocError)?;
+            if let Some(got) = found {
                 println!(rt; "{case} : {got}")?;
             }
             cases = cases.saturating_add(1);

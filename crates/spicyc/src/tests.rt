@@ -6,7 +6,7 @@ use std::alloc::Global;
 use std::test::Fail;
 
 /// The files of each run, by their paths.
-const FILES: [(&str, &[u8]); 5] = [
+const FILES: [(&str, &[u8]); 6] = [
     (
         "m.spicy",
         b"module M;\npublic type U = unit { a: uint8; };\n",
@@ -18,94 +18,172 @@ const FILES: [(&str, &[u8]); 5] = [
     ("early.spicy", b"module M;\ntype U = unit {"),
     ("word.spicy", b"module M;\ntype U = unit { a: real; };"),
     ("token.spicy", b"module M;\n  type @"),
+    ("one.spicy", b"module M; type U = unit {"),
 ];
 
-/// A run: the words, the calls of the modules and of the output for messages that fail; and what it must answer: the
-/// status, the output and the messages.
+/// A run: the words, the calls of the modules, of the output and of the output for messages that fail; and what it must
+/// answer: the status, the output and the messages.
 struct Run {
     words: &'static [&'static str],
     modules_fails: &'static [u64],
+    out_fails: &'static [u64],
     err_fails: &'static [u64],
     answer: &'static str,
 }
 
-const RUNS: [Run; 13] = [
+const RUNS: [Run; 22] = [
     Run {
         words: &["m.spicy"],
         modules_fails: &[],
+        out_fails: &[],
         err_fails: &[],
         answer: "0|",
     },
     Run {
         words: &["m.spicy", "n.spicy", "m.spicy"],
         modules_fails: &[],
+        out_fails: &[],
         err_fails: &[],
         answer: "0|",
     },
     Run {
         words: &[],
         modules_fails: &[],
+        out_fails: &[],
         err_fails: &[],
         answer: "2|spicyc: usage\n",
     },
     Run {
         words: &["m.spicy", ""],
         modules_fails: &[],
+        out_fails: &[],
         err_fails: &[],
         answer: "2|spicyc: usage\n",
     },
     Run {
         words: &["m.spicy", "-L"],
         modules_fails: &[],
+        out_fails: &[],
         err_fails: &[],
         answer: "2|spicyc: usage\n",
     },
     Run {
         words: &["early.spicy"],
         modules_fails: &[],
+        out_fails: &[],
         err_fails: &[],
         answer: "3|early.spicy:2:16: M3 Unexpected\n",
     },
     Run {
         words: &["m.spicy", "word.spicy", "other.spicy"],
         modules_fails: &[],
+        out_fails: &[],
         err_fails: &[],
         answer: "3|word.spicy:2:20: M30 OutOfProfile\n",
     },
     Run {
         words: &["m.spicy", "token.spicy", "early.spicy"],
         modules_fails: &[],
+        out_fails: &[],
         err_fails: &[],
         answer: "3|token.spicy:2:8: M2 BadToken\n",
     },
     Run {
         words: &["n.spicy", "other.spicy", "early.spicy"],
         modules_fails: &[],
+        out_fails: &[],
         err_fails: &[],
         answer: "3|other.spicy:0:0: M5 ModuleNotFound\n",
     },
     Run {
         words: &["m.spicy", "early.spicy"],
         modules_fails: &[1],
+        out_fails: &[],
         err_fails: &[],
         answer: "4|spicyc: read fault\n",
     },
     Run {
         words: &["early.spicy", "m.spicy"],
         modules_fails: &[1],
+        out_fails: &[],
         err_fails: &[],
         answer: "3|early.spicy:2:16: M3 Unexpected\n",
     },
     Run {
         words: &["early.spicy"],
         modules_fails: &[],
+        out_fails: &[],
         err_fails: &[0],
         answer: "5|",
     },
     Run {
         words: &["m.spicy"],
         modules_fails: &[0],
+        out_fails: &[],
         err_fails: &[0],
+        answer: "5|",
+    },
+    Run {
+        words: &["one.spicy"],
+        modules_fails: &[],
+        out_fails: &[],
+        err_fails: &[],
+        answer: "3|one.spicy:1:26: M3 Unexpected\n",
+    },
+    Run {
+        words: &["--print", "m.spicy", "n.spicy"],
+        modules_fails: &[],
+        out_fails: &[],
+        err_fails: &[],
+        answer: "0|module M ;\npublic type U = unit { a : uint8 ; } ;\nmodule N ;\nfunction f ( ) : uint8 { return 1 + 2 * 3 ; }\n",
+    },
+    Run {
+        words: &["--print", "m.spicy", "m.spicy"],
+        modules_fails: &[],
+        out_fails: &[],
+        err_fails: &[],
+        answer: "0|module M ;\npublic type U = unit { a : uint8 ; } ;\nmodule M ;\npublic type U = unit { a : uint8 ; } ;\n",
+    },
+    Run {
+        words: &["--print"],
+        modules_fails: &[],
+        out_fails: &[],
+        err_fails: &[],
+        answer: "2|spicyc: usage\n",
+    },
+    Run {
+        words: &["m.spicy", "--print"],
+        modules_fails: &[],
+        out_fails: &[],
+        err_fails: &[],
+        answer: "2|spicyc: usage\n",
+    },
+    Run {
+        words: &["--print", "--print", "m.spicy"],
+        modules_fails: &[],
+        out_fails: &[],
+        err_fails: &[],
+        answer: "2|spicyc: usage\n",
+    },
+    Run {
+        words: &["--print", "m.spicy", "early.spicy"],
+        modules_fails: &[],
+        out_fails: &[],
+        err_fails: &[],
+        answer: "3|early.spicy:2:16: M3 Unexpected\n",
+    },
+    Run {
+        words: &["--print", "m.spicy", "n.spicy"],
+        modules_fails: &[1],
+        out_fails: &[],
+        err_fails: &[],
+        answer: "4|spicyc: read fault\n",
+    },
+    Run {
+        words: &["--print", "m.spicy"],
+        modules_fails: &[],
+        out_fails: &[0],
+        err_fails: &[],
         answer: "5|",
     },
 ];
@@ -129,7 +207,7 @@ fn files(alloc: Global) -> Result<Vec<(Text, ByteList)>, NoMemory> {
 fn answer_of(alloc: Global, files: &[(Text, ByteList)], run: &Run) -> Result<String, Fail> {
     let words = texts(alloc, run.words)?;
     let mut modules = MemModules::new(alloc, files, run.modules_fails)?;
-    let mut out = MemOut::new(alloc, &[])?;
+    let mut out = MemOut::new(alloc, run.out_fails)?;
     let mut err = MemOut::new(alloc, run.err_fails)?;
     let status = spicyc(alloc, words.as_slice(), &mut modules, &mut out, &mut err);
     let mut answer = format!(in alloc; "{status}|")?;

@@ -1,14 +1,16 @@
-use Rattle.std.proofs.Common.{Err, ap, refl, inl, inr, ◌∙◌}
-use Rattle.sp_spicyc.specs.Command.{message_of}
-use Rattle.sp_spicyc.proofs.Endings.{part_of}
+use Rattle.std.proofs.Common.{◌≡◌, ap, refl, ◌∙◌}
+use Rattle.sp_spicyc.specs.Command.{Outputs, output_of, message_of}
+use Rattle.sp_spicyc.proofs.Reports.{output_failed, message_failed}
 use Rattle.sp_spicyc.proofs.command.report.Goals as goal
 
-pub returns-in-Err-Failed : goal.returns-in-Err-Failed
-returns-in-Err-Failed g c =
-    let e = c.in-Err-Failed.ensures in
-    inr (inl (refl, part_of (g.E.Out.held c.args.err.now) (g.E.Out.held c.put_all.new.out) e.part.0 c.as_slice.result.now (message_of c.args.exit.now) (c.as_slice.ensures ∙ c.in-Ok.ensures) e.part.2, e.failed.0 (ap Err c.in-Err-Failed.field-0-is)))
+pub returns-in-Err : goal.returns-in-Err
+returns-in-Err g c =
+    let before : Outputs = record { out = g.O.Out.held c.args.out.now; err = g.E.Out.held c.args.err.now; out_faults = g.O.Out.faults c.args.out.now; err_faults = g.E.Out.faults c.args.err.now } in
+    let after : Outputs = record { out = g.O.Out.held c.put_text.new.out; err = g.E.Out.held c.args.err.now; out_faults = g.O.Out.faults c.put_text.new.out; err_faults = g.E.Out.faults c.args.err.now } in
+    output_failed c.args.exit.now before after c.in-Err.fault c.failure_status.result c.failure_status.ensures (rw c.output.ensures at c.in-Err.ensures.part) c.in-Err.ensures.cause refl refl
 
-pub returns : goal.returns
-returns g c =
-    let e = c.in-Err-NoMemory.ensures in
-    inr (inr (refl, part_of (g.E.Out.held c.args.err.now) (g.E.Out.held c.put_all.new.out) e.part.0 c.as_slice.result.now (message_of c.args.exit.now) (c.as_slice.ensures ∙ c.in-Ok.ensures) e.part.2, rw c.in-Err-NoMemory.field-0-is at e.cause))
+pub returns-in-Err-put_text : goal.returns-in-Err-put_text
+returns-in-Err-put_text g c =
+    let before : Outputs = record { out = g.O.Out.held c.args.out.now; err = g.E.Out.held c.args.err.now; out_faults = g.O.Out.faults c.args.out.now; err_faults = g.E.Out.faults c.args.err.now } in
+    let after : Outputs = record { out = g.O.Out.held c.put_text.new.out; err = g.E.Out.held c.put_text-2.new.out; out_faults = g.O.Out.faults c.put_text.new.out; err_faults = g.E.Out.faults c.put_text-2.new.out } in
+    message_failed c.args.exit.now before after c.in-Err-put_text.fault c.failure_status-in-Err-put_text.result c.failure_status-in-Err-put_text.ensures (rw c.output.ensures at c.in_default-put_text.ensures.held) c.in_default-put_text.ensures.cause (rw (c.as_slice.ensures ∙ c.in-Ok.ensures) at c.in-Err-put_text.ensures.part) c.in-Err-put_text.ensures.cause

@@ -1,0 +1,127 @@
+-- Words one behind the other.
+use Rattle.std.proofs.Common.{◌≡◌, ◌+◌, ◌-◌, ◌<◌, ◌≤◌, length, take, drop, get_or, arith, List, [], ◌∷◌, ◌++◌, Option, Some, None, Bool, true, false, ℕ, map, subst, refl, ap, sym, ◌∙◌, append_assoc}
+use Rattle.sp_lex.specs.declared.kinds.TokenKind.{TokenKind}
+use Rattle.sp_print.specs.Words.{Word, kind_of, written}
+use Rattle.sp_print.specs.Page.{Page, page, gap, line, put, puts}
+use Rattle.std.proofs.lemmas.List.{at_drop_more, take_all, append-nil}
+use Rattle.sp_ast.specs.Trees.{Tree, trees}
+use Rattle.sp_ast.specs.declared.forms.Form.{Form}
+use Rattle.sp_print.specs.declared.layouts.Frame.{Frame}
+use Rattle.sp_print.specs.declared.layouts.Separator.{Separator}
+use Rattle.sp_print.specs.declared.layouts.Separator.TheVariants as separator
+use Rattle.sp_print.specs.declared.layouts.PartLayout.{PartLayout}
+use Rattle.sp_print.specs.declared.layouts.PartLayout.TheVariants as part_is
+use Rattle.sp_print.specs.declared.layouts.Piece.{Piece}
+use Rattle.sp_print.specs.declared.layouts.Piece.TheVariants as pieces
+use Rattle.sp_print.specs.Layouts.{opening, closing, between}
+use Rattle.sp_print.specs.Words.{fixed}
+use Rattle.sp_print.specs.Canonical.{Writing, last_kind, kinds, chain, enclosed, write, needs_parentheses, at_place, is_absent, is_empty_row, anywhere, followed, listed, framed, part, part_of, parts_of, rowed, laid, spelled, lines}
+
+pub last_puts : (ws : List Word) (p : Page) → (puts ws p).last ≡ last_kind p.last ws
+last_puts [] p = refl
+last_puts (w ∷ ws) p = last_puts ws (put w p)
+
+pub puts_append : (xs ys : List Word) (p : Page) → puts (xs ++ ys) p ≡ puts ys (puts xs p)
+puts_append [] ys p = refl
+puts_append (w ∷ xs) ys p = puts_append xs ys (put w p)
+
+-- what is written in two parts is written one behind the other
+pub write_chain : (x y : Writing) (p : Page) → write (chain x y) p ≡ write y (write x p)
+write_chain x y p =
+    puts_append (x p.last) (y (last_kind p.last (x p.last))) p
+    ∙ ap (λ before. puts (y before) (puts (x p.last) p)) (sym (last_puts (x p.last) p))
+
+-- what stands between tokens
+pub within : (ks ls : List TokenKind) (x : Writing) (p a b c : Page) → a ≡ puts (map fixed ks) p → b ≡ write x a → c ≡ puts (map fixed ls) b → c ≡ write (chain (kinds ks) (chain x (kinds ls))) p
+within ks ls x p a b c first second third =
+    third ∙ ap (λ q. puts (map fixed ls) q) (second ∙ ap (λ q. write x q) first)
+    ∙ sym (write_chain x (kinds ls) (puts (map fixed ks) p)) ∙ sym (write_chain (kinds ks) (chain x (kinds ls)) p)
+
+-- a tree at a place where it needs parentheses
+pub in_parentheses : (tight : ℕ) (dividend : Bool) (t : Tree) (x : Writing) (p : Page) → needs_parentheses tight dividend t p.last ≡ true → write (enclosed x) p ≡ write (at_place tight dividend t x) p
+in_parentheses tight dividend t x p e = rw e refl
+
+-- a part that isn't left out
+pub in_frame : (around : Frame) (t : Tree) (p : Page) → is_absent t ≡ false
+    → write (chain (kinds (opening around)) (chain (anywhere (part_of t)) (kinds (closing around)))) p ≡ write (framed around (part_of t)) p
+in_frame around t p e = rw e refl
+
+-- arguments, where there are some
+pub as_arguments : (form : Form) (layout : PartLayout) (t : Tree) (p : Page) → layout ≡ part_is.Arguments → is_empty_row t ≡ false
+    → write (enclosed (rowed t separator.Comma)) p ≡ write (part form layout (part_of t)) p
+as_arguments form layout t p is e =
+    let first : write (enclosed (rowed t separator.Comma)) p ≡ write (part form part_is.Arguments (part_of t)) p = rw e refl in
+    first ∙ ap (λ q. write (part form q (part_of t)) p) (sym is)
+
+-- one more tree of several
+pub one_more : (by : Separator) (others : List Tree) (i : ℕ) (t : Tree) (p a b : Page) → i < length others → t ≡ get_or others i t
+    → a ≡ puts (map fixed (between by)) p → b ≡ write (anywhere (part_of t)) a
+    → write (followed by (parts_of (trees (drop (i + 1) others)))) b ≡ write (followed by (parts_of (trees (drop i others)))) p
+one_more by others i t p a b less at first second =
+    let rest : Writing = followed by (parts_of (trees (drop (i + 1) others))) in
+    let opened : write (followed by (parts_of (trees (drop i others)))) p ≡ write (followed by (parts_of (trees (t ∷ drop (i + 1) others)))) p =
+    at_drop_more (λ ts. write (followed by (parts_of (trees ts))) p) others i t less ∙ ap (λ x. write (followed by (parts_of (trees (x ∷ drop (i + 1) others)))) p) (sym at) in
+    ap (λ q. write rest q) (second ∙ ap (λ q. write (anywhere (part_of t)) q) first)
+    ∙ sym (write_chain (anywhere (part_of t)) rest (puts (map fixed (between by)) p))
+    ∙ sym (write_chain (kinds (between by)) (chain (anywhere (part_of t)) rest) p) ∙ sym opened
+
+-- the first of several trees, and the others
+pub first_and_others : (by : Separator) (all : List Tree) (t : Tree) (p a b : Page) → 1 ≤ length all → t ≡ get_or all 0 t
+    → a ≡ write (anywhere (part_of t)) p → b ≡ write (followed by (parts_of (trees (take (length all - 1) (drop 1 all))))) a
+    → b ≡ write (listed by (parts_of (trees all))) p
+first_and_others by [] t p a b some at first second = absurd (omega arith)
+first_and_others by (x ∷ xs) t p a b some at first second =
+    let rest : take (length (x ∷ xs) - 1) (drop 1 (x ∷ xs)) ≡ xs = take_all (length (x ∷ xs) - 1) xs (omega arith) in
+    second ∙ ap (λ ts. write (followed by (parts_of (trees ts))) a) rest
+    ∙ ap (λ q. write (followed by (parts_of (trees xs))) q) (first ∙ ap (λ y. write (anywhere (part_of y)) p) at)
+    ∙ sym (write_chain (anywhere (part_of x)) (followed by (parts_of (trees xs))) p)
+
+-- all parts that are left, and the pieces behind them
+pub all_and_rest : (form : Form) (d : Piece) (ps : List Piece) (by : Separator) (ts : List Tree) (p a b : Page) → 1 ≤ length ps → get_or ps 0 d ≡ pieces.All by
+    → a ≡ write (listed by (parts_of (trees ts))) p → b ≡ write (laid form (take (length ps - 1) (drop 1 ps)) (parts_of (trees []))) a
+    → b ≡ write (laid form ps (parts_of (trees ts))) p
+all_and_rest form d [] by ts p a b some at first second = absurd (omega arith)
+all_and_rest form d (x ∷ ps) by ts p a b some at first second =
+    let rest : take (length (x ∷ ps) - 1) (drop 1 (x ∷ ps)) ≡ ps = take_all (length (x ∷ ps) - 1) ps (omega arith) in
+    second ∙ ap (λ qs. write (laid form qs []) a) rest ∙ ap (λ q. write (laid form ps []) q) first ∙ sym (write_chain (listed by (parts_of (trees ts))) (laid form ps []) p)
+    ∙ ap (λ q. write (laid form (q ∷ ps) (parts_of (trees ts))) p) (sym at)
+
+-- the next part, and the pieces behind it
+pub part_and_rest : (form : Form) (d : Piece) (ps : List Piece) (layout : PartLayout) (ts : List Tree) (t : Tree) (p a b : Page) → 1 ≤ length ps → get_or ps 0 d ≡ pieces.Part layout → 1 ≤ length ts → t ≡ get_or ts 0 t
+    → a ≡ write (part form layout (part_of t)) p → b ≡ write (laid form (take (length ps - 1) (drop 1 ps)) (parts_of (trees (take (length ts - 1) (drop 1 ts))))) a
+    → b ≡ write (laid form ps (parts_of (trees ts))) p
+part_and_rest form d [] layout ts t p a b some at more found first second = absurd (omega arith)
+part_and_rest form d (x ∷ ps) layout [] t p a b some at more found first second = absurd (omega arith)
+part_and_rest form d (x ∷ ps) layout (u ∷ ts) t p a b some at more found first second =
+    let rest : take (length (x ∷ ps) - 1) (drop 1 (x ∷ ps)) ≡ ps = take_all (length (x ∷ ps) - 1) ps (omega arith) in
+    let others : take (length (u ∷ ts) - 1) (drop 1 (u ∷ ts)) ≡ ts = take_all (length (u ∷ ts) - 1) ts (omega arith) in
+    second ∙ ap (λ qs. write (laid form qs (parts_of (trees (take (length (u ∷ ts) - 1) (drop 1 (u ∷ ts)))))) a) rest
+    ∙ ap (λ vs. write (laid form ps (parts_of (trees vs))) a) others
+    ∙ ap (λ q. write (laid form ps (parts_of (trees ts))) q) (first ∙ ap (λ v. write (part form layout (part_of v)) p) found)
+    ∙ sym (write_chain (part form layout (part_of u)) (laid form ps (parts_of (trees ts))) p)
+    ∙ ap (λ q. write (laid form (q ∷ ps) (parts_of (trees (u ∷ ts)))) p) (sym at)
+
+-- a text before words stays before them
+put_behind : (w : Word) (front text : List ℕ) (last : Option TokenKind) → put w (page (front ++ text) last) ≡ page (front ++ (text ++ gap last (kind_of w) ++ written w)) (Some (kind_of w))
+put_behind w front text last =
+    ap (λ all. page (all ++ written w) (Some (kind_of w))) (append_assoc front text (gap last (kind_of w)))
+    ∙ ap (λ all. page all (Some (kind_of w))) (append_assoc front (text ++ gap last (kind_of w)) (written w))
+
+pub puts_behind : (ws : List Word) (front text : List ℕ) (last : Option TokenKind) → (puts ws (page (front ++ text) last)).text ≡ front ++ (puts ws (page text last)).text
+puts_behind [] front text last = refl
+puts_behind (w ∷ ws) front text last =
+    ap (λ q. let r : Page = puts ws q in r.text) (put_behind w front text last) ∙ puts_behind ws front (text ++ gap last (kind_of w) ++ written w) (Some (kind_of w))
+
+-- one more line
+pub one_line : (all : List Tree) (i : ℕ) (t : Tree) (p a : Page) → i < length all → t ≡ get_or all i t → p.last ≡ None → a ≡ write (spelled t) p
+    → (a.text ++ 10 ∷ []) ++ lines (trees (drop (i + 1) all)) ≡ p.text ++ lines (trees (drop i all))
+one_line all i t p a less at none is =
+    let rest : List ℕ = lines (trees (drop (i + 1) all)) in
+    let told : a.text ≡ p.text ++ (puts (spelled t None) (page [] None)).text =
+    ap (λ q. let r : Page = q in r.text) (is ∙ ap (λ l. puts (spelled t l) (page p.text l)) none)
+    ∙ ap (λ front. (puts (spelled t None) (page front None)).text) (sym (append-nil p.text)) ∙ puts_behind (spelled t None) p.text [] None in
+    let opened : lines (trees (drop i all)) ≡ line (spelled t None) ++ rest =
+    at_drop_more (λ ts. lines (trees ts)) all i t less ∙ ap (λ x. line (spelled x None) ++ rest) (sym at) in
+    ap (λ text. (text ++ 10 ∷ []) ++ rest) told
+    ∙ ap (λ text. text ++ rest) (append_assoc p.text (puts (spelled t None) (page [] None)).text (10 ∷ []))
+    ∙ append_assoc p.text (line (spelled t None)) rest ∙ ap (λ text. p.text ++ text) (sym opened)

@@ -1,0 +1,53 @@
+use Rattle.std.proofs.Common.{◌≡◌, ◌+◌, ◌≤◌, true, false, [], ◌∷◌, sym, ◌∙◌, arith}
+use Rattle.sp_lex.specs.declared.kinds.TokenKind.TheVariants as token
+use Rattle.sp_lex.specs.declared.kinds.Mark.TheVariants as mark
+use Rattle.sp_ast.specs.Trees.{trees, tree_size, trees_size}
+use Rattle.sp_print.specs.declared.layouts.Separator.TheVariants as separator
+use Rattle.sp_print.specs.Layouts.{opening, closing}
+use Rattle.sp_print.specs.Canonical.{needs_parentheses, is_absent, is_empty_row, spelled, rowed, part_of, anywhere}
+use Rattle.sp_print.proofs.Parts.{size_within}
+use Rattle.sp_print.proofs.Writing.{within, in_parentheses, in_frame, as_arguments, one_more, first_and_others, all_and_rest, part_and_rest}
+use Rattle.sp_print.proofs.print.+put.Goals as goal
+
+pub put_all-returns : goal.put_all-returns
+put_all-returns t c =
+    first_and_others c.args.by c.args.all.now c.first-item.result c.args.writer.now c.put_at.new.writer c.put_others.new.writer c.in-len1-up.len_at_least c.first-item.is c.in_ok-put_at.ensures c.in_ok-put_others.ensures
+
+pub put_at-returns : goal.put_at-returns
+put_at-returns t c =
+    let needs : needs_parentheses c.args.tight c.args.dividend c.args.tree.now c.args.writer.now.last ≡ true = cc in
+    within (token.Mark mark.LeftParen ∷ []) (token.Mark mark.RightParen ∷ []) (spelled c.args.tree.now) c.args.writer.now c.put_kind.new.self c.put_tree-2.new.writer c.put_kind-2.new.self c.in_ok-put_kind.ensures c.in_ok-put_tree.ensures c.in_ok-put_kind-2.ensures
+    ∙ in_parentheses c.args.tight c.args.dividend c.args.tree.now (spelled c.args.tree.now) c.args.writer.now needs
+
+pub put_framed-returns : goal.put_framed-returns
+put_framed-returns t c =
+    let stands : is_absent c.args.tree.now ≡ false = cc in
+    within (opening c.args.frame) (closing c.args.frame) (anywhere (part_of c.args.tree.now)) c.args.writer.now c.put_kinds.new.self c.put_at.new.writer c.put_kinds-2.new.self (rw c.opening.ensures at c.in_ok-put_kinds.ensures) c.in_ok-put_at.ensures (rw c.closing.ensures at c.in_ok-put_kinds-2.ensures)
+    ∙ in_frame c.args.frame c.args.tree.now c.args.writer.now stands
+
+pub put_others-put_at-requires : goal.put_others-put_at-requires
+put_others-put_at-requires t c =
+    let small : tree_size c.tree-item.result + 1 ≤ trees_size (trees c.args.others.now) = size_within c.args.others.now c.loop-tree.tree-index c.tree-item.result c.loop-tree-test.true c.tree-item.is in
+    (omega arith, tt)
+
+pub put_others-loop-tree-preserved : goal.put_others-loop-tree-preserved
+put_others-loop-tree-preserved t c =
+    one_more c.args.by c.args.others.now c.loop-tree.tree-index c.tree-item.result c.loop-tree.writer c.put_kinds.new.self c.put_at.new.writer c.loop-tree-test.true c.tree-item.is (rw c.kinds.ensures at c.in_ok-put_kinds.ensures) c.in_ok-put_at.ensures
+    ∙ c.loop-tree.invariant
+
+pub put_part-returns-in_ok-put_kind-in-Arguments-2 : goal.put_part-returns-in_ok-put_kind-in-Arguments-2
+put_part-returns-in_ok-put_kind-in-Arguments-2 t c =
+    let some : is_empty_row c.args.tree.now ≡ false = cc in
+    within (token.Mark mark.LeftParen ∷ []) (token.Mark mark.RightParen ∷ []) (rowed c.args.tree.now separator.Comma) c.args.writer.now c.put_kind.new.self c.put_row-in-Arguments.new.writer c.put_kind-in-Arguments.new.self c.in_ok-put_kind-in-Arguments.ensures c.in_ok-put_row-in-Arguments.ensures c.in_ok-put_kind-in-Arguments-2.ensures
+    ∙ as_arguments c.args.form.now c.args.layout c.args.tree.now c.args.writer.now c.in-Arguments.is some
+
+pub put_pieces-put_all-requires : goal.put_pieces-put_all-requires
+put_pieces-put_all-requires t c = (omega (arith, c.in-len1-up.len_at_least), tt)
+
+pub put_pieces-returns-in_ok-put_pieces-in-All-default : goal.put_pieces-returns-in_ok-put_pieces-in-All-default
+put_pieces-returns-in_ok-put_pieces-in-All-default t c =
+    all_and_rest c.args.form.now _ c.args.pieces.now c.in-All-default.by c.args.parts.now c.args.writer.now c.put_all.new.writer c.put_pieces-in-All-default.new.writer c.in-len1-up.len_at_least c.in-All-default.is-0 c.in_ok-put_all-in-All-default.ensures c.in_ok-put_pieces-in-All-default.ensures
+
+pub put_pieces-returns-in_ok-put_pieces-in-Part-len1-up : goal.put_pieces-returns-in_ok-put_pieces-in-Part-len1-up
+put_pieces-returns-in_ok-put_pieces-in-Part-len1-up t c =
+    part_and_rest c.args.form.now _ c.args.pieces.now c.in-Part-len1-up.layout c.args.parts.now c.part-item.result c.args.writer.now c.put_part.new.writer c.put_pieces-in-Part-len1-up.new.writer c.in-len1-up.len_at_least c.in-Part-len1-up.is-0 c.in-Part-len1-up.len_at_least c.part-item.is c.in_ok-put_part-in-Part-len1-up.ensures c.in_ok-put_pieces-in-Part-len1-up.ensures

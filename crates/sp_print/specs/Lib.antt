@@ -1,0 +1,5 @@
+pub mod Words
+pub mod Page
+pub mod Layouts
+pub mod Own
+pub mod Canonical
