@@ -4,6 +4,7 @@
 mod change;
 mod keyed;
 mod laws;
+mod level;
 mod make;
 mod order;
 mod read;
@@ -12,5 +13,6 @@ mod tests;
 mod value;
 
 pub use laws::{law_of_equality, law_of_keys, law_of_order};
+pub use level::Level;
 pub use order::compare;
 pub use value::Value;
