@@ -8,6 +8,7 @@ mod level;
 mod make;
 mod order;
 mod read;
+mod swap;
 #[cfg(test)]
 mod tests;
 mod value;
