@@ -5,6 +5,7 @@ mod change;
 mod keyed;
 mod laws;
 mod level;
+mod list;
 mod make;
 mod order;
 mod read;
@@ -15,5 +16,6 @@ mod value;
 
 pub use laws::{law_of_equality, law_of_keys, law_of_order};
 pub use level::Level;
+pub use list::copy_all;
 pub use order::compare;
 pub use value::Value;

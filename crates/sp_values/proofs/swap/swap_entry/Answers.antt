@@ -1,4 +1,4 @@
-use Rattle.std.proofs.Common.{◌≡◌, subst, ap, sym, ◌∙◌, IfOk}
+use Rattle.std.proofs.Common.{◌≡◌, subst, ap, IfOk}
 use Rattle.std.specs.Prelude.{is_some, unwrap_or}
 use Rattle.std.specs.Option.{option_map, option_map_or}
 use Rattle.sp_values.specs.Val.{Val}

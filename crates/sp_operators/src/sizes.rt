@@ -1,0 +1,30 @@
+// The size of a value.
+ghost use Rattle.std.specs.Prelude.{◌≡◌, length};
+ghost use Rattle.std.specs.Str.{chars};
+ghost use Rattle.sp_operators.specs.Operands.{TakesOne};
+ghost use Rattle.sp_operators.specs.Operators.{size_of};
+
+use crate::operators::UnOp;
+use sp_values::{Level, Value};
+
+/// How many characters a text has, which takes a look at each.
+fn characters(text: &str) -> usize
+    ensures { result ≡ length (chars text.now) }
+{
+    text.chars().count()
+}
+
+/// How many bytes, characters, items, keys or entries there are.
+pub(crate) fn size(value: &Value) -> usize
+    requires { TakesOne UnOp.Size value.now }
+    ensures { result ≡ size_of value.now }
+{
+    match value.level() {
+        Level::Bytes(bytes) => bytes.len(),
+        Level::Str(text) => characters(text),
+        Level::Vector(items) => items.len(),
+        Level::Set(keys) => keys.len(),
+        Level::Map(entries) => entries.len(),
+        _ => unreachable!(),
+    }
+}
