@@ -1,5 +1,5 @@
 -- The operators on values: functions on whole numbers, bytes and texts, with the error where a result is out of its type's range.
-use Rattle.std.specs.Prelude.{ℕ, ◌+◌, ◌^◌, pos, neg_ℤ, Bool, nat_lt, nat_le, not, length, ◌++◌, Result, Ok, Err, if◌then◌else◌}
+use Rattle.std.specs.Prelude.{ℕ, ◌+◌, ◌^◌, ℤ, pos, neg_ℤ, Bool, nat_lt, nat_le, not, length, ◌++◌, Result, Ok, Err, if◌then◌else◌}
 use Rattle.std.specs.Ordering.{is_eq, is_ne, is_lt, is_le, is_gt, is_ge}
 use Rattle.std.specs.Str.{chars}
 use Rattle.sp_base.specs.declared.kinds.PKind.{PKind}
@@ -37,10 +37,14 @@ value_or_error make (Err error) = Err error
 abbrev pub wider : Width → Width → Width
 wider v w = if nat_lt (width_bits v) (width_bits w) then w else v
 
+-- an operator on two signed integers: the result has the wider type
+unfoldable pub signed_result : Arithmetic → Width → ℤ → Width → ℤ → Result Val PKind
+signed_result operator v m w n = value_or_error (int (wider v w)) (signed_arithmetic operator (wider v w) m n)
+
 -- an operator on two integers of one signedness: the result has the wider type
 abbrev pub arithmetic : Arithmetic → Val → Val → Result Val PKind
 arithmetic operator (uint v m) (uint w n) = value_or_error (uint (wider v w)) (unsigned_arithmetic operator (wider v w) m n)
-arithmetic operator (int v m) (int w n) = value_or_error (int (wider v w)) (signed_arithmetic operator (wider v w) m n)
+arithmetic operator (int v m) (int w n) = signed_result operator v m w n
 arithmetic operator _ _ = no_operands
 
 -- an operator on the bits of two unsigned integers: the result has the wider type

@@ -1,9 +1,9 @@
 // The operators on integers and iterators, on values.
 ghost use Rattle.std.specs.Prelude.{◌≡◌, ◌^◌, ◌<◌};
-ghost use Rattle.sp_numbers.specs.Numbers.{width_bits, unsigned_arithmetic, signed_arithmetic, bitwise, shifted};
-ghost use Rattle.sp_values.specs.Val.{uint, int, place};
+ghost use Rattle.sp_numbers.specs.Numbers.{width_bits, unsigned_arithmetic, bitwise, shifted};
+ghost use Rattle.sp_values.specs.Val.{uint, place};
 ghost use Rattle.sp_operators.specs.Operands.{AreIntegers, AreUnsigned};
-ghost use Rattle.sp_operators.specs.Operators.{wider, value_or_error, arithmetic, bit_operation, shift_by, place_behind};
+ghost use Rattle.sp_operators.specs.Operators.{wider, value_or_error, signed_result, arithmetic, bit_operation, shift_by, place_behind};
 
 use sp_base::PKind;
 use sp_numbers::{Arithmetic, BitOperator, Shift, Width};
@@ -19,18 +19,27 @@ fn wider(v: Width, w: Width) -> Width
     if v.bits() < w.bits() { w } else { v }
 }
 
-fn of_unsigned(operator: Arithmetic, width: Width, m: u64, n: u64) -> Result<Value, PKind>
-    ensures { result ≡ value_or_error (uint width) (unsigned_arithmetic operator width m n) }
+fn of_unsigned(
+    operator: Arithmetic,
+    v: Width,
+    m: u64,
+    w: Width,
+    n: u64,
+) -> Result<Value, PKind>
+    ensures { result ≡ value_or_error (uint (wider v w)) (unsigned_arithmetic operator (wider v w) m n) }
 {
+    let width = wider(v, w);
     match sp_numbers::unsigned_arithmetic(operator, width, m, n) {
         Ok(number) => Ok(Value::uint(width, number)),
         Err(error) => Err(error),
     }
 }
 
-fn of_signed(operator: Arithmetic, width: Width, m: i64, n: i64) -> Result<Value, PKind>
-    ensures { result ≡ value_or_error (int width) (signed_arithmetic operator width m n) }
+#[tactic(auto, unfolding(crate::specs::Operators::signed_result))]
+fn of_signed(operator: Arithmetic, v: Width, m: i64, w: Width, n: i64) -> Result<Value, PKind>
+    ensures { result ≡ signed_result operator v m w n }
 {
+    let width = wider(v, w);
     match sp_numbers::signed_arithmetic(operator, width, m, n) {
         Ok(number) => Ok(Value::int(width, number)),
         Err(error) => Err(error),
@@ -43,8 +52,8 @@ pub(crate) fn arithmetic(operator: Arithmetic, a: &Value, b: &Value) -> Result<V
     ensures { result ≡ arithmetic operator a.now b.now }
 {
     match (a.level(), b.level()) {
-        (Level::Uint(v, m), Level::Uint(w, n)) => of_unsigned(operator, wider(v, w), m, n),
-        (Level::Int(v, m), Level::Int(w, n)) => of_signed(operator, wider(v, w), m, n),
+        (Level::Uint(v, m), Level::Uint(w, n)) => of_unsigned(operator, v, m, w, n),
+        (Level::Int(v, m), Level::Int(w, n)) => of_signed(operator, v, m, w, n),
         _ => unreachable!(),
     }
 }

@@ -1,17 +1,17 @@
 //! The operators of the language on values of a run.
 #![tactic(auto)]
 
-mod binary;
 mod casts;
 mod contains;
 mod fault;
 mod integers;
+mod one_value;
 mod operators;
 mod sizes;
-mod unary;
+mod two_values;
 
-pub use binary::binary;
+pub use two_values::binary;
 pub use casts::cast;
 pub use fault::ValueFault;
 pub use operators::{BinOp, PlainType, UnOp};
-pub use unary::unary;
+pub use one_value::unary;

@@ -15,6 +15,7 @@ fn characters(text: &str) -> usize
 }
 
 /// How many bytes, characters, items, keys or entries there are.
+#[tactic(auto, using(sp_values::proofs::Lists::list_of_vals_of, sp_values::proofs::Lists::pairs_of_entries_of))]
 pub(crate) fn size(value: &Value) -> usize
     requires { TakesOne UnOp.Size value.now }
     ensures { result ≡ size_of value.now }
