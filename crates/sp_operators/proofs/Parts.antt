@@ -35,8 +35,8 @@ behind_first : (b a : ℕ) (whole part : List ℕ) → OccursAt (b ∷ whole) (a
 behind_first b a whole part h = record {
   fits = omega (arith, h.fits);
   reads = λ j low.
-    let e : slice_index (b ∷ whole) (suc (zero + j)) ≡ slice_index part j = subst (λ i. slice_index (b ∷ whole) i ≡ slice_index part j) {x = zero + suc j} {y = suc (zero + j)} (omega arith) (h.reads (suc j) (omega arith)) in
-    e;
+      let e : slice_index (b ∷ whole) (suc (zero + j)) ≡ slice_index part j = subst (λ i. slice_index (b ∷ whole) i ≡ slice_index part j) {x = zero + suc j} {y = suc (zero + j)} (omega arith) (h.reads (suc j) (omega arith)) in
+      e;
 }
 
 first_is : (b a : ℕ) (whole part : List ℕ) → OccursAt (b ∷ whole) (a ∷ part) zero → b ≡ a
@@ -76,9 +76,9 @@ has_part-OccursAt (b ∷ whole) part (suc k) h = or_right (begins_with (b ∷ wh
 place_of_part : (whole part : List ℕ) → has_part whole part ≡ true → (k : ℕ) × (k < length whole + 1) × OccursAt whole part k
 place_of_part [] part h = (zero, omega arith, OccursAt-begins [] part h)
 place_of_part (b ∷ whole) part h = elim (either (begins_with (b ∷ whole) part) (has_part whole part) h) [
-    inl front ↦ (zero, omega arith, OccursAt-begins (b ∷ whole) part front)
+  | inl front ↦ (zero, omega arith, OccursAt-begins (b ∷ whole) part front)
   | inr rest ↦ let found = place_of_part whole part rest in (suc found.0, omega (arith, found.1), farther b whole part found.0 found.2)
-  ]
+]
 
 module _ (whole part : List ℕ) where
   none : FindsNeedle whole part 0 None → (b : Bool) → has_part whole part ≡ b → false ≡ has_part whole part

@@ -1,5 +1,5 @@
 -- Which kinds of values each operator takes.
-use Rattle.std.specs.Prelude.{◌≡◌}
+use Rattle.std.specs.Prelude.{Bool, true, false, ◌==◌}
 use Rattle.sp_values.specs.Val.{Val, bool, uint, int, bytes, str, enum, vector, set, map, place}
 use Rattle.sp_values.specs.Order.{kind}
 use Rattle.sp_operators.specs.declared.operators.BinOp.{BinOp}
@@ -10,91 +10,91 @@ use Rattle.sp_operators.specs.declared.operators.PlainType.{PlainType}
 use Rattle.sp_operators.specs.declared.operators.PlainType.TheVariants.{Uint, Int, Enum}
 
 -- integers of one signedness
-abbrev pub AreIntegers : Val → Val → Type 0
-AreIntegers (uint _ _) (uint _ _) = Unit {0}
-AreIntegers (int _ _) (int _ _) = Unit {0}
-AreIntegers _ _ = ⊥
+abbrev pub are_integers : Val → Val → Bool
+are_integers (uint _ _) (uint _ _) = true
+are_integers (int _ _) (int _ _) = true
+are_integers _ _ = false
 
-abbrev pub AreUnsigned : Val → Val → Type 0
-AreUnsigned (uint _ _) (uint _ _) = Unit {0}
-AreUnsigned _ _ = ⊥
+abbrev pub are_unsigned : Val → Val → Bool
+are_unsigned (uint _ _) (uint _ _) = true
+are_unsigned _ _ = false
 
 -- two bytes or two texts: their sum takes memory
-abbrev pub AreJoined : Val → Val → Type 0
-AreJoined (bytes _) (bytes _) = Unit {0}
-AreJoined (str _) (str _) = Unit {0}
-AreJoined _ _ = ⊥
+abbrev pub are_joined : Val → Val → Bool
+are_joined (bytes _) (bytes _) = true
+are_joined (str _) (str _) = true
+are_joined _ _ = false
 
 -- integers of one signedness, two bytes, two texts, or an iterator and how far it goes
-abbrev pub AreAdded : Val → Val → Type 0
-AreAdded (bytes _) (bytes _) = Unit {0}
-AreAdded (str _) (str _) = Unit {0}
-AreAdded (place _) (uint _ _) = Unit {0}
-AreAdded a b = AreIntegers a b
+abbrev pub are_added : Val → Val → Bool
+are_added (bytes _) (bytes _) = true
+are_added (str _) (str _) = true
+are_added (place _) (uint _ _) = true
+are_added a b = are_integers a b
 
 -- integers of one signedness, two bytes, two texts, or two iterators
-abbrev pub AreOrdered : Val → Val → Type 0
-AreOrdered (bytes _) (bytes _) = Unit {0}
-AreOrdered (str _) (str _) = Unit {0}
-AreOrdered (place _) (place _) = Unit {0}
-AreOrdered a b = AreIntegers a b
+abbrev pub are_ordered : Val → Val → Bool
+are_ordered (bytes _) (bytes _) = true
+are_ordered (str _) (str _) = true
+are_ordered (place _) (place _) = true
+are_ordered a b = are_integers a b
 
 -- two values of one kind
-abbrev pub AreAlike : Val → Val → Type 0
-AreAlike a b = kind a ≡ kind b
+abbrev pub are_alike : Val → Val → Bool
+are_alike a b = kind a == kind b
 
 -- a key and a set or a map, or two bytes
-abbrev pub CanHold : Val → Val → Type 0
-CanHold _ (set _) = Unit {0}
-CanHold _ (map _) = Unit {0}
-CanHold (bytes _) (bytes _) = Unit {0}
-CanHold _ _ = ⊥
+abbrev pub can_hold : Val → Val → Bool
+can_hold _ (set _) = true
+can_hold _ (map _) = true
+can_hold (bytes _) (bytes _) = true
+can_hold _ _ = false
 
--- what stands before and behind an operator
-abbrev pub Takes : BinOp → Val → Val → Type 0
-Takes In a b = CanHold a b
-Takes NotIn a b = CanHold a b
-Takes Equal a b = AreAlike a b
-Takes NotEqual a b = AreAlike a b
-Takes Less a b = AreOrdered a b
-Takes LessEqual a b = AreOrdered a b
-Takes Greater a b = AreOrdered a b
-Takes GreaterEqual a b = AreOrdered a b
-Takes BitOr a b = AreUnsigned a b
-Takes BitXor a b = AreUnsigned a b
-Takes BitAnd a b = AreUnsigned a b
-Takes ShiftLeft a b = AreUnsigned a b
-Takes ShiftRight a b = AreUnsigned a b
-Takes Add a b = AreAdded a b
-Takes Subtract a b = AreIntegers a b
-Takes Multiply a b = AreIntegers a b
-Takes Divide a b = AreIntegers a b
-Takes Remainder a b = AreIntegers a b
+-- whether two values can stand before and behind an operator
+abbrev pub takes : BinOp → Val → Val → Bool
+takes In a b = can_hold a b
+takes NotIn a b = can_hold a b
+takes Equal a b = are_alike a b
+takes NotEqual a b = are_alike a b
+takes Less a b = are_ordered a b
+takes LessEqual a b = are_ordered a b
+takes Greater a b = are_ordered a b
+takes GreaterEqual a b = are_ordered a b
+takes BitOr a b = are_unsigned a b
+takes BitXor a b = are_unsigned a b
+takes BitAnd a b = are_unsigned a b
+takes ShiftLeft a b = are_unsigned a b
+takes ShiftRight a b = are_unsigned a b
+takes Add a b = are_added a b
+takes Subtract a b = are_integers a b
+takes Multiply a b = are_integers a b
+takes Divide a b = are_integers a b
+takes Remainder a b = are_integers a b
 
--- where an operator between two values takes memory
-abbrev pub TakesMemory : BinOp → Val → Val → Type 0
-TakesMemory Add a b = AreJoined a b
-TakesMemory _ a b = ⊥
+-- whether an operator between two values takes memory
+abbrev pub takes_memory : BinOp → Val → Val → Bool
+takes_memory Add a b = are_joined a b
+takes_memory _ a b = false
 
--- what an operator on one value stands at: a size is that of bytes, a text, a vector, a set or a map
-abbrev pub TakesOne : UnOp → Val → Type 0
-TakesOne Not (bool _) = Unit {0}
-TakesOne Negate (int _ _) = Unit {0}
-TakesOne Complement (uint _ _) = Unit {0}
-TakesOne Size (bytes _) = Unit {0}
-TakesOne Size (str _) = Unit {0}
-TakesOne Size (vector _) = Unit {0}
-TakesOne Size (set _) = Unit {0}
-TakesOne Size (map _) = Unit {0}
-TakesOne _ _ = ⊥
+-- whether an operator on one value takes it: a size is that of bytes, a text, a vector, a set or a map
+abbrev pub takes_one : UnOp → Val → Bool
+takes_one Not (bool _) = true
+takes_one Negate (int _ _) = true
+takes_one Complement (uint _ _) = true
+takes_one Size (bytes _) = true
+takes_one Size (str _) = true
+takes_one Size (vector _) = true
+takes_one Size (set _) = true
+takes_one Size (map _) = true
+takes_one _ _ = false
 
 -- a cast goes from an integer to an integer or an enum, and from an enum to an unsigned integer
-abbrev pub IsCast : Val → PlainType → Type 0
-IsCast (uint _ _) (Uint _) = Unit {0}
-IsCast (uint _ _) (Int _) = Unit {0}
-IsCast (uint _ _) (Enum _) = Unit {0}
-IsCast (int _ _) (Uint _) = Unit {0}
-IsCast (int _ _) (Int _) = Unit {0}
-IsCast (int _ _) (Enum _) = Unit {0}
-IsCast (enum _ _) (Uint _) = Unit {0}
-IsCast _ _ = ⊥
+abbrev pub is_cast : Val → PlainType → Bool
+is_cast (uint _ _) (Uint _) = true
+is_cast (uint _ _) (Int _) = true
+is_cast (uint _ _) (Enum _) = true
+is_cast (int _ _) (Uint _) = true
+is_cast (int _ _) (Int _) = true
+is_cast (int _ _) (Enum _) = true
+is_cast (enum _ _) (Uint _) = true
+is_cast _ _ = false

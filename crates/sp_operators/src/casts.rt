@@ -1,11 +1,11 @@
 // Casts between integers, and between integers and enums.
-ghost use Rattle.std.specs.Prelude.{◌≡◌, pos};
+ghost use Rattle.std.specs.Prelude.{◌≡◌, pos, IsTrue, false};
 ghost use Rattle.sp_base.specs.declared.kinds.PKind.TheVariants.{CastRange};
 ghost use Rattle.sp_numbers.specs.declared.width.Width.TheVariants.{W64};
 ghost use Rattle.sp_numbers.specs.Numbers.{unsigned_or, signed_or};
 ghost use Rattle.sp_values.specs.Val.{uint, int, enum};
 ghost use Rattle.sp_operators.specs.Outcomes.{Answers};
-ghost use Rattle.sp_operators.specs.Operands.{IsCast};
+ghost use Rattle.sp_operators.specs.Operands.{is_cast};
 ghost use Rattle.sp_operators.specs.Operators.{value_or_error, cast};
 
 use crate::fault::{ValueFault, told};
@@ -60,7 +60,7 @@ fn signed_as_label(kind: u32, n: i64) -> Result<Value, PKind>
 }
 
 fn found(a: &Value, to: PlainType) -> Result<Value, PKind>
-    requires { IsCast a.now to }
+    requires { IsTrue (is_cast a.now to) }
     ensures { result ≡ cast a.now to }
 {
     match (a.level(), to) {
@@ -78,8 +78,8 @@ fn found(a: &Value, to: PlainType) -> Result<Value, PKind>
 /// The value as one of another type: an integer as an integer or as an enum, which need not list its number, and a label as
 /// an unsigned integer. It takes no memory. Error: `CastRange` where the other type doesn't have the number.
 pub fn cast(a: &Value, to: &PlainType) -> Result<Value, ValueFault>
-    requires { IsCast a.now to.now }
-    ensures { Answers ⊥ (cast a.now to.now) result }
+    requires { IsTrue (is_cast a.now to.now) }
+    ensures { Answers false (cast a.now to.now) result }
 {
     told(found(a, *to))
 }

@@ -1,7 +1,7 @@
 // Whether a key is in a set or a map, or bytes are a part of others.
-ghost use Rattle.std.specs.Prelude.{◌≡◌};
+ghost use Rattle.std.specs.Prelude.{◌≡◌, IsTrue};
 ghost use Rattle.sp_operators.specs.Parts.{has_part};
-ghost use Rattle.sp_operators.specs.Operands.{CanHold};
+ghost use Rattle.sp_operators.specs.Operands.{can_hold};
 ghost use Rattle.sp_operators.specs.Operators.{is_in};
 
 use memchr::memmem;
@@ -16,7 +16,7 @@ fn has_part(whole: &[u8], part: &[u8]) -> bool
 
 /// Whether bytes stand in others, or a key in a set or a map.
 pub(crate) fn is_in(a: &Value, b: &Value) -> bool
-    requires { CanHold a.now b.now }
+    requires { IsTrue (can_hold a.now b.now) }
     ensures { result ≡ is_in a.now b.now }
 {
     match (a.level(), b.level()) {

@@ -1,4 +1,5 @@
 // Why an operator has no value.
+ghost use Rattle.std.specs.Prelude.{false};
 ghost use Rattle.sp_operators.specs.Outcomes.{Answers};
 
 use sp_base::PKind;
@@ -15,7 +16,7 @@ pub enum ValueFault {
 
 /// The answer of a call that takes no memory.
 pub(crate) fn told(found: Result<Value, PKind>) -> Result<Value, ValueFault>
-    ensures { Answers ⊥ found result }
+    ensures { Answers false found result }
 {
     match found {
         Ok(value) => Ok(value),

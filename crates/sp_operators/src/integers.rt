@@ -1,8 +1,8 @@
 // The operators on integers and iterators, on values.
-ghost use Rattle.std.specs.Prelude.{◌≡◌, ◌^◌, ◌<◌};
+ghost use Rattle.std.specs.Prelude.{◌≡◌, ◌^◌, ◌<◌, IsTrue};
 ghost use Rattle.sp_numbers.specs.Numbers.{width_bits, unsigned_arithmetic, bitwise, shifted};
 ghost use Rattle.sp_values.specs.Val.{uint, place};
-ghost use Rattle.sp_operators.specs.Operands.{AreIntegers, AreUnsigned};
+ghost use Rattle.sp_operators.specs.Operands.{are_integers, are_unsigned};
 ghost use Rattle.sp_operators.specs.Operators.{wider, value_or_error, signed_result, arithmetic, bit_operation, shift_by, place_behind};
 
 use sp_base::PKind;
@@ -19,13 +19,7 @@ fn wider(v: Width, w: Width) -> Width
     if v.bits() < w.bits() { w } else { v }
 }
 
-fn of_unsigned(
-    operator: Arithmetic,
-    v: Width,
-    m: u64,
-    w: Width,
-    n: u64,
-) -> Result<Value, PKind>
+fn of_unsigned(operator: Arithmetic, v: Width, m: u64, w: Width, n: u64) -> Result<Value, PKind>
     ensures { result ≡ value_or_error (uint (wider v w)) (unsigned_arithmetic operator (wider v w) m n) }
 {
     let width = wider(v, w);
@@ -48,7 +42,7 @@ fn of_signed(operator: Arithmetic, v: Width, m: i64, w: Width, n: i64) -> Result
 
 /// `+`, `-`, `*`, `/` or `%` of two integers of one signedness. Errors: `Overflow` and `DivZero`.
 pub(crate) fn arithmetic(operator: Arithmetic, a: &Value, b: &Value) -> Result<Value, PKind>
-    requires { AreIntegers a.now b.now }
+    requires { IsTrue (are_integers a.now b.now) }
     ensures { result ≡ arithmetic operator a.now b.now }
 {
     match (a.level(), b.level()) {
@@ -68,7 +62,7 @@ fn of_bits(operator: BitOperator, v: Width, m: u64, w: Width, n: u64) -> Value
 
 /// `&`, `|` or `^` of two unsigned integers.
 pub(crate) fn bit_operation(operator: BitOperator, a: &Value, b: &Value) -> Result<Value, PKind>
-    requires { AreUnsigned a.now b.now }
+    requires { IsTrue (are_unsigned a.now b.now) }
     ensures { result ≡ bit_operation operator a.now b.now }
 {
     match (a.level(), b.level()) {
@@ -89,7 +83,7 @@ fn of_shift(direction: Shift, width: Width, m: u64, count: u64) -> Result<Value,
 
 /// `<<` or `>>` of two unsigned integers. Error: `BadShift`.
 pub(crate) fn shift_by(direction: Shift, a: &Value, b: &Value) -> Result<Value, PKind>
-    requires { AreUnsigned a.now b.now }
+    requires { IsTrue (are_unsigned a.now b.now) }
     ensures { result ≡ shift_by direction a.now b.now }
 {
     match (a.level(), b.level()) {

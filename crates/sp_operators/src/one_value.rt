@@ -1,10 +1,10 @@
 // The operators on one value.
-ghost use Rattle.std.specs.Prelude.{◌≡◌, neg_ℤ};
+ghost use Rattle.std.specs.Prelude.{◌≡◌, neg_ℤ, IsTrue, false};
 ghost use Rattle.sp_base.specs.declared.kinds.PKind.TheVariants.{Overflow};
 ghost use Rattle.sp_numbers.specs.Numbers.{signed_or};
 ghost use Rattle.sp_values.specs.Val.{int};
 ghost use Rattle.sp_operators.specs.Outcomes.{Answers};
-ghost use Rattle.sp_operators.specs.Operands.{TakesOne};
+ghost use Rattle.sp_operators.specs.Operands.{takes_one};
 ghost use Rattle.sp_operators.specs.Operators.{value_or_error, unary};
 
 use crate::fault::{ValueFault, told};
@@ -24,7 +24,7 @@ fn negated(width: Width, n: i64) -> Result<Value, PKind>
 }
 
 fn found(op: UnOp, a: &Value) -> Result<Value, PKind>
-    requires { TakesOne op a.now }
+    requires { IsTrue (takes_one op a.now) }
     ensures { result ≡ unary op a.now }
 {
     match (op, a.level()) {
@@ -40,8 +40,8 @@ fn found(op: UnOp, a: &Value) -> Result<Value, PKind>
 
 /// What the operator makes of a value. It takes no memory. Error: `Overflow` of `-`.
 pub fn unary(op: UnOp, a: &Value) -> Result<Value, ValueFault>
-    requires { TakesOne op a.now }
-    ensures { Answers ⊥ (unary op a.now) result }
+    requires { IsTrue (takes_one op a.now) }
+    ensures { Answers false (unary op a.now) result }
 {
     told(found(op, a))
 }

@@ -1,7 +1,7 @@
 // The size of a value.
-ghost use Rattle.std.specs.Prelude.{◌≡◌, length};
+ghost use Rattle.std.specs.Prelude.{◌≡◌, length, IsTrue};
 ghost use Rattle.std.specs.Str.{chars};
-ghost use Rattle.sp_operators.specs.Operands.{TakesOne};
+ghost use Rattle.sp_operators.specs.Operands.{takes_one};
 ghost use Rattle.sp_operators.specs.Operators.{size_of};
 
 use crate::operators::UnOp;
@@ -17,7 +17,7 @@ fn characters(text: &str) -> usize
 /// How many bytes, characters, items, keys or entries there are.
 #[tactic(auto, using(sp_values::proofs::Lists::list_of_vals_of, sp_values::proofs::Lists::pairs_of_entries_of))]
 pub(crate) fn size(value: &Value) -> usize
-    requires { TakesOne UnOp.Size value.now }
+    requires { IsTrue (takes_one UnOp.Size value.now) }
     ensures { result ≡ size_of value.now }
 {
     match value.level() {

@@ -1,8 +1,8 @@
 // The operators between two values.
-ghost use Rattle.std.specs.Prelude.{◌≡◌, IfOk, MatchResult};
+ghost use Rattle.std.specs.Prelude.{◌≡◌, IfOk, MatchResult, IsTrue};
 ghost use Rattle.sp_values.specs.Changes.{IsBytes, IsText, with_bytes, with_text};
 ghost use Rattle.sp_operators.specs.Outcomes.{Answers};
-ghost use Rattle.sp_operators.specs.Operands.{AreAdded, AreJoined, Takes, TakesMemory};
+ghost use Rattle.sp_operators.specs.Operands.{are_added, are_joined, takes, takes_memory};
 ghost use Rattle.sp_operators.specs.Operators.{added, binary};
 
 use crate::contains::is_in;
@@ -43,8 +43,8 @@ fn joined(found: Result<Value, NoMemory>) -> Result<Value, ValueFault>
 
 /// Bytes or texts one behind the other, an iterator farther on, or the sum of integers.
 fn added(a: &Value, b: &Value) -> Result<Value, ValueFault>
-    requires { AreAdded a.now b.now }
-    ensures { Answers (AreJoined a.now b.now) (added a.now b.now) result }
+    requires { IsTrue (are_added a.now b.now) }
+    ensures { Answers (are_joined a.now b.now) (added a.now b.now) result }
 {
     match (a.level(), b.level()) {
         (Level::Bytes(_), Level::Bytes(more)) => joined(with_bytes(a, more)),
@@ -57,8 +57,8 @@ fn added(a: &Value, b: &Value) -> Result<Value, ValueFault>
 /// What the operator makes of two values; texts are ordered by their bytes, and two bitfields are equal where all their
 /// bits are. Memory is taken by `+` of bytes and of texts alone. Errors: `Overflow`, `DivZero` and `BadShift`.
 pub fn binary(op: BinOp, a: &Value, b: &Value) -> Result<Value, ValueFault>
-    requires { Takes op a.now b.now }
-    ensures { Answers (TakesMemory op a.now b.now) (binary op a.now b.now) result }
+    requires { IsTrue (takes op a.now b.now) }
+    ensures { Answers (takes_memory op a.now b.now) (binary op a.now b.now) result }
 {
     match op {
         BinOp::In => Ok(Value::bool(is_in(a, b))),

@@ -17,5 +17,5 @@ mod value;
 pub use laws::{law_of_equality, law_of_keys, law_of_order};
 pub use level::Level;
 pub use list::copy_all;
-pub use order::compare;
+pub use order::{compare, kind};
 pub use value::Value;

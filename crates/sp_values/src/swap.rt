@@ -23,11 +23,7 @@ fn swap_in(items: &mut Rc<Vec<Value>>, i: usize, x: &mut Value) -> Result<(), No
     Ok(())
 }
 
-fn swap_at(
-    entries: &mut Rc<Vec<(Value, Value)>>,
-    i: usize,
-    x: &mut Value,
-) -> Result<bool, NoMemory>
+fn swap_at(entries: &mut Rc<Vec<(Value, Value)>>, i: usize, x: &mut Value) -> Result<bool, NoMemory>
     requires { i < length entries.old.value.items }
     ensures there { IfOk result (λ there. there ≡ true) }
     ensures ok { OnOk result ((e : Val × Val) → slice_get entries.old.value.items i ≡ Some e →
