@@ -40,6 +40,20 @@ impl Value {
         }
     }
 
+    fn get_mut(&mut self, key: u64) -> Option<&mut Value> {
+        match self {
+            Value::Map(entries) => {
+                let own = Rc::make_mut(entries);
+                let found = own.binary_search_by(|entry| match entry.0 {
+                    Value::Uint(_, n) => n.cmp(&key),
+                    _ => std::cmp::Ordering::Less,
+                });
+                found.ok().map(move |i| &mut own[i].1)
+            }
+            _ => None,
+        }
+    }
+
     fn size(&self) -> usize {
         match std::hint::black_box(self) {
             Value::Vector(items) => items.len(),
@@ -81,6 +95,20 @@ fn main() {
             }
             map.size()
         }
+        "deep" => {
+            let mut map = Value::Map(Rc::new(Vec::new()));
+            map.insert(7, Value::Vector(Rc::new(Vec::new())));
+            for n in 0..COUNT {
+                if let Some(inner) = map.get_mut(7) {
+                    inner.push_back(Value::Uint(Width::W64, n));
+                }
+            }
+            map.get_mut(7).map_or(0, |inner| inner.size())
+        }
+        "copy" => match filled(COUNT) {
+            Value::Vector(items) => Value::Vector(Rc::new(items.to_vec())).size(),
+            _ => 0,
+        },
         _ => 0,
     };
     println!("{count}");
