@@ -1,11 +1,13 @@
 -- An ascending list stays one where a key is put or taken away.
-use Rattle.std.proofs.Common.{◌≡◌, List, [], ◌∷◌, refl, sym, ap, ◌∙◌}
+use Rattle.std.proofs.Common.{◌≡◌, List, [], ◌∷◌, Option, None, Some, refl, sym, ap, ◌∙◌}
+use Rattle.std.specs.Option.{option_map_or}
 use Rattle.std.specs.declared.cmp.Ordering.{Ordering}
 use Rattle.std.specs.declared.cmp.Ordering.TheVariants.{Less, Equal, Greater}
 use Rattle.std.specs.Ordering.{match_ordering, ordering_reverse}
 use Rattle.sp_values.specs.Val.{Val}
 use Rattle.sp_values.specs.Order.{val_cmp}
-use Rattle.sp_values.specs.Ascending.{IsBelowAll, IsAscending, with_key, without}
+use Rattle.sp_values.specs.Ascending.{IsBelowAll, IsAscending, entry_key, found, with_key, without}
+use Rattle.sp_values.specs.Changes.{with_value_in}
 use Rattle.sp_values.proofs.Total.{val_cmp_total}
 
 module _ {X : Type 0} (key : X → Val) where
@@ -54,3 +56,11 @@ module _ {X : Type 0} (key : X → Val) where
   pub ascending_without : (k : Val) (xs : List X) → IsAscending key xs → IsAscending key (without key k xs)
   ascending_without k [] h = tt
   ascending_without k (x ∷ xs) h = ascending_without_by k x xs (val_cmp (key x) k) h.0 (ascending_without k xs h.1)
+
+-- a map's entries ascend where one of them has another value
+ascending_with_found : (k v : Val) (es : List (Val × Val)) (o : Option (Val × Val)) → IsAscending entry_key es → IsAscending entry_key (option_map_or (λ e. with_key entry_key (e.0, v) es) o es)
+ascending_with_found k v es None h = h
+ascending_with_found k v es (Some e) h = ascending_with entry_key (e.0, v) es h
+
+pub ascending_with_value : (k v : Val) (es : List (Val × Val)) → IsAscending entry_key es → IsAscending entry_key (with_value_in es k v)
+ascending_with_value k v es h = ascending_with_found k v es (found entry_key k es) h

@@ -1,7 +1,7 @@
 -- What a change of a value makes of it.
 use Rattle.std.specs.Prelude.{ℕ, Bool, false, List, [], ◌∷◌, ◌++◌, Option, None, slice_set, is_some}
-use Rattle.std.specs.Option.{option_map}
-use Rattle.sp_values.specs.Val.{Val, bytes, str, vector, set, map, vals_of, list_of, entries_of, pairs_of}
+use Rattle.std.specs.Option.{option_map, option_map_or}
+use Rattle.sp_values.specs.Val.{Val, bytes, str, tuple, vector, set, map, vals_of, list_of, entries_of, pairs_of}
 use Rattle.sp_values.specs.Ascending.{own_key, entry_key, found, with_key, without}
 
 -- the kinds of values that can be changed
@@ -17,6 +17,11 @@ abbrev pub IsVector : Val → Type 0
 IsVector (vector vs) = Unit {0}
 IsVector _ = ⊥
 
+abbrev pub IsSequence : Val → Type 0
+IsSequence (tuple vs) = Unit {0}
+IsSequence (vector vs) = Unit {0}
+IsSequence _ = ⊥
+
 abbrev pub IsSet : Val → Type 0
 IsSet (set vs) = Unit {0}
 IsSet _ = ⊥
@@ -30,8 +35,9 @@ IsKeyed (set vs) = Unit {0}
 IsKeyed (map es) = Unit {0}
 IsKeyed _ = ⊥
 
--- the items of a vector
+-- the members of a tuple, or the items of a vector
 abbrev pub items_of : Val → List Val
+items_of (tuple vs) = list_of vs
 items_of (vector vs) = list_of vs
 items_of _ = []
 
@@ -49,8 +55,9 @@ abbrev pub with_last : Val → Val → Val
 with_last (vector vs) x = vector (vals_of (list_of vs ++ x ∷ []))
 with_last v x = v
 
--- the vector with x as its item i, counted from 0
+-- the tuple or the vector with x as its item i, counted from 0
 abbrev pub with_item : Val → ℕ → Val → Val
+with_item (tuple vs) i x = tuple (vals_of (slice_set (list_of vs) i x))
 with_item (vector vs) i x = vector (vals_of (slice_set (list_of vs) i x))
 with_item v i x = v
 
@@ -69,6 +76,15 @@ has_key _ k = false
 abbrev pub with_entry : Val → Val → Val → Val
 with_entry (map es) k v = map (entries_of (with_key entry_key (k, v) (pairs_of es)))
 with_entry m k v = m
+
+-- the entries with the value v at the first key that is k, where there is one
+abbrev pub with_value_in : List (Val × Val) → Val → Val → List (Val × Val)
+with_value_in es k v = option_map_or (λ e. with_key entry_key (e.0, v) es) (found entry_key k es) es
+
+-- the map with the value v at its key that is k, and the map itself where it has none
+abbrev pub with_value : Val → Val → Val → Val
+with_value (map es) k v = map (entries_of (with_value_in (pairs_of es) k v))
+with_value m k v = m
 
 -- the set with the key
 abbrev pub with_member : Val → Val → Val

@@ -5,7 +5,9 @@ pub mod View
 pub mod Falls
 pub mod Order
 pub mod Ascending
-pub mod InOrder
+pub mod Widths
+pub mod Valid
+pub mod Levels
 pub mod Parts
 pub mod Changes
 pub mod Places

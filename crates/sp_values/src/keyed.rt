@@ -21,7 +21,7 @@ fn member_place(keys: &[Value], key: &Value) -> Result<usize, usize>
 }
 
 /// Where a key is in a map's list, or at `Err` where it belongs.
-fn entry_place(entries: &[(Value, Value)], key: &Value) -> Result<usize, usize>
+pub(crate) fn entry_place(entries: &[(Value, Value)], key: &Value) -> Result<usize, usize>
     requires { IsAscending entry_key entries.now }
     ensures { IsPlace entry_key entries.now key.now result }
 {

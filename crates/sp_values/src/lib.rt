@@ -4,13 +4,18 @@
 mod change;
 mod keyed;
 mod laws;
+mod level;
+mod list;
 mod make;
 mod order;
 mod read;
+mod swap;
 #[cfg(test)]
 mod tests;
 mod value;
 
 pub use laws::{law_of_equality, law_of_keys, law_of_order};
-pub use order::compare;
+pub use level::Level;
+pub use list::copy_all;
+pub use order::{compare, kind};
 pub use value::Value;

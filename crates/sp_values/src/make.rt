@@ -1,5 +1,6 @@
 // Values made from their parts.
-ghost use Rattle.std.specs.Prelude.{◌≡◌, IfOk, string_bytes};
+ghost use Rattle.std.specs.Prelude.{◌≡◌, ◌^◌, ◌<◌, IfOk, IsTrue, string_bytes};
+ghost use Rattle.sp_numbers.specs.Numbers.{width_bits, fits_signed};
 ghost use Rattle.sp_values.specs.Val.{void, bool, uint, int, bytes, str, enum, bits, tuple, vector, set, map, unit, place, vals_of, entries_of};
 ghost use Rattle.sp_values.specs.Ascending.{own_key, entry_key, IsAscending};
 
@@ -26,6 +27,7 @@ impl Value {
 
     /// An unsigned integer of a width.
     pub fn uint(width: Width, n: u64) -> Value
+        requires { n < 2 ^ width_bits width }
         ensures { result ≡ uint width n }
     {
         Value {
@@ -35,6 +37,7 @@ impl Value {
 
     /// A signed integer of a width.
     pub fn int(width: Width, n: i64) -> Value
+        requires { IsTrue (fits_signed width n) }
         ensures { result ≡ int width n }
     {
         Value {

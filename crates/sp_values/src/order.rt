@@ -6,8 +6,8 @@ ghost use Rattle.sp_values.specs.Order.{val_cmp, kind, vals_cmp, entries_cmp};
 use crate::value::{Node, Value};
 use std::cmp::Ordering;
 
-/// The number of a kind of values.
-fn kind(value: &Value) -> u8
+/// The number of the kind of a value, from 0.
+pub fn kind(value: &Value) -> u8
     ensures { result ≡ kind value.now }
 {
     match &value.node {

@@ -53,9 +53,9 @@ impl Model for Value {
 
     ghost view = { λ v. val_of v.node };
 
-    ghost use Rattle.sp_values.specs.InOrder.{IsInOrder};
+    ghost use Rattle.sp_values.specs.Valid.{IsValid};
 
-    ghost invariant = { λ v. IsInOrder v.node };
+    ghost invariant = { λ v. IsValid v.node };
 
     ghost size = { val_size };
 

@@ -1,15 +1,14 @@
-//! Changes a vector in place and asks its size, for measurements: standard input says which of both, and how often.
+//! Changes values in place and asks for sizes, for measurements: each line of standard input says which.
 #![tactic(auto)]
 
 ghost use Rattle.std.specs.Prelude.{IfOk};
-ghost use Rattle.sp_values.specs.Changes.{IsVector};
+ghost use Rattle.sp_values.specs.Changes.{IsVector, IsMap};
 
 use sp_base::NoMemory;
 use sp_numbers::Width;
-use sp_values::Value;
+use sp_values::{Level, Value, copy_all};
 use std::alloc::Global;
 use std::io;
-use std::io::Read;
 
 const COUNT: u64 = 100_000;
 
@@ -54,21 +53,64 @@ fn keys(alloc: Global) -> Result<usize, NoMemory> {
     Ok(map.size().unwrap_or(0))
 }
 
-fn run(alloc: Global, word: &[u8]) -> Result<usize, NoMemory> {
+/// Appends an item to the vector that a map has at a key, in place.
+fn append_at(map: &mut Value, key: &Value, item: Value) -> Result<(), NoMemory>
+    requires { IsMap map.old }
+    ensures { IsMap map.new }
+{
+    let mut inner = Value::void();
+    map.swap_value(key, &mut inner)?;
+    if let Level::Vector(_) = inner.level() {
+        inner.push_back(item)?;
+    }
+    map.swap_value(key, &mut inner)?;
+    Ok(())
+}
+
+/// The size of a vector to which `COUNT` items were appended where a map has it.
+fn deep(alloc: Global) -> Result<usize, NoMemory> {
+    let key = Value::uint(Width::W64, 7);
+    let mut map = Value::map(Vec::new(alloc))?;
+    map.insert(key.copy()?, Value::vector(Vec::new(alloc))?)?;
+    for n in 0..COUNT {
+        append_at(&mut map, &key, Value::uint(Width::W64, n))?;
+    }
+    Ok(map.get(&key).and_then(|inner| inner.size()).unwrap_or(0))
+}
+
+/// The number of items of a copy of `COUNT` items, the first of which was swapped out.
+fn copied(alloc: Global) -> Result<usize, NoMemory> {
+    let vector = filled(alloc, COUNT)?;
+    let items = match vector.level() {
+        Level::Vector(items) => copy_all(alloc, items)?,
+        _ => Vec::new(alloc),
+    };
+    let mut copy = Value::vector(items)?;
+    if copy.size() != Some(0) {
+        copy.swap_item(0, &mut Value::void())?;
+    }
+    Ok(copy.size().unwrap_or(0))
+}
+
+fn run(alloc: Global, word: &str) -> Result<usize, NoMemory> {
     match word {
-        b"push\n" => Ok(filled(alloc, COUNT)?.size().unwrap_or(0)),
-        b"size\n" => asked(alloc),
-        b"held\n" => beside_a_copy(alloc),
-        b"keys\n" => keys(alloc),
+        "push" => Ok(filled(alloc, COUNT)?.size().unwrap_or(0)),
+        "size" => asked(alloc),
+        "held" => beside_a_copy(alloc),
+        "keys" => keys(alloc),
+        "deep" => deep(alloc),
+        "copy" => copied(alloc),
         _ => Ok(0),
     }
 }
 
 fn main(rt: HostRuntime) -> io::Result<()> {
-    let mut word = Vec::new(rt.alloc());
-    rt.stdin().take(16).read_to_end(&mut word)?;
-    match run(rt.alloc(), word.as_slice()) {
-        Ok(count) => println!(rt; "{count}"),
-        Err(NoMemory) => println!(rt; "out of memory"),
+    for line in rt.lines(rt.alloc()) {
+        let line = line?;
+        match run(rt.alloc(), line.as_str()) {
+            Ok(count) => println!(rt; "{count}")?,
+            Err(NoMemory) => println!(rt; "out of memory")?,
+        }
     }
+    Ok(())
 }

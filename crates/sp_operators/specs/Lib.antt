@@ -1,0 +1,4 @@
+pub mod Outcomes
+pub mod Operands
+pub mod Parts
+pub mod Operators

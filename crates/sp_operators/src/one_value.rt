@@ -1,0 +1,47 @@
+// The operators on one value.
+ghost use Rattle.std.specs.Prelude.{◌≡◌, neg_ℤ, IsTrue, false};
+ghost use Rattle.sp_base.specs.declared.kinds.PKind.TheVariants.{Overflow};
+ghost use Rattle.sp_numbers.specs.Numbers.{signed_or};
+ghost use Rattle.sp_values.specs.Val.{int};
+ghost use Rattle.sp_operators.specs.Outcomes.{Answers};
+ghost use Rattle.sp_operators.specs.Operands.{takes_one};
+ghost use Rattle.sp_operators.specs.Operators.{value_or_error, unary};
+
+use crate::fault::{ValueFault, told};
+use crate::operators::UnOp;
+use crate::sizes::size;
+use sp_base::PKind;
+use sp_numbers::Width;
+use sp_values::{Level, Value};
+
+fn negated(width: Width, n: i64) -> Result<Value, PKind>
+    ensures { result ≡ value_or_error (int width) (signed_or Overflow width (neg_ℤ n)) }
+{
+    match sp_numbers::negate_signed(width, n) {
+        Ok(number) => Ok(Value::int(width, number)),
+        Err(error) => Err(error),
+    }
+}
+
+fn found(op: UnOp, a: &Value) -> Result<Value, PKind>
+    requires { IsTrue (takes_one op a.now) }
+    ensures { result ≡ unary op a.now }
+{
+    match (op, a.level()) {
+        (UnOp::Not, Level::Bool(b)) => Ok(Value::bool(!b)),
+        (UnOp::Negate, Level::Int(width, n)) => negated(width, n),
+        (UnOp::Complement, Level::Uint(width, n)) => {
+            Ok(Value::uint(width, sp_numbers::complement(width, n)))
+        }
+        (UnOp::Size, _) => Ok(Value::uint(Width::W64, size(a) as u64)),
+        _ => unreachable!(),
+    }
+}
+
+/// What the operator makes of a value. It takes no memory. Error: `Overflow` of `-`.
+pub fn unary(op: UnOp, a: &Value) -> Result<Value, ValueFault>
+    requires { IsTrue (takes_one op a.now) }
+    ensures { Answers false (unary op a.now) result }
+{
+    told(found(op, a))
+}

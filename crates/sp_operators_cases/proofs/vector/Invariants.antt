@@ -1,0 +1,5 @@
+use Rattle.sp_values.specs.Changes.{IsVector}
+use Rattle.sp_operators_cases.proofs.vector.Given as goal
+
+abbrev pub invariant-loop-n : goal.invariant-loop-n
+invariant-loop-n l = IsVector l.vector
