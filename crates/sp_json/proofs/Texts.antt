@@ -9,9 +9,9 @@ use Rattle.std.specs.Cmp.Lexicographic.{slice_cmp}
 use Rattle.serde_json.specs.Data.{Data, number, Members, member, no_members, put}
 use Rattle.serde_json.specs.Find.{of_integer}
 use Rattle.serde_json.specs.Written.{has_float, members_have_float, compact_text}
-use Rattle.sp_value.specs.Tree.{TreeData, uint, int, unit, FieldsData, no_fields, field, fields_of}
-use Rattle.sp_value.specs.declared.event.What.{What}
-use Rattle.sp_value.specs.declared.event.What.TheVariants.{Done, Failed}
+use Rattle.sp_events.specs.Tree.{TreeData, uint, int, unit, FieldsData, no_fields, field, fields_of}
+use Rattle.sp_events.specs.declared.event.What.{What}
+use Rattle.sp_events.specs.declared.event.What.TheVariants.{Done, Failed}
 use Rattle.sp_json.specs.Lines.{tree_json, with_fields, event_json, path_text}
 
 -- a field's value was put

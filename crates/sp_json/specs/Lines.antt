@@ -4,10 +4,10 @@ use Rattle.serde_json.specs.Data.{Data, number, unsigned, string, object, Member
 use Rattle.serde_json.specs.Find.{of_integer}
 use Rattle.serde_json.specs.Written.{compact_text}
 use Rattle.sp_base.specs.Kinds.{run_kind_name}
-use Rattle.sp_value.specs.Tree.{TreeData, uint, int, unit, FieldsData, no_fields, field}
-use Rattle.sp_value.specs.declared.event.Event.{Event}
-use Rattle.sp_value.specs.declared.event.What.{What}
-use Rattle.sp_value.specs.declared.event.What.TheVariants.{Done, Failed}
+use Rattle.sp_events.specs.Tree.{TreeData, uint, int, unit, FieldsData, no_fields, field}
+use Rattle.sp_events.specs.declared.event.Event.{Event}
+use Rattle.sp_events.specs.declared.event.What.{What}
+use Rattle.sp_events.specs.declared.event.What.TheVariants.{Done, Failed}
 
 -- a value as JSON: a number, or a unit as an object of its fields
 abbrev mutual

@@ -6,7 +6,7 @@ ghost use Rattle.sp_json.specs.Lines.{tree_json, path_text, event_json, line_of}
 use itoa::Buffer;
 use serde_json::{Map, Value, json, put};
 use sp_base::{ByteList, NoMemory};
-use sp_value::{Event, Node, Tree, What};
+use sp_events::{Event, Node, Tree, What};
 use std::alloc::{AllocError, Global};
 
 /// A value as JSON. Units nest at most as deep as the grammar's units do.

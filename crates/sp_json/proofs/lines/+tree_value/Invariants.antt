@@ -1,7 +1,7 @@
 use Rattle.std.proofs.Common.{◌≡◌, drop}
 use Rattle.serde_json.specs.Data.{no_members}
 use Rattle.serde_json.specs.View.{members_view}
-use Rattle.sp_value.specs.Tree.{fields_of}
+use Rattle.sp_events.specs.Tree.{fields_of}
 use Rattle.sp_json.specs.Lines.{with_fields}
 use Rattle.sp_json.proofs.lines.+tree_value.Given as goal
 

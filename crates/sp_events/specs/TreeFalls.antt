@@ -2,12 +2,12 @@
 use Rattle.std.specs.Prelude.{◌≤◌, ◌+◌, ℕ, List, [], ◌∷◌}
 use Rattle.std.proofs.Common.{arith}
 use denote.Param.Weighed.{most}
-use Rattle.sp_value.specs.Tree.{TreeData, tree_size, fields_size, fields_of}
-use Rattle.sp_value.specs.TreeView.{tree_of}
-use Rattle.sp_value.specs.declared.tree.Node.{Node}
-use Rattle.sp_value.specs.declared.tree.Node.TheVariants.{Unit as UnitNode}
-use Rattle.sp_value.specs.declared.tree.Tree.TheDeep.{deep-Node}
-use Rattle.sp_value.specs.declared.tree.Tree.TheShapes.{weighed-Node-Unit-0-at-2}
+use Rattle.sp_events.specs.Tree.{TreeData, tree_size, fields_size, fields_of}
+use Rattle.sp_events.specs.TreeView.{tree_of}
+use Rattle.sp_events.specs.declared.tree.Node.{Node}
+use Rattle.sp_events.specs.declared.tree.Node.TheVariants.{Unit as UnitNode}
+use Rattle.sp_events.specs.declared.tree.Tree.TheDeep.{deep-Node}
+use Rattle.sp_events.specs.declared.tree.Tree.TheShapes.{weighed-Node-Unit-0-at-2}
 
 pub most_le-fields : (fs : List (List ℕ × TreeData)) → most (weighed-Node-Unit-0-at-2.weight TreeData (λ t. tree_size t + 1)) fs ≤ fields_size (fields_of fs)
 most_le-fields [] = omega arith

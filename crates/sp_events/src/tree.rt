@@ -19,27 +19,27 @@ pub enum Node {
 }
 
 impl Model for Tree {
-    ghost use Rattle.sp_value.specs.Tree.{TreeData, coded_tree, tree_size};
+    ghost use Rattle.sp_events.specs.Tree.{TreeData, coded_tree, tree_size};
 
     ghost Value = { TreeData };
 
     ghost coded = { coded_tree };
 
-    ghost use Rattle.sp_value.specs.TreeView.{tree_of};
+    ghost use Rattle.sp_events.specs.TreeView.{tree_of};
 
     ghost view = { λ t. tree_of t.node };
 
     ghost size = { tree_size };
 
     ghost use Rattle.std.proofs.Common.{arith};
-    ghost use Rattle.sp_value.specs.TreeFalls.{deep-Node-le};
+    ghost use Rattle.sp_events.specs.TreeFalls.{deep-Node-le};
 
     ghost size_decreases = { λ t h. Prim.omega (arith, deep-Node-le t.node) };
 }
 
 impl Tree {
     ghost use Rattle.std.specs.Prelude.{◌≡◌};
-    ghost use Rattle.sp_value.specs.Tree.{unit, fields_of};
+    ghost use Rattle.sp_events.specs.Tree.{unit, fields_of};
 
     /// The value of a unit with these fields.
     pub fn unit(fields: Vec<(Text, Tree)>) -> Tree

@@ -11,7 +11,7 @@ pub enum Value {
 
 impl From<Value> for Tree {
     ghost use Rattle.std.specs.Prelude.{◌≡◌};
-    ghost use Rattle.sp_value.specs.Value.{told_value};
+    ghost use Rattle.sp_events.specs.Value.{told_value};
 
     ghost from_gives = { λ value tree. tree ≡ told_value value };
 

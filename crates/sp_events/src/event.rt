@@ -60,12 +60,12 @@ pub struct Events {
 
 impl Model for Events {
     ghost use Rattle.std.specs.Prelude.{List};
-    ghost use Rattle.sp_value.specs.declared.event.Event.{Event};
+    ghost use Rattle.sp_events.specs.declared.event.Event.{Event};
 
     ghost Value = { List Event };
 
     ghost use Rattle.std.specs.Coded.{codes};
-    ghost use Rattle.sp_value.specs.Tree.{coded_tree};
+    ghost use Rattle.sp_events.specs.Tree.{coded_tree};
 
     ghost coded = { Prim.hlevel (codes, coded_tree) };
 

@@ -1,7 +1,7 @@
 -- The numbers that bytes stand for.
 use Rattle.std.specs.Prelude.{◌≡◌, ℕ, ◌+◌, ◌*◌, ◌^◌, ℤ, pos, ◌-ℤ◌, List, [], ◌∷◌, length, Bool, true, false, ◌⊎◌, nat_lt, if◌then◌else◌}
-use Rattle.sp_value.specs.declared.value.Value.{Value}
-use Rattle.sp_value.specs.declared.value.Value.TheVariants.{Uint, Int}
+use Rattle.sp_events.specs.declared.value.Value.{Value}
+use Rattle.sp_events.specs.declared.value.Value.TheVariants.{Uint, Int}
 
 -- integers have 1, 2, 4 or 8 bytes
 abbrev pub IsWidth : ℕ → Type 0

@@ -1,6 +1,6 @@
 // Numbers from bytes.
 ghost use Rattle.std.specs.Prelude.{◌≡◌, ◌≤◌, ◌<◌, ◌*◌, ◌^◌, ◌+ℤ◌, ℕ, pos, length, true, false, if◌then◌else◌};
-ghost use Rattle.sp_value.specs.Number.{unsigned_of, signed_of, integer_of, IsWidth};
+ghost use Rattle.sp_events.specs.Number.{unsigned_of, signed_of, integer_of, IsWidth};
 
 use crate::Value;
 
