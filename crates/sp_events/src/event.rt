@@ -1,8 +1,8 @@
 // What a run tells.
 ghost use Rattle.std.specs.Prelude.{◌≡◌, List, ℕ, [], ◌∷◌, ◌++◌, OnOk, OnErr};
 
-use crate::Tree;
-use sp_base::{NoMemory, ParseError};
+use crate::{Tree, Trees};
+use sp_base::{ByteList, NoMemory, ParseError, Text};
 use std::alloc::Global;
 use std::marker::Model;
 
@@ -39,6 +39,23 @@ impl Path {
 /// What happened.
 #[derive(Drop)]
 pub enum What {
+    /// A hook ran: its name, as `M::U::x`, and the values of its arguments.
+    Hook {
+        name: Text,
+        args: Trees,
+    },
+    /// A `print` of these values.
+    Print(Trees),
+    /// Bytes were written to a sink, the first of them at the sequence number `seq`.
+    Write {
+        sink: Text,
+        seq: u64,
+        bytes: ByteList,
+    },
+    /// A filter forwarded these bytes.
+    Forward(ByteList),
+    /// A filter ended its data.
+    ForwardEod,
     /// The unit was read whole; this is its value.
     Done(Tree),
     /// The unit failed.
@@ -65,7 +82,7 @@ impl Model for Events {
     ghost Value = { List Event };
 
     ghost use Rattle.std.specs.Coded.{codes};
-    ghost use Rattle.sp_events.specs.Tree.{coded_tree};
+    ghost use Rattle.sp_events.specs.TreeCodes.{coded_tree};
 
     ghost coded = { Prim.hlevel (codes, coded_tree) };
 
