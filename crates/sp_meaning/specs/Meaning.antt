@@ -4,11 +4,11 @@ use Rattle.std.specs.Prelude.{ℕ, ◌+◌, List, [], ◌∷◌, ◌++◌, lengt
 use Rattle.sp_base.specs.Input.{Close}
 use Rattle.sp_base.specs.declared.kinds.PKind.TheVariants.{Short}
 use Rattle.sp_base.specs.declared.places.ParseError.{ParseError}
-use Rattle.sp_value.specs.Tree.{unit, fields_of}
-use Rattle.sp_value.specs.Value.{told_value}
-use Rattle.sp_value.specs.declared.event.Event.{Event}
-use Rattle.sp_value.specs.declared.event.What.{What}
-use Rattle.sp_value.specs.declared.value.Value.{Value}
+use Rattle.sp_events.specs.Tree.{unit, fields_of}
+use Rattle.sp_events.specs.Value.{told_value}
+use Rattle.sp_events.specs.declared.event.Event.{Event}
+use Rattle.sp_events.specs.declared.event.What.{What}
+use Rattle.sp_events.specs.declared.value.Value.{Value}
 use Rattle.sp_meaning.specs.declared.grammar.Field.{Field}
 use Rattle.sp_meaning.specs.declared.stand.Stand.{Stand}
 use Rattle.sp_meaning.specs.Leaf.{Leaf, got, short, needs, integer_leaf}

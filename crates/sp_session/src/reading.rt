@@ -1,15 +1,15 @@
 // Fields are read as far as the bytes go.
 ghost use Rattle.std.specs.Prelude.{◌≡◌, ◌≤◌, ◌<◌, ◌+◌, ◌^◌, ◌++◌, List, ℕ, [], length, drop, take, false, IfOk, OnOk, OnErr};
-ghost use Rattle.sp_value.specs.Number.{integer_of};
-ghost use Rattle.sp_value.specs.Value.{told_value};
+ghost use Rattle.sp_events.specs.Number.{integer_of};
+ghost use Rattle.sp_events.specs.Value.{told_value};
 ghost use Rattle.sp_meaning.specs.Meaning.{short_at};
 ghost use Rattle.sp_meaning.specs.Width.{width_of};
 ghost use Rattle.sp_session.specs.Reading.{Leads, Lacks, Advanced, Closed, state_of};
 
 use crate::progress::Progress;
 use sp_base::{NoMemory, PKind, ParseError, Text};
+use sp_events::{Event, Events, Path, Tree, What, read_int};
 use sp_meaning::Field;
-use sp_value::{Event, Events, Path, Tree, What, read_int};
 use std::alloc::Global;
 use std::mem;
 

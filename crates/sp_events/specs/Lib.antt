@@ -1,0 +1,7 @@
+pub mod Number
+pub mod Tree
+pub mod TreeSizes
+pub mod TreeCodes
+pub mod TreeView
+pub mod TreeFalls
+pub mod Value
