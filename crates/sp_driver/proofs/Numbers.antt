@@ -4,7 +4,8 @@ use Rattle.std.proofs.lemmas.Bool.{lt-leb, cond_both, cond-false, eqb-true, eqb-
 use Rattle.std.proofs.lemmas.List.{drop_more}
 use Rattle.std.specs.Prelude.{◌==◌, codes}
 use Rattle.std.specs.Str.{bytes_eq}
-use Rattle.sp_driver.specs.Words.{Words, number_from, number_of, is_file, with_file, words_of}
+use Rattle.sp_command.specs.Words.{is_file}
+use Rattle.sp_driver.specs.Words.{Words, number_from, number_of, with_file, words_of}
 
 -- a number that is too large stays so
 pub number_big : (n : ℕ) (ds : List ℕ) → 65536 < n → number_from n ds ≡ None

@@ -6,7 +6,7 @@ use Rattle.sp_io.specs.Moved.{appended, prepended, Moves}
 use Rattle.sp_io.proofs.Moves.{appended-appended, appended-nil, prepended-prepended}
 use Rattle.sp_events.specs.declared.event.Event.{Event}
 use Rattle.sp_json.specs.Lines.{line_of, lines_of}
-use Rattle.sp_driver.specs.Parts.{IsPartPut}
+use Rattle.sp_command.specs.Puts.{IsPartPut}
 
 pub lines_of-append : (flow : List ℕ) (xs ys : List Event) → lines_of flow (xs ++ ys) ≡ lines_of flow xs ++ lines_of flow ys
 lines_of-append flow [] ys = refl

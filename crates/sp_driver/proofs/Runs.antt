@@ -17,7 +17,7 @@ use Rattle.sp_events.specs.declared.event.Event.{Event}
 use Rattle.sp_session.specs.Session.{StandsFor, IsFed, IsFresh, grammar, told_by, told_in}
 use Rattle.sp_json.specs.Lines.{lines_of}
 use Rattle.sp_driver.specs.declared.exits.RunExit.{RunExit}
-use Rattle.sp_driver.specs.Parts.{IsFront, IsPartPut}
+use Rattle.sp_command.specs.Puts.{IsFront, IsPartPut}
 use Rattle.sp_driver.specs.Shown.{flow_name, most_taken, added, shown, whole, run_lines}
 use Rattle.sp_driver.specs.Run.{IsPrompt, IsRunPart, IsTakenWhole, IsWhole, AtExit, Runs}
 use Rattle.sp_driver.specs.declared.exits.Stop.{Stop}

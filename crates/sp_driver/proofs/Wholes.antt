@@ -10,7 +10,8 @@ use Rattle.sp_meaning.specs.declared.grammar.Field.{Field}
 use Rattle.sp_meaning.specs.Meaning.{mean}
 use Rattle.sp_driver.specs.declared.exits.Exit.{Exit}
 use Rattle.sp_driver.specs.declared.exits.RunExit.{RunExit}
-use Rattle.sp_driver.specs.Driver.{Says, Reported, IsRefused, IsLoaded, status_of, message_of, run_status, run_message, refusal_text}
+use Rattle.sp_driver.specs.Driver.{Says, Reported, IsRefused, IsLoaded, status_of, message_of, run_status, run_message}
+use Rattle.sp_command.specs.Refusals.{refusal_text}
 use Rattle.sp_driver.specs.Run.{Runs, IsTakenWhole, IsWhole}
 use Rattle.sp_driver.specs.Shown.{most_taken, shown}
 use Rattle.sp_driver.specs.Whole.{Answer, stand_status, ended_answer, long_answer, run_answer, IsAnswer, IsAnswered}

@@ -1,22 +1,18 @@
 -- What the program does, by its exit.
-use Rattle.std.specs.Prelude.{◌≡◌, ◌≤◌, ◌<◌, ◌⊎◌, ℕ, List, [], ◌++◌, length, Option, Some, None, codes, decimal}
-use Rattle.sp_base.specs.Kinds.{module_kind_name, module_kind_number}
+use Rattle.std.specs.Prelude.{◌≡◌, ◌≤◌, ◌<◌, ◌⊎◌, ℕ, List, [], length, Option, Some, None, codes}
 use Rattle.sp_base.specs.declared.kinds.MKind.{MKind}
 use Rattle.sp_base.specs.declared.kinds.MKind.TheVariants.{ModuleNotFound, TooLarge, OutOfProfile}
 use Rattle.sp_io.specs.Moved.{appended}
 use Rattle.sp_meaning.specs.declared.grammar.Field.{Field}
 use Rattle.sp_small_reader.specs.IntegerUnit.{IsIntegerUnit, Reads}
 use Rattle.sp_driver.specs.declared.exits.Exit.{Exit}
-use Rattle.sp_driver.specs.declared.exits.Refusal.{Refusal}
+use Rattle.sp_command.specs.declared.refusal.Refusal.{Refusal}
+use Rattle.sp_command.specs.Refusals.{refusal_text}
+use Rattle.sp_command.specs.Files.{Holds}
 use Rattle.sp_driver.specs.declared.exits.RunExit.{RunExit}
-use Rattle.sp_driver.specs.Parts.{IsPartPut}
+use Rattle.sp_command.specs.Puts.{IsPartPut}
 use Rattle.sp_driver.specs.Run.{Runs, RunCause}
 use Rattle.sp_driver.specs.Words.{Words, words_of}
-
--- the content of the file at a path, or none where there is no such file; where the files are told
-abbrev pub Holds : Option (List ℕ → Option (List ℕ)) → List ℕ → Option (List ℕ) → Type 0
-Holds None path content = Unit {0}
-Holds (Some files) path content = content ≡ files path
 
 -- the most bytes of a module's text
 abbrev pub most_text : ℕ
@@ -84,11 +80,6 @@ status_of (Exit.Refused refusal) = 3
 status_of Exit.ModulesFault = 4
 status_of Exit.NoMemory = 7
 status_of (Exit.Ran exit) = run_status exit
-
--- `PATH:LINE:COL: M9 TypeMismatch`
-abbrev pub refusal_text : Refusal → List ℕ
-refusal_text r =
-    r.path ++ codes ":" ++ decimal r.place.line ++ codes ":" ++ decimal r.place.col ++ codes ": M" ++ decimal (module_kind_number r.kind) ++ codes " " ++ module_kind_name r.kind ++ codes "\n"
 
 abbrev pub run_message : RunExit → List ℕ
 run_message RunExit.InputFault = codes "spicy-driver: read fault\n"

@@ -2,7 +2,8 @@
 use Rattle.std.specs.Prelude.{◌≡◌, ◌<◌, ℕ, List, Option}
 use Rattle.sp_base.specs.declared.kinds.MKind.{MKind}
 use Rattle.sp_driver.specs.declared.exits.Exit.{Exit}
-use Rattle.sp_driver.specs.Driver.{Holds, IsRefused, refused_at}
+use Rattle.sp_driver.specs.Driver.{IsRefused, refused_at}
+use Rattle.sp_command.specs.Files.{Holds}
 
 -- the module is refused, could not be read, or there was no memory for it
 abbrev pub IsNotLoaded : Option (List ℕ → Option (List ℕ)) → List ℕ → Exit → Type 0

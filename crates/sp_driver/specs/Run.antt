@@ -7,7 +7,7 @@ use Rattle.sp_meaning.specs.declared.grammar.Field.{Field}
 use Rattle.sp_meaning.specs.declared.stand.Stand.TheVariants as Stand
 use Rattle.sp_meaning.specs.Meaning.{mean}
 use Rattle.sp_driver.specs.declared.exits.RunExit.{RunExit}
-use Rattle.sp_driver.specs.Parts.{IsFront}
+use Rattle.sp_command.specs.Puts.{IsFront}
 use Rattle.sp_driver.specs.Shown.{most_taken, shown, whole, run_lines}
 
 -- the lines of each piece were put before a byte of a later piece was taken

@@ -5,8 +5,9 @@ use Rattle.sp_io.specs.Moved.{appended}
 use Rattle.sp_meaning.specs.declared.grammar.Field.{Field}
 use Rattle.sp_meaning.specs.declared.stand.Stand.{Stand}
 use Rattle.sp_meaning.specs.Meaning.{mean}
-use Rattle.sp_driver.specs.declared.exits.Refusal.{Refusal}
-use Rattle.sp_driver.specs.Driver.{IsLoaded, IsRefused, refusal_text}
+use Rattle.sp_command.specs.declared.refusal.Refusal.{Refusal}
+use Rattle.sp_driver.specs.Driver.{IsLoaded, IsRefused}
+use Rattle.sp_command.specs.Refusals.{refusal_text}
 use Rattle.sp_driver.specs.Shown.{most_taken, run_lines}
 use Rattle.sp_driver.specs.Words.{Words, words_of}
 

@@ -1,6 +1,7 @@
 -- The command line: `FILE` or `-i N FILE`.
-use Rattle.std.specs.Prelude.{ℕ, ◌+◌, ◌-◌, ◌*◌, List, [], ◌∷◌, Option, Some, None, Bool, false, ◌&&◌, not, nat_le, if◌then◌else◌, codes, ◌==◌}
+use Rattle.std.specs.Prelude.{ℕ, ◌+◌, ◌-◌, ◌*◌, List, [], ◌∷◌, Option, Some, None, ◌&&◌, nat_le, if◌then◌else◌, codes, ◌==◌}
 use Rattle.std.specs.Str.{bytes_eq}
+use Rattle.sp_command.specs.Words.{is_file}
 
 -- the size of pieces in bytes, and the file of the module
 pub record Words : Type 0 where
@@ -16,11 +17,6 @@ number_from n (d ∷ ds) = if nat_le 48 d && nat_le d 57 then number_from (n * 1
 abbrev pub number_of : List ℕ → Option ℕ
 number_of [] = None
 number_of (d ∷ ds) = if d == 48 then None else number_from 0 (d ∷ ds)
-
--- a file's name is not empty and doesn't begin with a dash
-abbrev pub is_file : List ℕ → Bool
-is_file [] = false
-is_file (b ∷ bs) = not (b == 45)
 
 abbrev pub with_file : List ℕ → Option ℕ → Option Words
 with_file file None = None

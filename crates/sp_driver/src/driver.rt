@@ -1,15 +1,14 @@
 // The program: it reads its words, the module and the input, and answers a status.
-ghost use Rattle.std.specs.Prelude.{◌≡◌, ◌<◌, ◌-◌, ◌^◌, ◌++◌, decimal, IfOk, OnOk};
+ghost use Rattle.std.specs.Prelude.{◌≡◌, ◌<◌, ◌-◌, ◌^◌, IfOk};
 ghost use Rattle.sp_driver.specs.declared.exits.Exit.{Exit};
 ghost use Rattle.sp_driver.specs.Causes.{IsCausedBy};
 ghost use Rattle.sp_driver.specs.Whole.{IsAnswered};
-ghost use Rattle.sp_driver.specs.Driver.{Says, ExitCause, Reported, status_of, run_status, message_of, run_message, refusal_text};
+ghost use Rattle.sp_driver.specs.Driver.{Says, ExitCause, Reported, status_of, run_status, message_of, run_message};
 
-use crate::exits::{Exit, Refusal, RunExit};
+use crate::exits::{Exit, RunExit};
 use crate::load::load;
 use crate::run::run_unit;
 use crate::words::words_wanted;
-use itoa::Buffer;
 use sp_base::{ByteList, NoMemory, Text};
 use sp_io::{Modules, Out, OutFault, Source, put_all};
 use std::alloc::Global;
@@ -38,38 +37,13 @@ fn drive<M: Modules, S: Source, O: Out>(
     }
 }
 
-/// `PATH:LINE:COL: M9 TypeMismatch` and a newline.
-fn refusal_message(alloc: Global, refusal: &Refusal) -> Result<ByteList, NoMemory>
-    ensures { IfOk result (λ message. message ≡ refusal_text refusal.now) }
-{
-    let place = refusal.place;
-    let mut message = ByteList::from_slice(alloc, refusal.path.as_str().as_bytes())?;
-    message.append(b":")?;
-    append_number(&mut message, place.line)?;
-    message.append(b":")?;
-    append_number(&mut message, place.col)?;
-    message.append(b": M")?;
-    append_number(&mut message, u32::from(refusal.kind.number()))?;
-    message.append(b" ")?;
-    message.append(refusal.kind.name().as_bytes())?;
-    message.append(b"\n")?;
-    Ok(message)
-}
-
-fn append_number(message: &mut ByteList, number: u32) -> Result<(), NoMemory>
-    ensures { OnOk result (message.new ≡ message.old ++ decimal number) }
-{
-    let mut buffer = Buffer::new();
-    message.append(buffer.format(number).as_bytes())
-}
-
 /// The message of an exit.
 fn message(alloc: Global, exit: &Exit) -> Result<ByteList, NoMemory>
     ensures { IfOk result (λ message. message ≡ message_of exit.now) }
 {
     match exit {
         Exit::Usage => ByteList::from_slice(alloc, b"spicy-driver: usage\n"),
-        Exit::Refused(refusal) => refusal_message(alloc, refusal),
+        Exit::Refused(refusal) => refusal.message(alloc),
         Exit::ModulesFault | Exit::Ran(RunExit::InputFault) => ByteList::from_slice(
             alloc,
             b"spicy-driver: read fault\n",

@@ -2,7 +2,8 @@
 ghost use Rattle.std.specs.Prelude.{◌≡◌};
 ghost use Rattle.sp_driver.specs.declared.exits.Stop.TheVariants;
 
-use sp_base::{MKind, NoMemory, Place, Text};
+use sp_base::NoMemory;
+use sp_command::Refusal;
 
 /// How the run of a unit ends.
 #[derive(Clone, Copy, Debug, PartialEq, Eq)]
@@ -19,14 +20,6 @@ pub enum RunExit {
     TooLong,
     /// There was no memory.
     NoMemory,
-}
-
-/// Why a module was refused, and where.
-#[derive(Drop)]
-pub struct Refusal {
-    pub path: Text,
-    pub place: Place,
-    pub kind: MKind,
 }
 
 /// How the program ends.

@@ -1,10 +1,12 @@
 // The module is read.
 ghost use Rattle.std.specs.Prelude.{◌≡◌, ◌<◌, ◌-◌, ◌^◌, List, ℕ, Option, IfOk, IfErr, MatchResult};
-ghost use Rattle.sp_driver.specs.Driver.{Holds, IsLoaded};
+ghost use Rattle.sp_driver.specs.Driver.{IsLoaded};
+ghost use Rattle.sp_command.specs.Files.{Holds};
 ghost use Rattle.sp_driver.specs.Loads.{IsNotLoaded, IsRefusalOrNoMemory, LoadCause};
 
-use crate::exits::{Exit, Refusal};
+use crate::exits::Exit;
 use sp_base::{MKind, NoMemory, Place, Text};
+use sp_command::Refusal;
 use sp_io::{Modules, ModulesFault};
 use sp_meaning::Program;
 use sp_small_reader::{ReadFault, read_program};

@@ -3,7 +3,8 @@ ghost use Rattle.std.specs.Prelude.{◌≡◌, ◌≤◌, ◌<◌, ◌-◌, ◌^
 ghost use Rattle.sp_io.specs.Causes.{SourceCause};
 ghost use Rattle.sp_io.specs.Moved.{appended, prepended};
 ghost use Rattle.sp_json.specs.Lines.{lines_of};
-ghost use Rattle.sp_driver.specs.Parts.{IsPartPut, StopCause};
+ghost use Rattle.sp_command.specs.Puts.{IsPartPut};
+ghost use Rattle.sp_driver.specs.Parts.{StopCause};
 
 use crate::exits::Stop;
 use sp_base::ByteList;

@@ -1,8 +1,9 @@
 // The command line.
 ghost use Rattle.std.specs.Prelude.{◌≡◌, ◌≤◌, option_map, IfSome};
-ghost use Rattle.sp_driver.specs.Words.{number_of, is_file, words_of, Words};
+ghost use Rattle.sp_driver.specs.Words.{number_of, words_of, Words};
 
 use sp_base::Text;
+use sp_command::is_path;
 
 /// The words of a run: the size of its pieces in bytes, and the file of its module.
 #[derive(Clone, Copy)]
@@ -33,15 +34,6 @@ fn increment(digits: &[u8]) -> Option<u64>
         }
     }
     Some(number)
-}
-
-fn is_path(word: &[u8]) -> bool
-    ensures { result ≡ is_file word.now }
-{
-    match word {
-        [] => false,
-        [first, ..] => *first != b'-',
-    }
 }
 
 /// What the words want, or `None` at a usage fault.

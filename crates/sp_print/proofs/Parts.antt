@@ -1,13 +1,13 @@
 -- The parts of a tree by their places.
-use Rattle.std.proofs.Common.{◌≡◌, ℕ, zero, suc, ◌+◌, ◌≤◌, ◌<◌, ◌==◌, ◌||◌, List, [], ◌∷◌, length, get_or, Bool, true, false, nat_lt, ltb, refl, sym, ap, ◌∙◌, arith}
+use Rattle.std.proofs.Common.{◌≡◌, ℕ, zero, suc, ◌+◌, ◌≤◌, ◌<◌, ◌==◌, ◌||◌, List, [], ◌∷◌, length, get_or, Bool, true, false, nat_lt, ltb, refl, ap, ◌∙◌, arith}
 use Rattle.sp_base.specs.declared.places.Span.{Span}
 use Rattle.sp_ast.specs.Operators.{level}
-use Rattle.sp_ast.specs.Trees.{Tree, Trees, node, trees, in_row, none, tree_size, trees_size}
+use Rattle.sp_ast.specs.Trees.{Tree, node, trees, in_row, none, tree_size, trees_size}
 use Rattle.sp_ast.specs.declared.forms.Form.{Form}
 use Rattle.sp_ast.specs.declared.forms.Form.TheVariants as form_is
 use Rattle.sp_ast.specs.declared.forms.ExprForm.TheVariants as expr_is
 use Rattle.sp_ast.specs.declared.operators.BinaryOp.{BinaryOp}
-use Rattle.sp_print.specs.Canonical.{is_empty_row, is_bare, is_skip, level_of, last_divides, divides_behind, declarations}
+use Rattle.sp_print.specs.Canonical.{is_empty_row, is_bare, level_of, last_divides, divides_behind, declarations}
 
 pub empty_row : (ts : List Tree) (b : Bool) → b ≡ (length ts == 0) → b ≡ is_empty_row (in_row ts)
 empty_row [] b e = e

@@ -1,5 +1,5 @@
 -- Words one behind the other.
-use Rattle.std.proofs.Common.{◌≡◌, ◌+◌, ◌-◌, ◌<◌, ◌≤◌, length, take, drop, get_or, arith, List, [], ◌∷◌, ◌++◌, Option, Some, None, Bool, true, false, ℕ, map, subst, refl, ap, sym, ◌∙◌, append_assoc}
+use Rattle.std.proofs.Common.{◌≡◌, ◌+◌, ◌-◌, ◌<◌, ◌≤◌, length, take, drop, get_or, arith, List, [], ◌∷◌, ◌++◌, Option, Some, None, Bool, true, false, ℕ, map, refl, ap, sym, ◌∙◌, append_assoc}
 use Rattle.sp_lex.specs.declared.kinds.TokenKind.{TokenKind}
 use Rattle.sp_print.specs.Words.{Word, kind_of, written}
 use Rattle.sp_print.specs.Page.{Page, page, gap, line, put, puts}

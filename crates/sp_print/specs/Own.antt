@@ -4,7 +4,6 @@ use Rattle.sp_lex.specs.declared.kinds.TokenKind.{TokenKind}
 use Rattle.sp_lex.specs.declared.kinds.TokenKind.TheVariants as token
 use Rattle.sp_lex.specs.declared.kinds.Keyword.{Keyword}
 use Rattle.sp_lex.specs.declared.kinds.Keyword.TheVariants as keyword
-use Rattle.sp_lex.specs.declared.kinds.Mark.{Mark}
 use Rattle.sp_lex.specs.declared.kinds.Mark.TheVariants as mark
 use Rattle.sp_lex.specs.declared.kinds.Attribute.{Attribute}
 use Rattle.sp_lex.specs.declared.kinds.Attribute.TheVariants as attribute

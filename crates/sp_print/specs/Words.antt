@@ -1,7 +1,6 @@
 -- The words of a canonical text: its tokens as they are written there.
-use Rattle.std.specs.Prelude.{ℕ, ◌+◌, ◌/◌, ◌%◌, List, [], ◌∷◌, ◌++◌, Bool, if◌then◌else◌, ◌==◌, ◌&&◌, ◌||◌, not, codes, decimal, flat_map, nat_lt, chars, encode_utf8}
+use Rattle.std.specs.Prelude.{ℕ, ◌+◌, ◌/◌, ◌%◌, List, [], ◌∷◌, ◌++◌, Bool, if◌then◌else◌, ◌==◌, ◌&&◌, not, codes, decimal, flat_map, nat_lt, chars, encode_utf8}
 use Rattle.sp_lex.specs.Spellings.{spelling}
-use Rattle.sp_lex.specs.declared.kinds.Absent.TheVariants as absent
 use Rattle.sp_lex.specs.declared.kinds.TokenKind.{TokenKind}
 use Rattle.sp_lex.specs.declared.kinds.TokenKind.TheVariants as token
 

@@ -179,10 +179,10 @@ fn put_lines(writer: &mut Writer, all: &[Tree]) -> Result<(), NoMemory>
 }
 
 /// The declarations of a module.
-fn declarations(module: &Tree) -> &[Tree]
-    ensures { declarations module.now ≡ trees result.now }
+fn declarations(m: &Tree) -> &[Tree]
+    ensures { declarations m.now ≡ trees result.now }
 {
-    match &module.node {
+    match &m.node {
         Node::Of { parts, .. } => match parts.as_slice().get(1) {
             Some(all) => row(all),
             None => &[],

@@ -1,8 +1,7 @@
 -- What is put, and what a read tells of a file.
 use Rattle.std.specs.Prelude.{IfErr}
 use Rattle.std.specs.Result.{IsErrAnd}
-use Rattle.std.proofs.Common.{◌≡◌, ℕ, List, take, drop, Option, Some, None, Result, Ok, Err, sym, ap, ◌∙◌, refl, subst, inl, inr, length}
-use Rattle.std.proofs.lemmas.List.{take-append-drop}
+use Rattle.std.proofs.Common.{◌≡◌, ℕ, List, Option, Some, Result, Ok, Err, sym, ap, ◌∙◌, subst, inl, inr, length}
 use Rattle.sp_base.specs.Places.{line_at, column_at}
 use Rattle.sp_base.specs.declared.kinds.MKind.{MKind}
 use Rattle.sp_base.specs.declared.places.Place.{Place}
@@ -13,27 +12,16 @@ use Rattle.sp_lex.specs.declared.tokens.ReadFault.TheVariants as fault
 use Rattle.sp_lex.specs.Lexed.{Lexed}
 use Rattle.sp_ast.specs.Trees.{Tree}
 use Rattle.sp_read_unit.specs.Modules.{IsModuleTree, IsModuleRefused}
-use Rattle.sp_io.specs.Moved.{appended}
+use Rattle.sp_command.specs.Files.{Holds}
 use Rattle.sp_spicyc.specs.declared.exits.Unread.{Unread}
-use Rattle.sp_spicyc.specs.Command.{IsPartPut}
-use Rattle.sp_spicyc.specs.Files.{AreTokens, IsModuleOf, Holds, IsStopped, IsUnreadable, refused_at, place_in}
+use Rattle.sp_spicyc.specs.Files.{AreTokens, IsModuleOf, IsStopped, IsUnreadable, refused_at, place_in}
 use Rattle.sp_spicyc.specs.Loads.{IsTextUnread, IsRefusalOrNoMemory}
-
--- the content that was read is that of the file, where the files are told
-pub holds_by : (files : Option (List ℕ → Option (List ℕ))) (path : List ℕ) (content : Option (List ℕ)) → ((map : List ℕ → Option (List ℕ)) → files ≡ Some map → content ≡ map path) → Holds files path content
-holds_by None path content told = tt
-holds_by (Some map) path content told = told map refl
 
 -- a file is stopped at as its text is
 pub stopped_by : (files : Option (List ℕ → Option (List ℕ))) (path text : List ℕ) (unread : Unread) → Holds files path (Some text) → IsTextUnread path text unread → IsStopped files path unread
 stopped_by files path text (Unread.Refused refusal) holds is = (Some text, holds, is)
 stopped_by files path text Unread.ModulesFault holds is = tt
 stopped_by files path text Unread.NoMemory holds is = tt
-
--- the first n bytes of a message were put
-pub part_of : (before after : Option (List ℕ)) (n : ℕ) (message text : List ℕ) → message ≡ text → after ≡ appended before (take n message) → IsPartPut before after text
-part_of before after n message text is put =
-    subst (λ bytes. IsPartPut before after bytes) is (take n message, (drop n message, sym (take-append-drop n message)), put)
 
 -- the first fault of the tokens makes the text unreadable
 pub unreadable_by : (text : List ℕ) (f : ReadFault) → OnDiag (λ span kind. IsFault text span kind) f

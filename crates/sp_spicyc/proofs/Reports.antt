@@ -1,27 +1,12 @@
 -- What is put of an exit.
-use Rattle.std.proofs.Common.{◌≡◌, ◌<◌, ◌↔◌, Result, Ok, Err, MatchResult, ℕ, List, [], Option, sym, ◌∙◌, refl, inl, inr}
-use Rattle.std.proofs.lemmas.List.{append-nil}
-use Rattle.sp_io.specs.Causes.{OutCause}
+use Rattle.std.proofs.Common.{◌≡◌, ℕ, refl, inl, inr}
 use Rattle.sp_io.specs.Moved.{appended}
 use Rattle.sp_io.specs.declared.traits.OutFault.{OutFault}
 use Rattle.sp_io.specs.declared.traits.OutFault.TheVariants as fault
-use Rattle.sp_io.proofs.Moves.{appended-nil}
+use Rattle.sp_command.specs.Puts.{IsPartPut, PutCause, failure_status}
+use Rattle.sp_command.proofs.PartPuts.{nothing_put, all_put}
 use Rattle.sp_spicyc.specs.declared.exits.Exit.{Exit}
-use Rattle.sp_spicyc.specs.Command.{Outputs, IsPartPut, PutCause, Reported, failure_status, output_of, message_of}
-
--- why a text was not put
-pub put_cause : (r : Result (Unit {0}) OutFault) (before after : ℕ) → (r ≡ Err fault.Failed) ↔ (before < after) → MatchResult r (λ _. after ≡ before) (OutCause before after) → MatchResult r (λ _. after ≡ before) (PutCause before after)
-put_cause (Ok u) before after failed cause = cause
-put_cause (Err fault.Failed) before after failed cause = failed.0 refl
-put_cause (Err fault.NoMemory) before after failed cause = cause
-
--- nothing is a front
-nothing_put : (before after : Option (List ℕ)) (text : List ℕ) → after ≡ before → IsPartPut before after text
-nothing_put before after text same = ([], (text, refl), same ∙ sym (appended-nil before))
-
--- and so is all
-all_put : (before after : Option (List ℕ)) (text : List ℕ) → after ≡ appended before text → IsPartPut before after text
-all_put before after text put = (text, ([], sym (append-nil text)), put)
+use Rattle.sp_spicyc.specs.Command.{Outputs, Reported, output_of, message_of}
 
 -- there was no memory for the message
 pub nothing_reported : (exit : Exit) (before : Outputs) → Reported exit before before 7

@@ -16,9 +16,9 @@ use Rattle.sp_build.specs.declared.stack.Item.TheVariants.{Built as built}
 use Rattle.sp_build.specs.Building.{IsBuilt}
 use Rattle.sp_read_unit.specs.Modules.{IsModuleText, IsModuleTree, IsModuleRefused}
 use Rattle.sp_read_unit.proofs.Whole.{one_module}
-use Rattle.sp_spicyc.specs.declared.exits.Refusal.{Refusal}
+use Rattle.sp_command.specs.declared.refusal.Refusal.{Refusal}
 use Rattle.sp_spicyc.specs.Files.{AreTokens, IsModuleOf, IsUnreadable, IsRefused, Reads, AllRead, printed, Refuses, place_in, refused_at}
-use Rattle.sp_spicyc.specs.Command.{refusal_text}
+use Rattle.sp_command.specs.Refusals.{refusal_text}
 use Rattle.sp_spicyc.specs.Whole.{Answer, IsAnswer, IsFirstRefusal}
 use Rattle.sp_spicyc.specs.Words.{Words, words_of}
 

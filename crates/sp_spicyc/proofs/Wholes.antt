@@ -4,7 +4,8 @@ use Rattle.std.proofs.Common.{◌≡◌, ◌≢◌, ℕ, List, [], Option, Some,
 use Rattle.sp_io.specs.Moved.{appended}
 use Rattle.sp_spicyc.specs.declared.exits.Exit.{Exit}
 use Rattle.sp_spicyc.specs.declared.exits.Unread.{Unread}
-use Rattle.sp_spicyc.specs.Command.{Says, Outputs, Reported, status_of, output_of, message_of, refusal_text}
+use Rattle.sp_spicyc.specs.Command.{Says, Outputs, Reported, status_of, output_of, message_of}
+use Rattle.sp_command.specs.Refusals.{refusal_text}
 use Rattle.sp_spicyc.specs.Files.{printed}
 use Rattle.sp_spicyc.specs.Whole.{Answer, IsAnswer, IsAnswered}
 

@@ -1,12 +1,10 @@
 -- What the program does, by its exit.
-use Rattle.std.specs.Prelude.{◌≡◌, ◌<◌, ◌⊎◌, ℕ, List, [], ◌++◌, Option, Some, None, codes, decimal}
+use Rattle.std.specs.Prelude.{◌≡◌, ◌<◌, ◌⊎◌, ℕ, List, [], Option, Some, None, codes}
 use Rattle.sp_ast.specs.Trees.{Tree}
-use Rattle.sp_base.specs.Kinds.{module_kind_name, module_kind_number}
 use Rattle.sp_io.specs.Moved.{appended}
-use Rattle.sp_io.specs.declared.traits.OutFault.{OutFault}
-use Rattle.sp_io.specs.declared.traits.OutFault.TheVariants as out_fault
+use Rattle.sp_command.specs.Refusals.{refusal_text}
+use Rattle.sp_command.specs.Puts.{IsPartPut}
 use Rattle.sp_spicyc.specs.declared.exits.Exit.{Exit}
-use Rattle.sp_spicyc.specs.declared.exits.Refusal.{Refusal}
 use Rattle.sp_spicyc.specs.declared.exits.Unread.{Unread}
 use Rattle.sp_spicyc.specs.Files.{AllRead, printed, IsUnread}
 use Rattle.sp_spicyc.specs.Loads.{UnreadCause}
@@ -35,11 +33,6 @@ status_of Exit.Usage = 2
 status_of (Exit.Done text) = 0
 status_of (Exit.Unread unread) = unread_status unread
 
--- `PATH:LINE:COL: M9 TypeMismatch`
-abbrev pub refusal_text : Refusal → List ℕ
-refusal_text r =
-    r.path ++ codes ":" ++ decimal r.place.line ++ codes ":" ++ decimal r.place.col ++ codes ": M" ++ decimal (module_kind_number r.kind) ++ codes " " ++ module_kind_name r.kind ++ codes "\n"
-
 abbrev pub unread_message : Unread → List ℕ
 unread_message (Unread.Refused refusal) = refusal_text refusal
 unread_message Unread.ModulesFault = codes "spicyc: read fault\n"
@@ -55,24 +48,6 @@ message_of (Exit.Unread unread) = unread_message unread
 abbrev pub output_of : Exit → List ℕ
 output_of (Exit.Done text) = text
 output_of exit = []
-
--- xs stands at the front of ys
-abbrev pub IsFront : List ℕ → List ℕ → Type 0
-IsFront xs ys = (rest : List ℕ) × (ys ≡ xs ++ rest)
-
--- a front of these bytes was put
-abbrev pub IsPartPut : Option (List ℕ) → Option (List ℕ) → List ℕ → Type 0
-IsPartPut before after bytes = (front : List ℕ) × IsFront front bytes × (after ≡ appended before front)
-
--- the status where an output was not written
-abbrev pub failure_status : OutFault → ℕ
-failure_status out_fault.Failed = 5
-failure_status out_fault.NoMemory = 7
-
--- whether the count of faults rose where an output was not written
-abbrev pub PutCause : ℕ → ℕ → OutFault → Type 0
-PutCause before after out_fault.Failed = before < after
-PutCause before after out_fault.NoMemory = after ≡ before
 
 -- what was put to the output and to the output for messages, where they tell it, and how often they failed
 pub record Outputs : Type 0 where

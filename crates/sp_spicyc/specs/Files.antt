@@ -11,7 +11,8 @@ use Rattle.sp_lex.specs.Readings.{reading, whole}
 use Rattle.sp_ast.specs.Trees.{Tree}
 use Rattle.sp_read_unit.specs.Modules.{IsModuleTree, IsModuleRefused}
 use Rattle.sp_print.specs.Canonical.{canonical}
-use Rattle.sp_spicyc.specs.declared.exits.Refusal.{Refusal}
+use Rattle.sp_command.specs.declared.refusal.Refusal.{Refusal}
+use Rattle.sp_command.specs.Files.{Holds}
 use Rattle.sp_spicyc.specs.declared.exits.Unread.{Unread}
 
 -- nothing is wrong with the text and its tokens, and these are they
@@ -46,11 +47,6 @@ abbrev pub IsRefused : List ℕ → Option (List ℕ) → Refusal → Type 0
 IsRefused path None refusal = refusal ≡ refused_at path (record { line = 0; col = 0 }) ModuleNotFound
 IsRefused path (Some text) refusal =
     (span : Span) × (kind : MKind) × IsUnreadable text span kind × (refusal ≡ refused_at path (place_in text span.from) kind)
-
--- the content of the file at a path, or none where there is no such file; where the files are told
-abbrev pub Holds : Option (List ℕ → Option (List ℕ)) → List ℕ → Option (List ℕ) → Type 0
-Holds None path content = Unit {0}
-Holds (Some files) path content = content ≡ files path
 
 -- the file at the path is there, and its text is that of a module, of which this is the tree
 abbrev pub Reads : Option (List ℕ → Option (List ℕ)) → List ℕ → Tree → Type 0

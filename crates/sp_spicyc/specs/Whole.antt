@@ -2,8 +2,8 @@
 use Rattle.std.specs.Prelude.{◌≡◌, ◌≢◌, ◌⊎◌, ℕ, List, [], Option, Some, None, codes}
 use Rattle.sp_ast.specs.Trees.{Tree}
 use Rattle.sp_io.specs.Moved.{appended}
-use Rattle.sp_spicyc.specs.declared.exits.Refusal.{Refusal}
-use Rattle.sp_spicyc.specs.Command.{refusal_text}
+use Rattle.sp_command.specs.declared.refusal.Refusal.{Refusal}
+use Rattle.sp_command.specs.Refusals.{refusal_text}
 use Rattle.sp_spicyc.specs.Files.{AllRead, printed, IsReached, Refuses}
 use Rattle.sp_spicyc.specs.Words.{Words, words_of}
 

@@ -1,16 +1,12 @@
 -- The command line: `[--print] FILES`, at least one file.
-use Rattle.std.specs.Prelude.{ℕ, List, [], ◌∷◌, Option, Some, None, Bool, true, false, not, if◌then◌else◌, ◌==◌, bytes_eq, codes}
+use Rattle.std.specs.Prelude.{ℕ, List, [], ◌∷◌, Option, Some, None, Bool, true, false, if◌then◌else◌, bytes_eq, codes}
 use Rattle.std.specs.List.{list_all}
+use Rattle.sp_command.specs.Words.{is_file}
 
 -- whether the modules are printed, and the files that are to be read
 pub record Words : Type 0 where
   pub print : Bool
   pub files : List (List ℕ)
-
--- a file's name is not empty and doesn't begin with a dash
-abbrev pub is_file : List ℕ → Bool
-is_file [] = false
-is_file (b ∷ bs) = not (b == 45)
 
 abbrev pub are_files : List (List ℕ) → Bool
 are_files words = list_all is_file words

@@ -1,17 +1,16 @@
 // The program: it reads its words and the files, and answers a status.
-ghost use Rattle.std.specs.Prelude.{◌≡◌, ◌<◌, ◌-◌, ◌^◌, ◌++◌, decimal, IfOk, OnOk, OnErr, MatchResult};
-ghost use Rattle.sp_io.specs.Moved.{appended};
+ghost use Rattle.std.specs.Prelude.{◌≡◌, ◌<◌, ◌-◌, ◌^◌, IfOk};
 ghost use Rattle.sp_spicyc.specs.declared.exits.Exit.{Exit};
 ghost use Rattle.sp_spicyc.specs.Causes.{IsCausedBy};
 ghost use Rattle.sp_spicyc.specs.Whole.{IsAnswered};
-ghost use Rattle.sp_spicyc.specs.Command.{Says, ExitCause, IsPartPut, PutCause, Reported, failure_status, status_of, output_of, message_of, refusal_text};
+ghost use Rattle.sp_spicyc.specs.Command.{Says, ExitCause, Reported, status_of, output_of, message_of};
 
-use crate::exits::{Exit, Refusal, Unread};
+use crate::exits::{Exit, Unread};
 use crate::files::read_files;
 use crate::words::words_wanted;
-use itoa::Buffer;
 use sp_base::{ByteList, NoMemory, Text};
-use sp_io::{Modules, Out, OutFault, put_all};
+use sp_command::{failure_status, put_text};
+use sp_io::{Modules, Out};
 use std::alloc::Global;
 
 /// What the program does but for its message.
@@ -29,38 +28,13 @@ fn drive<M: Modules>(alloc: Global, words: &[Text], modules: &mut M) -> Exit
     }
 }
 
-/// `PATH:LINE:COL: M9 TypeMismatch` and a newline.
-fn refusal_message(alloc: Global, refusal: &Refusal) -> Result<ByteList, NoMemory>
-    ensures { IfOk result (λ message. message ≡ refusal_text refusal.now) }
-{
-    let place = refusal.place;
-    let mut message = ByteList::from_slice(alloc, refusal.path.as_str().as_bytes())?;
-    message.append(b":")?;
-    append_number(&mut message, place.line)?;
-    message.append(b":")?;
-    append_number(&mut message, place.col)?;
-    message.append(b": M")?;
-    append_number(&mut message, u32::from(refusal.kind.number()))?;
-    message.append(b" ")?;
-    message.append(refusal.kind.name().as_bytes())?;
-    message.append(b"\n")?;
-    Ok(message)
-}
-
-fn append_number(message: &mut ByteList, number: u32) -> Result<(), NoMemory>
-    ensures { OnOk result (message.new ≡ message.old ++ decimal number) }
-{
-    let mut buffer = Buffer::new();
-    message.append(buffer.format(number).as_bytes())
-}
-
 /// The message of an exit.
 fn message(alloc: Global, exit: &Exit) -> Result<ByteList, NoMemory>
     ensures { IfOk result (λ message. message ≡ message_of exit.now) }
 {
     match exit {
         Exit::Usage => ByteList::from_slice(alloc, b"spicyc: usage\n"),
-        Exit::Unread(Unread::Refused(refusal)) => refusal_message(alloc, refusal),
+        Exit::Unread(Unread::Refused(refusal)) => refusal.message(alloc),
         Exit::Unread(Unread::ModulesFault) => ByteList::from_slice(alloc, b"spicyc: read fault\n"),
         Exit::Unread(Unread::NoMemory) | Exit::Done(_) => Ok(ByteList::new(alloc)),
     }
@@ -76,26 +50,6 @@ fn status(exit: &Exit) -> u8
         Exit::Unread(Unread::ModulesFault) => 4,
         Exit::Unread(Unread::NoMemory) => 7,
     }
-}
-
-/// The status where an output was not written.
-fn failure_status(fault: &OutFault) -> u8
-    ensures { result ≡ failure_status fault.now }
-{
-    match fault {
-        OutFault::Failed => 5,
-        OutFault::NoMemory => 7,
-    }
-}
-
-/// Puts a text. After a fault a front of it was put.
-fn put_text<O: Out>(out: &mut O, text: &[u8]) -> Result<(), OutFault>
-    requires { O.faults out.old < 2 ^ 64 - 1 }
-    ensures held { OnOk result (O.held out.new ≡ appended (O.held out.old) text.now) }
-    ensures part { OnErr result (IsPartPut (O.held out.old) (O.held out.new) text.now) }
-    ensures cause { MatchResult result (λ _. O.faults out.new ≡ O.faults out.old) (PutCause (O.faults out.old) (O.faults out.new)) }
-{
-    put_all(out, text)
 }
 
 /// What an exit writes to the output.

@@ -1,13 +1,6 @@
 // How the program ends.
-use sp_base::{ByteList, MKind, Place, Text};
-
-/// Why a module was refused, and where.
-#[derive(Drop)]
-pub struct Refusal {
-    pub path: Text,
-    pub place: Place,
-    pub kind: MKind,
-}
+use sp_base::ByteList;
+use sp_command::Refusal;
 
 /// Why a file was not read as a module.
 #[derive(Drop)]

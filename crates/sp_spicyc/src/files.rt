@@ -5,9 +5,10 @@ ghost use Rattle.sp_lex.specs.Faults.{OnDiag, most_bytes};
 ghost use Rattle.sp_spicyc.specs.Files.{IsModuleOf, IsUnreadable, Reads, AllRead, printed, refused_at, IsStopped, IsUnread};
 ghost use Rattle.sp_spicyc.specs.Loads.{IsRefusalOrNoMemory, IsTextUnread, UnreadCause};
 
-use crate::exits::{Refusal, Unread};
+use crate::exits::Unread;
 use sp_ast::Module;
 use sp_base::{ByteList, MKind, NoMemory, Place, Text, place_of};
+use sp_command::Refusal;
 use sp_io::{Modules, ModulesFault};
 use sp_lex::{ReadFault, lex};
 use sp_print::print_module;
@@ -72,13 +73,13 @@ fn read_file<M: Modules>(alloc: Global, path: &str, modules: &mut M) -> Result<M
 fn append_printed(
     alloc: Global,
     print: bool,
-    module: &Module,
+    m: &Module,
     text: &mut ByteList,
 ) -> Result<(), NoMemory>
-    ensures { OnOk result (text.new ≡ text.old ++ printed print (module.now.tree ∷ [])) }
+    ensures { OnOk result (text.new ≡ text.old ++ printed print (m.now.tree ∷ [])) }
 {
     if print {
-        text.append(print_module(alloc, module)?.as_str().as_bytes())?;
+        text.append(print_module(alloc, m)?.as_str().as_bytes())?;
     }
     Ok(())
 }

@@ -1,8 +1,9 @@
 // The command line.
 ghost use Rattle.std.specs.Prelude.{◌≡◌, option_map};
-ghost use Rattle.sp_spicyc.specs.Words.{is_file, are_files, with_files, words_of};
+ghost use Rattle.sp_spicyc.specs.Words.{are_files, with_files, words_of};
 
 use sp_base::Text;
+use sp_command::is_path;
 
 /// The words of a call.
 #[derive(Clone, Copy)]
@@ -11,15 +12,6 @@ pub struct Wanted<'w> {
     pub print: bool,
     /// The files that are to be read.
     pub files: &'w [Text],
-}
-
-fn is_path(word: &[u8]) -> bool
-    ensures { result ≡ is_file word.now }
-{
-    match word {
-        [] => false,
-        [first, ..] => *first != b'-',
-    }
 }
 
 fn are_paths(words: &[Text]) -> bool

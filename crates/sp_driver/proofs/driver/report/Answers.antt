@@ -1,6 +1,6 @@
 use Rattle.std.proofs.Common.{Err, ap, refl, inl, inr, ◌∙◌}
 use Rattle.sp_driver.specs.Driver.{message_of}
-use Rattle.sp_driver.proofs.Endings.{part_of}
+use Rattle.sp_command.proofs.PartPuts.{part_of}
 use Rattle.sp_driver.proofs.driver.report.Goals as goal
 
 pub returns-in-Err-Failed : goal.returns-in-Err-Failed

@@ -1,5 +1,6 @@
 use Rattle.std.proofs.Common.{Some, Err, ap, arith}
-use Rattle.sp_driver.proofs.Endings.{holds_by, out_of_profile}
+use Rattle.sp_command.proofs.Files.{holds_by}
+use Rattle.sp_driver.proofs.Endings.{out_of_profile}
 use Rattle.sp_driver.proofs.load.load.Goals as goal
 
 pub returns-in-Err-OutOfProfile-clause-err : goal.returns-in-Err-OutOfProfile-clause-err

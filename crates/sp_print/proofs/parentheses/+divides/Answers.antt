@@ -1,4 +1,4 @@
-use Rattle.std.proofs.Common.{◌≡◌, ◌<◌, get_or, sym, ◌∙◌, rules}
+use Rattle.std.proofs.Common.{◌∙◌, rules}
 use Rattle.sp_print.proofs.Parts.{binary_none, binary_some}
 use Rattle.sp_print.proofs.parentheses.+divides.Goals as goal
 

@@ -7,5 +7,5 @@ use Rattle.sp_print.proofs.print.declarations.Goals as goal
 pub returns-in-None : goal.returns-in-None
 returns-in-None c =
     let none = rw c.as_slice.ensures.value at c.in-None.ensures.lookup.0 in
-    let same : node c.in-Of.form c.in-Of.span (trees c.in-Of.parts.items) ≡ c.args.module.now = rw c.in-Of.is at c.module.view_is in
+    let same : node c.in-Of.form c.in-Of.span (trees c.in-Of.parts.items) ≡ c.args.m.now = rw c.in-Of.is at c.m.view_is in
     ap declarations (sym same) ∙ no_declarations c.in-Of.form c.in-Of.span c.in-Of.parts.items none

@@ -1,5 +1,5 @@
-use Rattle.std.proofs.Common.{◌≡◌, ap, refl, ◌∙◌}
-use Rattle.sp_spicyc.specs.Command.{Outputs, output_of, message_of}
+use Rattle.std.proofs.Common.{refl, ◌∙◌}
+use Rattle.sp_spicyc.specs.Command.{Outputs}
 use Rattle.sp_spicyc.proofs.Reports.{output_failed, message_failed}
 use Rattle.sp_spicyc.proofs.command.report.Goals as goal
 

@@ -1,7 +1,8 @@
 use Rattle.std.proofs.Common.{Some}
 use Rattle.sp_spicyc.specs.Files.{IsStopped}
 use Rattle.sp_spicyc.specs.Loads.{IsTextUnread}
-use Rattle.sp_spicyc.proofs.Endings.{holds_by, stopped_by, unread_by}
+use Rattle.sp_spicyc.proofs.Endings.{stopped_by, unread_by}
+use Rattle.sp_command.proofs.Files.{holds_by}
 use Rattle.sp_spicyc.proofs.files.read_file.Goals as goal
 
 pub returns-in-Ok-Some-clause-unread : goal.returns-in-Ok-Some-clause-unread

@@ -1,8 +1,7 @@
 use Rattle.std.proofs.Common.{refl}
 use Rattle.std.proofs.lemmas.Result.{on_err_weaker}
-use Rattle.sp_spicyc.proofs.Endings.{part_of}
-use Rattle.sp_spicyc.proofs.Reports.{put_cause}
-use Rattle.sp_spicyc.proofs.command.put_text.Goals as goal
+use Rattle.sp_command.proofs.PartPuts.{part_of, put_cause}
+use Rattle.sp_command.proofs.puts.put_text.Goals as goal
 
 pub returns-clause-part : goal.returns-clause-part
 returns-clause-part g c =

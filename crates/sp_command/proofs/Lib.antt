@@ -1,0 +1,2 @@
+pub mod PartPuts
+pub mod Files

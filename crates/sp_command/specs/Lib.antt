@@ -1,0 +1,4 @@
+pub mod Refusals
+pub mod Puts
+pub mod Words
+pub mod Files
