@@ -6,3 +6,4 @@ pub mod Lists
 pub mod Found
 pub mod KeyLaws
 pub mod Equals
+pub mod Numbers

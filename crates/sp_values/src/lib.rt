@@ -2,6 +2,7 @@
 #![tactic(auto)]
 
 mod change;
+mod integers;
 mod keyed;
 mod laws;
 mod make;
@@ -11,6 +12,7 @@ mod read;
 mod tests;
 mod value;
 
+pub use integers::read_int;
 pub use laws::{law_of_equality, law_of_keys, law_of_order};
 pub use order::compare;
 pub use value::Value;

@@ -1,6 +1,6 @@
 use Rattle.std.proofs.Common.{◌<◌, ◌-◌, length, arith, slice_index_or}
-use Rattle.sp_events.proofs.Numbers.{number_fits, number_before, little_endian-before}
-use Rattle.sp_events.proofs.number.read_little.Goals as goal
+use Rattle.sp_values.proofs.Numbers.{number_fits, number_before, little_endian-before}
+use Rattle.sp_values.proofs.integers.read_little.Goals as goal
 
 pub overflow_mul-number : goal.overflow_mul-number
 overflow_mul-number c =

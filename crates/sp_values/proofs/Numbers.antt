@@ -3,7 +3,7 @@ use Rattle.std.proofs.Common.{◌≡◌, ◌≤◌, ◌<◌, ◌+◌, ◌*◌, �
 use Rattle.std.proofs.lemmas.List.{length_push, take_more, drop_more}
 use Rattle.std.proofs.lemmas.Grind.{pow_more}
 use Rattle.std.proofs.Math.Nat.{pow-le-pow_right}
-use Rattle.sp_events.specs.Number.{big_endian, little_endian}
+use Rattle.sp_values.specs.Integers.{big_endian, little_endian}
 
 pub big_endian-push : (xs : List ℕ) (b : ℕ) → big_endian (xs ++ b ∷ []) ≡ big_endian xs * 256 + b
 big_endian-push [] b = omega arith

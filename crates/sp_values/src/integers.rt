@@ -1,8 +1,9 @@
-// Numbers from bytes.
+// Integers from bytes.
 ghost use Rattle.std.specs.Prelude.{◌≡◌, ◌≤◌, ◌<◌, ◌*◌, ◌^◌, ◌+ℤ◌, ℕ, pos, length, true, false, if◌then◌else◌};
-ghost use Rattle.sp_events.specs.Number.{unsigned_of, signed_of, integer_of, IsWidth};
+ghost use Rattle.sp_values.specs.Integers.{width_of_bytes, unsigned_of, signed_of, integer_of, IsWidth};
 
-use crate::Value;
+use crate::value::Value;
+use sp_numbers::Width;
 
 /// The number of 1 to 8 bytes without a sign.
 fn read_unsigned(bytes: &[u8], little: bool) -> u64
@@ -55,21 +56,44 @@ fn with_sign(number: u64, half: u64, least: i64) -> i64
     }
 }
 
-/// The integer of 1, 2, 4 or 8 bytes: its first byte counts most, or least where `little`; `signed` is in
-/// two's complement. Takes no memory.
+/// The width of an integer of so many bytes.
+fn width_of_bytes(count: usize) -> Width
+    requires { IsWidth count }
+    ensures { result ≡ width_of_bytes count }
+{
+    match count {
+        1 => Width::W8,
+        2 => Width::W16,
+        4 => Width::W32,
+        _ => Width::W64,
+    }
+}
+
+/// The number of so many bytes in two's complement.
+fn signed_number(count: usize, number: u64) -> i64
+    requires count { IsWidth count }
+    requires below { number < 256 ^ count }
+    ensures { result ≡ signed_of (256 ^ count) number }
+{
+    match count {
+        1 => with_sign(number, 0x80, -0x80),
+        2 => with_sign(number, 0x8000, -0x8000),
+        4 => with_sign(number, 0x8000_0000, -0x8000_0000),
+        _ => with_sign(number, 0x8000_0000_0000_0000, i64::MIN),
+    }
+}
+
+/// The integer of 1, 2, 4 or 8 bytes, of the width that they have: its first byte counts most, or least where
+/// `little`; `signed` is in two's complement. Takes no memory.
 pub fn read_int(bytes: &[u8], little: bool, signed: bool) -> Value
     requires { IsWidth (length bytes.now) }
     ensures { result ≡ integer_of little signed bytes.now }
 {
     let number = read_unsigned(bytes, little);
-    if !signed {
-        return Value::Uint(number);
+    let width = width_of_bytes(bytes.len());
+    if signed {
+        Value::int(width, signed_number(bytes.len(), number))
+    } else {
+        Value::uint(width, number)
     }
-    let value = match bytes.len() {
-        1 => with_sign(number, 0x80, -0x80),
-        2 => with_sign(number, 0x8000, -0x8000),
-        4 => with_sign(number, 0x8000_0000, -0x8000_0000),
-        _ => with_sign(number, 0x8000_0000_0000_0000, i64::MIN),
-    };
-    Value::Int(value)
 }

@@ -1,6 +1,6 @@
 use Rattle.std.proofs.Common.{◌<◌, arith, refl, ap, sym, ◌∙◌, ◌*◌, ◌+◌, slice_index_or}
-use Rattle.sp_events.proofs.Numbers.{big_endian-take, number_more, number_fits}
-use Rattle.sp_events.proofs.number.read_big.Goals as goal
+use Rattle.sp_values.proofs.Numbers.{big_endian-take, number_more, number_fits}
+use Rattle.sp_values.proofs.integers.read_big.Goals as goal
 
 pub overflow_mul-number : goal.overflow_mul-number
 overflow_mul-number c =
