@@ -4,7 +4,7 @@ use Rattle.std.proofs.Common.{◌≡◌, ◌<◌, ◌+◌, ℕ, List, [], ◌∷
 use Rattle.std.proofs.lemmas.List.{append-nil, take_more, take-append-drop}
 use Rattle.sp_io.specs.Moved.{appended, prepended, Moves}
 use Rattle.sp_io.proofs.Moves.{appended-appended, appended-nil, prepended-prepended}
-use Rattle.sp_value.specs.declared.event.Event.{Event}
+use Rattle.sp_events.specs.declared.event.Event.{Event}
 use Rattle.sp_json.specs.Lines.{line_of, lines_of}
 use Rattle.sp_driver.specs.Parts.{IsPartPut}
 

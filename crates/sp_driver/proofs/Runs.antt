@@ -13,7 +13,7 @@ use Rattle.sp_meaning.specs.declared.stand.Stand.{Stand}
 use Rattle.sp_meaning.specs.Meaning.{mean}
 use Rattle.sp_meaning.proofs.Reading.{is_decided}
 use Rattle.sp_session.specs.declared.session.Session.{Session}
-use Rattle.sp_value.specs.declared.event.Event.{Event}
+use Rattle.sp_events.specs.declared.event.Event.{Event}
 use Rattle.sp_session.specs.Session.{StandsFor, IsFed, IsFresh, grammar, told_by, told_in}
 use Rattle.sp_json.specs.Lines.{lines_of}
 use Rattle.sp_driver.specs.declared.exits.RunExit.{RunExit}

@@ -7,9 +7,9 @@ ghost use Rattle.sp_driver.specs.Parts.{IsPartPut, StopCause};
 
 use crate::exits::Stop;
 use sp_base::ByteList;
+use sp_events::Event;
 use sp_io::{Out, OutFault, Source, SourceFault, Took, put_all};
 use sp_json::line;
-use sp_value::Event;
 use std::alloc::Global;
 
 /// Puts the lines of events of the flow. Where that stops, a front of them was put.

@@ -14,8 +14,8 @@ use crate::exits::{RunExit, Stop, Turn};
 use crate::pieces::{fill, put_lines};
 use crate::session::{Program, Session, Stand};
 use sp_base::{ByteList, Limits};
+use sp_events::Events;
 use sp_io::{Out, Source, SourceFault};
-use sp_value::Events;
 use std::alloc::Global;
 
 /// The most bytes that a run takes.

@@ -3,8 +3,8 @@ use Rattle.std.proofs.Common.{◌≡◌, ◌≢◌, ◌≤◌, ◌<◌, ℕ, Lis
 use Rattle.std.proofs.lemmas.List.{append-nil, take-append-le, drop-append-le, length-append, length-drop}
 use Rattle.std.proofs.lemmas.Bool.{le-leb, lt-leb, cases_lt}
 use Rattle.sp_base.specs.Input.{Close, held_open, ended}
-use Rattle.sp_value.specs.Number.{integer_of}
-use Rattle.sp_value.specs.declared.event.Event.{Event}
+use Rattle.sp_values.specs.Integers.{integer_of}
+use Rattle.sp_events.specs.declared.event.Event.{Event}
 use Rattle.sp_meaning.specs.declared.grammar.Field.{Field}
 use Rattle.sp_meaning.specs.declared.grammar.IntType.{IntType}
 use Rattle.sp_meaning.specs.declared.grammar.IntType.TheVariants.{Uint8, Uint16, Uint32, Uint64}

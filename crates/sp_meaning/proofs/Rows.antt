@@ -2,8 +2,8 @@
 use Rattle.std.specs.Prelude.{codes}
 use Rattle.std.proofs.Common.{◌≡◌, List, [], ◌∷◌, refl}
 use Rattle.sp_base.specs.Input.{held_open, ended}
-use Rattle.sp_value.specs.Tree.{uint, unit, no_fields, field}
-use Rattle.sp_value.specs.declared.event.What.TheVariants as What
+use Rattle.sp_events.specs.Tree.{uint, unit, no_fields, field}
+use Rattle.sp_events.specs.declared.event.What.TheVariants as What
 use Rattle.sp_meaning.specs.declared.grammar.Field.{Field}
 use Rattle.sp_meaning.specs.declared.grammar.IntType.TheVariants.{Uint8, Uint16}
 use Rattle.sp_meaning.specs.declared.stand.Stand.TheVariants as Stand

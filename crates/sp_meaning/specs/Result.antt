@@ -1,8 +1,8 @@
 -- How the reading of a part of a unit ends, and what follows it.
 use Rattle.std.specs.Prelude.{ℕ, List, [], ◌++◌}
 use Rattle.sp_base.specs.declared.places.ParseError.{ParseError}
-use Rattle.sp_value.specs.Tree.{TreeData}
-use Rattle.sp_value.specs.declared.event.Event.{Event}
+use Rattle.sp_events.specs.Tree.{TreeData}
+use Rattle.sp_events.specs.declared.event.Event.{Event}
 
 -- what a unit holds while it is read: the place of the next byte, and the fields that have their values
 pub record State : Type 0 where

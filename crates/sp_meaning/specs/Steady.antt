@@ -1,7 +1,7 @@
 -- What holds of the meaning of any unit and input.
 use Rattle.std.specs.Prelude.{◌≡◌, ◌≢◌, ℕ, List, ◌++◌}
 use Rattle.sp_base.specs.Input.{Close, held_open, ended}
-use Rattle.sp_value.specs.declared.event.Event.{Event}
+use Rattle.sp_events.specs.declared.event.Event.{Event}
 use Rattle.sp_meaning.specs.declared.grammar.Field.{Field}
 use Rattle.sp_meaning.specs.declared.stand.Stand.TheVariants.{Waiting}
 use Rattle.sp_meaning.specs.Meaning.{mean}

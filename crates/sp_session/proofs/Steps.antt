@@ -2,16 +2,16 @@
 use Rattle.std.proofs.Common.{◌≡◌, ◌≤◌, ◌<◌, ◌+◌, ℕ, List, [], ◌∷◌, ◌++◌, length, take, drop, get_or, false, sym, ap, subst, ◌∙◌, arith, append_assoc}
 use Rattle.std.proofs.lemmas.List.{append-nil, drop_more, drop_all, drop-drop, drop-append-le, length-append, length-drop}
 use Rattle.sp_base.specs.Input.{Close, held_open, ended}
-use Rattle.sp_value.specs.Number.{integer_of}
-use Rattle.sp_value.specs.Value.{told_value}
-use Rattle.sp_value.specs.Tree.{unit, fields_of}
-use Rattle.sp_value.specs.declared.event.Event.{Event}
+use Rattle.sp_values.specs.Integers.{integer_of}
+use Rattle.sp_meaning.specs.Told.{told_value}
+use Rattle.sp_events.specs.Tree.{unit, fields_of}
+use Rattle.sp_events.specs.declared.event.Event.{Event}
 use Rattle.sp_meaning.specs.declared.grammar.Field.{Field}
 use Rattle.sp_meaning.specs.Width.{width_of}
 use Rattle.sp_meaning.specs.Result.{State, ends, failed, need}
 use Rattle.sp_meaning.specs.Meaning.{stored, short_at, fields_mean, begun, told, meaning_by, mean, Meaning}
 use Rattle.sp_meaning.proofs.Reading.{width_some, fields_go, fields_lack, after, there, there_more}
-use Rattle.sp_value.specs.declared.event.What.{What}
+use Rattle.sp_events.specs.declared.event.What.{What}
 use Rattle.sp_meaning.specs.declared.stand.Stand.{Stand}
 use Rattle.sp_session.specs.declared.progress.Progress.{Progress}
 use Rattle.sp_session.specs.Reading.{Leads, Lacks, Ends}

@@ -1,7 +1,7 @@
 -- What the parts of a session stand for while a unit is read.
 use Rattle.std.specs.Prelude.{◌≡◌, ◌≤◌, ◌<◌, ℕ, Bool, true, false, List, [], ◌∷◌, ◌++◌, length, drop}
 use Rattle.sp_base.specs.Input.{Close, held_open, ended}
-use Rattle.sp_value.specs.declared.event.Event.{Event}
+use Rattle.sp_events.specs.declared.event.Event.{Event}
 use Rattle.sp_meaning.specs.declared.grammar.Field.{Field}
 use Rattle.sp_meaning.specs.declared.stand.Stand.{Stand}
 use Rattle.sp_meaning.specs.Width.{width_of}

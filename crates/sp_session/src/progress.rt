@@ -2,7 +2,7 @@
 ghost use Rattle.std.specs.Prelude.{◌≡◌, []};
 
 use sp_base::{ByteList, Text};
-use sp_value::Tree;
+use sp_events::Tree;
 use std::alloc::Global;
 
 /// The number of the next field, the place of its first byte in the input, the fields that have their

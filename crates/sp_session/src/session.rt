@@ -5,8 +5,8 @@ ghost use Rattle.sp_session.specs.Reading.{stand_by};
 use crate::progress::Progress;
 use crate::reading::{Ending, advance, close, short};
 use sp_base::{Limits, NoMemory};
+use sp_events::Events;
 use sp_meaning::{Program, Stand};
-use sp_value::Events;
 use std::alloc::Global;
 
 #[derive(Clone, Copy, Debug, PartialEq, Eq)]

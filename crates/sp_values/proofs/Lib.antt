@@ -7,3 +7,5 @@ pub mod Swaps
 pub mod Found
 pub mod KeyLaws
 pub mod Equals
+pub mod Numbers
+pub mod IntegerRanges

@@ -13,3 +13,4 @@ pub mod Changes
 pub mod Places
 pub mod OneKey
 pub mod Alike
+pub mod Integers

@@ -2,6 +2,7 @@
 #![tactic(auto)]
 
 mod change;
+mod integers;
 mod keyed;
 mod laws;
 mod level;
@@ -14,6 +15,7 @@ mod swap;
 mod tests;
 mod value;
 
+pub use integers::read_int;
 pub use laws::{law_of_equality, law_of_keys, law_of_order};
 pub use level::Level;
 pub use list::copy_all;

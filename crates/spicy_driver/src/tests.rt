@@ -2,9 +2,9 @@
 use sp_base::{ByteList, Limits, NoMemory, Text};
 use sp_driver::session::Session;
 use sp_driver::spicy_driver;
+use sp_events::Events;
 use sp_io::{MemModules, MemOut, MemSource};
 use sp_small_reader::read_program;
-use sp_value::Events;
 use std::alloc::Global;
 use std::test::Fail;
 

@@ -1,7 +1,7 @@
 use Rattle.std.proofs.Common.{◌++◌, [], refl, ap, sym, ◌∙◌, subst}
 use Rattle.sp_base.specs.Input.{held_open}
-use Rattle.sp_value.specs.Tree.{unit, fields_of}
-use Rattle.sp_value.specs.declared.event.What.TheVariants.{Done}
+use Rattle.sp_events.specs.Tree.{unit, fields_of}
+use Rattle.sp_events.specs.declared.event.What.TheVariants.{Done}
 use Rattle.sp_session.specs.Reading.{Leads, state_of}
 use Rattle.sp_session.proofs.Steps.{leads_more, mean_whole, ends_by}
 use Rattle.sp_session.proofs.reading.advance.Goals as goal

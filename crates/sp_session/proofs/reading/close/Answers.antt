@@ -1,7 +1,7 @@
 use Rattle.std.proofs.Common.{[], ap, ◌∙◌}
 use Rattle.sp_base.specs.Input.{ended}
-use Rattle.sp_value.specs.Tree.{unit, fields_of}
-use Rattle.sp_value.specs.declared.event.What.TheVariants as What
+use Rattle.sp_events.specs.Tree.{unit, fields_of}
+use Rattle.sp_events.specs.declared.event.What.TheVariants as What
 use Rattle.sp_meaning.specs.declared.stand.Stand.TheVariants as Stand
 use Rattle.sp_meaning.specs.Meaning.{short_at}
 use Rattle.sp_session.specs.Reading.{state_of}

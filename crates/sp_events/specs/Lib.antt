@@ -1,0 +1,5 @@
+pub mod Tree
+pub mod TreeSizes
+pub mod TreeCodes
+pub mod TreeView
+pub mod TreeFalls
