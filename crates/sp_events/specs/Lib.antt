@@ -1,7 +1,5 @@
-pub mod Number
 pub mod Tree
 pub mod TreeSizes
 pub mod TreeCodes
 pub mod TreeView
 pub mod TreeFalls
-pub mod Value

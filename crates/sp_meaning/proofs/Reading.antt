@@ -3,7 +3,7 @@ use Rattle.std.proofs.Common.{◌≡◌, ◌≢◌, ◌≤◌, ◌<◌, ℕ, Lis
 use Rattle.std.proofs.lemmas.List.{append-nil, take-append-le, drop-append-le, length-append, length-drop}
 use Rattle.std.proofs.lemmas.Bool.{le-leb, lt-leb, cases_lt}
 use Rattle.sp_base.specs.Input.{Close, held_open, ended}
-use Rattle.sp_events.specs.Number.{integer_of}
+use Rattle.sp_value.specs.Integers.{integer_of}
 use Rattle.sp_events.specs.declared.event.Event.{Event}
 use Rattle.sp_meaning.specs.declared.grammar.Field.{Field}
 use Rattle.sp_meaning.specs.declared.grammar.IntType.{IntType}

@@ -1,14 +1,14 @@
 -- A leaf is one read of a value from the data at a place.
 use Rattle.std.specs.Prelude.{List, ℕ, length, take, false, nat_le, if◌then◌else◌}
 use Rattle.sp_base.specs.Input.{Close, held_open, ended}
-use Rattle.sp_events.specs.Number.{integer_of}
-use Rattle.sp_events.specs.declared.value.Value.{Value}
+use Rattle.sp_value.specs.Integers.{integer_of}
+use Rattle.sp_value.specs.Val.{Val}
 use Rattle.sp_meaning.specs.declared.grammar.IntType.{IntType}
 use Rattle.sp_meaning.specs.Width.{width_of}
 
 -- its three answers: a value; an error, since the data end too early; or that more bytes are needed
 pub data Leaf : Type 0 where
-  got : Value → Leaf
+  got : Val → Leaf
   short : Leaf
   needs : Leaf
 

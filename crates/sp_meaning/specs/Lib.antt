@@ -2,4 +2,5 @@ pub mod Leaf
 pub mod Meaning
 pub mod Result
 pub mod Steady
+pub mod Told
 pub mod Width

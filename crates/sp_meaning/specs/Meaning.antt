@@ -5,14 +5,14 @@ use Rattle.sp_base.specs.Input.{Close}
 use Rattle.sp_base.specs.declared.kinds.PKind.TheVariants.{Short}
 use Rattle.sp_base.specs.declared.places.ParseError.{ParseError}
 use Rattle.sp_events.specs.Tree.{unit, fields_of}
-use Rattle.sp_events.specs.Value.{told_value}
 use Rattle.sp_events.specs.declared.event.Event.{Event}
 use Rattle.sp_events.specs.declared.event.What.{What}
-use Rattle.sp_events.specs.declared.value.Value.{Value}
+use Rattle.sp_value.specs.Val.{Val}
 use Rattle.sp_meaning.specs.declared.grammar.Field.{Field}
 use Rattle.sp_meaning.specs.declared.stand.Stand.{Stand}
 use Rattle.sp_meaning.specs.Leaf.{Leaf, got, short, needs, integer_leaf}
 use Rattle.sp_meaning.specs.Result.{State, fine, failed, need, Result, ends, then_do}
+use Rattle.sp_meaning.specs.Told.{told_value}
 use Rattle.sp_meaning.specs.Width.{width_of}
 
 -- the data end too early for what begins at a place
@@ -20,7 +20,7 @@ abbrev pub short_at : ℕ → ParseError
 short_at place = record { kind = Short; offset = place; text = None }
 
 -- the field has this value; the next one begins behind its bytes
-abbrev pub stored : Field → Value → State → State
+abbrev pub stored : Field → Val → State → State
 stored f v st = record { place = st.place + width_of f.kind; fields = st.fields ++ (f.name, told_value v) ∷ [] }
 
 -- what a field's leaf leads to: the errors and the mark of a field are at its first byte

@@ -13,7 +13,7 @@ pub enum IntType {
 }
 
 impl IntType {
-    ghost use Rattle.sp_events.specs.Number.{IsWidth};
+    ghost use Rattle.sp_value.specs.Integers.{IsWidth};
     ghost use Rattle.sp_meaning.specs.Width.{width_of};
 
     /// How many bytes the integer has.

@@ -4,7 +4,9 @@
 mod grammar;
 mod laws;
 mod stand;
+mod told;
 
 pub use grammar::{Field, IntType, Program};
 pub use laws::{decided, steady};
 pub use stand::Stand;
+pub use told::told_value;

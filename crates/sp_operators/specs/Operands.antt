@@ -1,7 +1,7 @@
 -- Which kinds of values each operator takes.
 use Rattle.std.specs.Prelude.{Bool, true, false, ◌==◌}
-use Rattle.sp_values.specs.Val.{Val, bool, uint, int, bytes, str, enum, vector, set, map, place}
-use Rattle.sp_values.specs.Order.{kind}
+use Rattle.sp_value.specs.Val.{Val, bool, uint, int, bytes, str, enum, vector, set, map, place}
+use Rattle.sp_value.specs.Order.{kind}
 use Rattle.sp_operators.specs.declared.operators.BinOp.{BinOp}
 use Rattle.sp_operators.specs.declared.operators.BinOp.TheVariants.{In, NotIn, Equal, NotEqual, Less, LessEqual, Greater, GreaterEqual, BitOr, BitXor, BitAnd, ShiftLeft, ShiftRight, Add, Subtract, Multiply, Divide, Remainder}
 use Rattle.sp_operators.specs.declared.operators.UnOp.{UnOp}

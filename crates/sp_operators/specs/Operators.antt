@@ -13,9 +13,9 @@ use Rattle.sp_numbers.specs.declared.operators.BitOperator.TheVariants.{And, Or,
 use Rattle.sp_numbers.specs.declared.operators.Shift.{Shift}
 use Rattle.sp_numbers.specs.declared.operators.Shift.TheVariants.{Left, Right}
 use Rattle.sp_numbers.specs.Numbers.{width_bits, unsigned_or, signed_or, unsigned_arithmetic, signed_arithmetic, bitwise, complement, shifted}
-use Rattle.sp_values.specs.Val.{Val, void, bool, uint, int, bytes, str, enum, vector, set, map, place, list_of, pairs_of}
-use Rattle.sp_values.specs.Order.{val_cmp}
-use Rattle.sp_values.specs.Changes.{has_key}
+use Rattle.sp_value.specs.Val.{Val, void, bool, uint, int, bytes, str, enum, vector, set, map, place, list_of, pairs_of}
+use Rattle.sp_value.specs.Order.{val_cmp}
+use Rattle.sp_value.specs.Changes.{has_key}
 use Rattle.sp_operators.specs.Parts.{has_part}
 use Rattle.sp_operators.specs.declared.operators.BinOp.{BinOp}
 use Rattle.sp_operators.specs.declared.operators.BinOp.TheVariants.{In, NotIn, Equal, NotEqual, Less, LessEqual, Greater, GreaterEqual, BitOr, BitXor, BitAnd, ShiftLeft, ShiftRight, Add, Subtract, Multiply, Divide, Remainder}

@@ -1,7 +1,7 @@
 -- What a call answers of the value or error that its operator has.
 use Rattle.std.specs.Prelude.{◌≡◌, Bool, IsTrue, Result, Ok, Err}
 use Rattle.sp_base.specs.declared.kinds.PKind.{PKind}
-use Rattle.sp_values.specs.Val.{Val}
+use Rattle.sp_value.specs.Val.{Val}
 use Rattle.sp_operators.specs.declared.fault.ValueFault.{ValueFault}
 use Rattle.sp_operators.specs.declared.fault.ValueFault.TheVariants.{Run, NoMemory}
 

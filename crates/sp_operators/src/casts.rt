@@ -3,7 +3,7 @@ ghost use Rattle.std.specs.Prelude.{◌≡◌, pos, IsTrue, false};
 ghost use Rattle.sp_base.specs.declared.kinds.PKind.TheVariants.{CastRange};
 ghost use Rattle.sp_numbers.specs.declared.width.Width.TheVariants.{W64};
 ghost use Rattle.sp_numbers.specs.Numbers.{unsigned_or, signed_or};
-ghost use Rattle.sp_values.specs.Val.{uint, int, enum};
+ghost use Rattle.sp_value.specs.Val.{uint, int, enum};
 ghost use Rattle.sp_operators.specs.Outcomes.{Answers};
 ghost use Rattle.sp_operators.specs.Operands.{is_cast};
 ghost use Rattle.sp_operators.specs.Operators.{value_or_error, cast};
@@ -12,7 +12,7 @@ use crate::fault::{ValueFault, told};
 use crate::operators::PlainType;
 use sp_base::PKind;
 use sp_numbers::Width;
-use sp_values::{Level, Value};
+use sp_value::{Level, Value};
 
 fn unsigned_as_unsigned(to: Width, n: u64) -> Result<Value, PKind>
     ensures { result ≡ value_or_error (uint to) (unsigned_or CastRange to (pos n)) }

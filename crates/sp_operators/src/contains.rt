@@ -5,7 +5,7 @@ ghost use Rattle.sp_operators.specs.Operands.{can_hold};
 ghost use Rattle.sp_operators.specs.Operators.{is_in};
 
 use memchr::memmem;
-use sp_values::{Level, Value};
+use sp_value::{Level, Value};
 
 /// Whether the part stands in the whole. The time grows with the sum of their lengths.
 fn has_part(whole: &[u8], part: &[u8]) -> bool

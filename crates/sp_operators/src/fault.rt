@@ -3,7 +3,7 @@ ghost use Rattle.std.specs.Prelude.{false};
 ghost use Rattle.sp_operators.specs.Outcomes.{Answers};
 
 use sp_base::PKind;
-use sp_values::Value;
+use sp_value::Value;
 
 /// Why an operator answers no value.
 #[derive(Clone, Copy, Debug, PartialEq, Eq, Drop)]

@@ -1,13 +1,13 @@
 // The operators on integers and iterators, on values.
 ghost use Rattle.std.specs.Prelude.{◌≡◌, ◌^◌, ◌<◌, IsTrue};
 ghost use Rattle.sp_numbers.specs.Numbers.{width_bits, unsigned_arithmetic, bitwise, shifted};
-ghost use Rattle.sp_values.specs.Val.{uint, place};
+ghost use Rattle.sp_value.specs.Val.{uint, place};
 ghost use Rattle.sp_operators.specs.Operands.{are_integers, are_unsigned};
 ghost use Rattle.sp_operators.specs.Operators.{wider, value_or_error, signed_result, arithmetic, bit_operation, shift_by, place_behind};
 
 use sp_base::PKind;
 use sp_numbers::{Arithmetic, BitOperator, Shift, Width};
-use sp_values::{Level, Value};
+use sp_value::{Level, Value};
 
 /// The place behind the last byte that an input can have.
 const LAST_PLACE: u64 = 1 << 63;

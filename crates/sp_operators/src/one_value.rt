@@ -2,7 +2,7 @@
 ghost use Rattle.std.specs.Prelude.{◌≡◌, neg_ℤ, IsTrue, false};
 ghost use Rattle.sp_base.specs.declared.kinds.PKind.TheVariants.{Overflow};
 ghost use Rattle.sp_numbers.specs.Numbers.{signed_or};
-ghost use Rattle.sp_values.specs.Val.{int};
+ghost use Rattle.sp_value.specs.Val.{int};
 ghost use Rattle.sp_operators.specs.Outcomes.{Answers};
 ghost use Rattle.sp_operators.specs.Operands.{takes_one};
 ghost use Rattle.sp_operators.specs.Operators.{value_or_error, unary};
@@ -12,7 +12,7 @@ use crate::operators::UnOp;
 use crate::sizes::size;
 use sp_base::PKind;
 use sp_numbers::Width;
-use sp_values::{Level, Value};
+use sp_value::{Level, Value};
 
 fn negated(width: Width, n: i64) -> Result<Value, PKind>
     ensures { result ≡ value_or_error (int width) (signed_or Overflow width (neg_ℤ n)) }

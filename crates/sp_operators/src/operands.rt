@@ -3,7 +3,7 @@ ghost use Rattle.std.specs.Prelude.{◌≡◌};
 ghost use Rattle.sp_operators.specs.Operands.{are_integers, are_unsigned, are_added, are_ordered, are_alike, can_hold, takes, takes_one, is_cast};
 
 use crate::operators::{BinOp, PlainType, UnOp};
-use sp_values::{Level, Value, kind};
+use sp_value::{Level, Value, kind};
 
 fn are_integers(a: &Value, b: &Value) -> bool
     ensures { result ≡ are_integers a.now b.now }

@@ -5,7 +5,7 @@ ghost use Rattle.sp_operators.specs.Operands.{takes_one};
 ghost use Rattle.sp_operators.specs.Operators.{size_of};
 
 use crate::operators::UnOp;
-use sp_values::{Level, Value};
+use sp_value::{Level, Value};
 
 /// How many characters a text has, which takes a look at each.
 fn characters(text: &str) -> usize
@@ -15,7 +15,7 @@ fn characters(text: &str) -> usize
 }
 
 /// How many bytes, characters, items, keys or entries there are.
-#[tactic(auto, using(sp_values::proofs::Lists::list_of_vals_of, sp_values::proofs::Lists::pairs_of_entries_of))]
+#[tactic(auto, using(sp_value::proofs::Lists::list_of_vals_of, sp_value::proofs::Lists::pairs_of_entries_of))]
 pub(crate) fn size(value: &Value) -> usize
     requires { IsTrue (takes_one UnOp.Size value.now) }
     ensures { result ≡ size_of value.now }

@@ -1,6 +1,6 @@
 // The operators between two values.
 ghost use Rattle.std.specs.Prelude.{◌≡◌, IfOk, MatchResult, IsTrue};
-ghost use Rattle.sp_values.specs.Changes.{IsBytes, IsText, with_bytes, with_text};
+ghost use Rattle.sp_value.specs.Changes.{IsBytes, IsText, with_bytes, with_text};
 ghost use Rattle.sp_operators.specs.Outcomes.{Answers};
 ghost use Rattle.sp_operators.specs.Operands.{are_added, are_joined, takes, takes_memory};
 ghost use Rattle.sp_operators.specs.Operators.{added, binary};
@@ -11,7 +11,7 @@ use crate::integers::{arithmetic, bit_operation, place_behind, shift_by};
 use crate::operators::BinOp;
 use sp_base::NoMemory;
 use sp_numbers::{Arithmetic, BitOperator, Shift};
-use sp_values::{Level, Value, compare};
+use sp_value::{Level, Value, compare};
 
 fn with_bytes(a: &Value, more: &[u8]) -> Result<Value, NoMemory>
     requires { IsBytes a.now }

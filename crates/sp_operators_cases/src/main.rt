@@ -9,7 +9,7 @@ use sp_numbers::{Width, signed_to_signed, unsigned_to_unsigned};
 use sp_operators::{
     BinOp, PlainType, UnOp, ValueFault, binary, cast, is_cast, takes, takes_one, unary,
 };
-use sp_values::{Value, compare, kind};
+use sp_value::{Value, compare, kind};
 use std::alloc::Global;
 use std::io;
 

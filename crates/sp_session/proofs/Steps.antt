@@ -2,8 +2,8 @@
 use Rattle.std.proofs.Common.{◌≡◌, ◌≤◌, ◌<◌, ◌+◌, ℕ, List, [], ◌∷◌, ◌++◌, length, take, drop, get_or, false, sym, ap, subst, ◌∙◌, arith, append_assoc}
 use Rattle.std.proofs.lemmas.List.{append-nil, drop_more, drop_all, drop-drop, drop-append-le, length-append, length-drop}
 use Rattle.sp_base.specs.Input.{Close, held_open, ended}
-use Rattle.sp_events.specs.Number.{integer_of}
-use Rattle.sp_events.specs.Value.{told_value}
+use Rattle.sp_value.specs.Integers.{integer_of}
+use Rattle.sp_meaning.specs.Told.{told_value}
 use Rattle.sp_events.specs.Tree.{unit, fields_of}
 use Rattle.sp_events.specs.declared.event.Event.{Event}
 use Rattle.sp_meaning.specs.declared.grammar.Field.{Field}

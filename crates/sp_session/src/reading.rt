@@ -1,15 +1,16 @@
 // Fields are read as far as the bytes go.
 ghost use Rattle.std.specs.Prelude.{◌≡◌, ◌≤◌, ◌<◌, ◌+◌, ◌^◌, ◌++◌, List, ℕ, [], length, drop, take, false, IfOk, OnOk, OnErr};
-ghost use Rattle.sp_events.specs.Number.{integer_of};
-ghost use Rattle.sp_events.specs.Value.{told_value};
+ghost use Rattle.sp_value.specs.Integers.{integer_of};
 ghost use Rattle.sp_meaning.specs.Meaning.{short_at};
+ghost use Rattle.sp_meaning.specs.Told.{told_value};
 ghost use Rattle.sp_meaning.specs.Width.{width_of};
 ghost use Rattle.sp_session.specs.Reading.{Leads, Lacks, Advanced, Closed, state_of};
 
 use crate::progress::Progress;
 use sp_base::{NoMemory, PKind, ParseError, Text};
-use sp_events::{Event, Events, Path, Tree, What, read_int};
-use sp_meaning::Field;
+use sp_events::{Event, Events, Path, Tree, What};
+use sp_meaning::{Field, told_value};
+use sp_value::read_int;
 use std::alloc::Global;
 use std::mem;
 
@@ -19,7 +20,7 @@ fn read_field(field: &Field, bytes: &[u8]) -> Result<(Text, Tree), NoMemory>
     ensures { IfOk result (λ read. read ≡ (field.now.name, told_value (integer_of false false bytes.now))) }
 {
     let name = field.name.copy()?;
-    Ok((name, Tree::from(read_int(bytes, false, false))))
+    Ok((name, told_value(&read_int(bytes, false, false))))
 }
 
 /// Reads each field whose bytes are in the window, and keeps of the window what lies behind them.

@@ -1,7 +1,7 @@
 -- A map with another value at a key is a map.
 use Rattle.std.proofs.Common.{◌≡◌, subst, sym}
-use Rattle.sp_values.specs.Val.{Val, map}
-use Rattle.sp_values.specs.Changes.{IsMap, with_value}
+use Rattle.sp_value.specs.Val.{Val, map}
+use Rattle.sp_value.specs.Changes.{IsMap, with_value}
 
 with_value_is : (m k v : Val) → IsMap m → IsMap (with_value m k v)
 with_value_is (map es) k v h = tt

@@ -2,11 +2,11 @@
 #![tactic(auto)]
 
 ghost use Rattle.std.specs.Prelude.{IfOk};
-ghost use Rattle.sp_values.specs.Changes.{IsVector, IsMap};
+ghost use Rattle.sp_value.specs.Changes.{IsVector, IsMap};
 
 use sp_base::NoMemory;
 use sp_numbers::Width;
-use sp_values::{Level, Value, copy_all};
+use sp_value::{Level, Value, copy_all};
 use std::alloc::Global;
 use std::io;
 

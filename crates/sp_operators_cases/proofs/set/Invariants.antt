@@ -1,4 +1,4 @@
-use Rattle.sp_values.specs.Changes.{IsSet}
+use Rattle.sp_value.specs.Changes.{IsSet}
 use Rattle.sp_operators_cases.proofs.set.Given as goal
 
 abbrev pub invariant-loop-n : goal.invariant-loop-n

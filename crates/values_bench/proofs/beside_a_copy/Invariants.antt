@@ -1,4 +1,4 @@
-use Rattle.sp_values.specs.Changes.{IsVector}
+use Rattle.sp_value.specs.Changes.{IsVector}
 use Rattle.values_bench.proofs.beside_a_copy.Given as goal
 
 abbrev pub invariant-loop-n : goal.invariant-loop-n

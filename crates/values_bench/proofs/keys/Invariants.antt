@@ -1,4 +1,4 @@
-use Rattle.sp_values.specs.Changes.{IsMap}
+use Rattle.sp_value.specs.Changes.{IsMap}
 use Rattle.values_bench.proofs.keys.Given as goal
 
 abbrev pub invariant-loop-n : goal.invariant-loop-n

@@ -1,6 +1,0 @@
-use Rattle.std.proofs.Common.{◌≡◌, ◌<◌, ◌^◌, take}
-use Rattle.sp_events.specs.Number.{big_endian}
-use Rattle.sp_events.proofs.number.read_big.Given as goal
-
-abbrev pub invariant-loop-byte : goal.invariant-loop-byte
-invariant-loop-byte l = (l.number < 256 ^ l.byte-index) × (l.number ≡ big_endian (take l.byte-index l.bytes))

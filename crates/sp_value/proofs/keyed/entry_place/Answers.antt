@@ -1,0 +1,11 @@
+use Rattle.std.proofs.Common.{rules}
+use Rattle.std.proofs.lemmas.Fn.{always_returns_same}
+use Rattle.sp_value.specs.Ascending.{entry_key}
+use Rattle.sp_value.specs.Order.{val_cmp}
+use Rattle.sp_value.proofs.Search.{place_found}
+use Rattle.sp_value.proofs.keyed.entry_place.Goals as goal
+
+pub returns : goal.returns
+returns c =
+    let facts = c.binary_search_by.ensures in
+    place_found entry_key c.args.entries.now c.args.key.now c.binary_search_by.result c.requires facts.bound (facts.position (λ e. val_cmp e.0 c.args.key.now) (always_returns_same _ _ _ (λ a r f called. search rules)))

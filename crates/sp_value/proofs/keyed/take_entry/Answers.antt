@@ -1,0 +1,18 @@
+use Rattle.std.proofs.Common.{◌≡◌, subst, OnOk}
+use Rattle.sp_value.specs.Ascending.{entry_key}
+use Rattle.sp_value.specs.Places.{IsKeyAt, IsGapAt}
+use Rattle.sp_value.proofs.Search.{without_key_at, without_gap}
+use Rattle.sp_value.proofs.keyed.take_entry.Goals as goal
+
+pub returns-in-Ok-clause-ok : goal.returns-in-Ok-clause-ok
+returns-in-Ok-clause-ok c =
+    let same : c.as_slice.result.now ≡ c.args.entries.now.value.items = let slice = c.as_slice.ensures.value in let list = c.deref.ensures in cc in
+    let is : IsKeyAt entry_key c.args.entries.now.value.items c.args.key.now c.in-Ok.i = subst (λ xs. IsKeyAt entry_key xs c.args.key.now c.in-Ok.i) same c.in-Ok.ensures in
+    let left = without_key_at entry_key c.args.entries.now.value.items c.args.key.now c.in-Ok.i c.requires is in
+    subst (λ xs. OnOk c.remove_entry.result (c.remove_entry.new.entries.value.items ≡ xs)) left c.remove_entry.ensures.ok
+
+pub returns-in-Err-clause-ok : goal.returns-in-Err-clause-ok
+returns-in-Err-clause-ok c =
+    let same : c.as_slice.result.now ≡ c.args.entries.now.value.items = let slice = c.as_slice.ensures.value in let list = c.deref.ensures in cc in
+    let is : IsGapAt entry_key c.args.entries.now.value.items c.args.key.now c.in-Err.field-0 = subst (λ xs. IsGapAt entry_key xs c.args.key.now c.in-Err.field-0) same c.in-Err.ensures in
+    without_gap entry_key c.args.entries.now.value.items c.args.key.now c.in-Err.field-0 is

@@ -1,0 +1,16 @@
+pub mod Val
+pub mod Codes
+pub mod Sizes
+pub mod View
+pub mod Falls
+pub mod Order
+pub mod Ascending
+pub mod Widths
+pub mod Valid
+pub mod Levels
+pub mod Parts
+pub mod Changes
+pub mod Places
+pub mod OneKey
+pub mod Alike
+pub mod Integers

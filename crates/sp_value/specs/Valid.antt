@@ -1,0 +1,13 @@
+-- What every value has: an integer is one of its width; the members of a set and the keys of a map ascend, and none comes twice.
+use Rattle.std.specs.Prelude.{◌^◌, ◌<◌, IsTrue}
+use Rattle.sp_numbers.specs.Numbers.{width_bits, fits_signed}
+use Rattle.sp_value.specs.Ascending.{own_key, entry_key, IsAscending}
+use Rattle.sp_value.specs.declared.value.Node.{Node}
+use Rattle.sp_value.specs.declared.value.Node.TheVariants.{Uint, Int, Set, Map}
+
+abbrev pub IsValid : Node → Type 0
+IsValid (Uint w n) = n < 2 ^ width_bits w
+IsValid (Int w n) = IsTrue (fits_signed w n)
+IsValid (Set keys) = IsAscending own_key keys.value.items
+IsValid (Map entries) = IsAscending entry_key entries.value.items
+IsValid _ = Unit {0}

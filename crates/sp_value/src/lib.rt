@@ -1,0 +1,23 @@
+//! Values of a run: cheap to copy, since a copy shares what it holds, and changed in place where nothing is shared.
+#![tactic(auto)]
+
+mod change;
+mod integers;
+mod keyed;
+mod laws;
+mod level;
+mod list;
+mod make;
+mod order;
+mod read;
+mod swap;
+#[cfg(test)]
+mod tests;
+mod value;
+
+pub use integers::read_int;
+pub use laws::{law_of_equality, law_of_keys, law_of_order};
+pub use level::Level;
+pub use list::copy_all;
+pub use order::{compare, kind};
+pub use value::Value;

@@ -1,0 +1,85 @@
+// The order of values of one type.
+ghost use Rattle.std.specs.Prelude.{◌≡◌};
+ghost use Rattle.sp_value.specs.Val.{vals_of, entries_of};
+ghost use Rattle.sp_value.specs.Order.{val_cmp, kind, vals_cmp, entries_cmp};
+
+use crate::value::{Node, Value};
+use std::cmp::Ordering;
+
+/// The number of the kind of a value, from 0.
+pub fn kind(value: &Value) -> u8
+    ensures { result ≡ kind value.now }
+{
+    match &value.node {
+        Node::Void => 0,
+        Node::Bool(_) => 1,
+        Node::Uint(_, _) => 2,
+        Node::Int(_, _) => 3,
+        Node::Bytes(_) => 4,
+        Node::Str(_) => 5,
+        Node::Enum(_, _) => 6,
+        Node::Bits(_, _) => 7,
+        Node::Tuple(_) => 8,
+        Node::Vector(_) => 9,
+        Node::Set(_) => 10,
+        Node::Map(_) => 11,
+        Node::Unit(_) => 12,
+        Node::Place(_) => 13,
+    }
+}
+
+/// How two values of one type stand in their order: `false` before `true`, numbers by size, bytes and texts by the
+/// first byte that differs, labels of an enum by number, and tuples, vectors, sets and maps by their members in turn.
+/// A part stands before the whole.
+#[cycle(compare)]
+#[tactic(auto, using(crate::proofs::Members::size_within, crate::proofs::Members::entry_size_within))]
+pub fn compare(a: &Value, b: &Value) -> Ordering
+    ensures { result ≡ val_cmp a.now b.now }
+{
+    match (&a.node, &b.node) {
+        (Node::Bool(a), Node::Bool(b)) => a.cmp(b),
+        (Node::Uint(_, m), Node::Uint(_, n)) => m.cmp(n),
+        (Node::Int(_, m), Node::Int(_, n)) => m.cmp(n),
+        (Node::Bytes(a), Node::Bytes(b)) => a.as_slice().cmp(b.as_slice()),
+        (Node::Str(a), Node::Str(b)) => a.as_bytes().cmp(b.as_bytes()),
+        (Node::Enum(_, m), Node::Enum(_, n)) => m.cmp(n),
+        (Node::Bits(_, m), Node::Bits(_, n)) => m.cmp(n),
+        (Node::Tuple(a), Node::Tuple(b)) => compare_all(a, b),
+        (Node::Vector(a), Node::Vector(b)) => compare_all(a, b),
+        (Node::Set(a), Node::Set(b)) => compare_all(a, b),
+        (Node::Map(a), Node::Map(b)) => compare_entries(a, b),
+        (Node::Unit(m), Node::Unit(n)) => m.cmp(n),
+        (Node::Place(m), Node::Place(n)) => m.cmp(n),
+        _ => kind(a).cmp(&kind(b)),
+    }
+}
+
+#[cycle(compare)]
+#[tactic(auto, using(crate::proofs::Members::size_within, crate::proofs::Members::entry_size_within))]
+fn compare_all(a: &Vec<Value>, b: &Vec<Value>) -> Ordering
+    ensures { result ≡ vals_cmp (vals_of a.now.items) (vals_of b.now.items) }
+{
+    for i in 0..a.len().min(b.len()) {
+        match compare(&a[i], &b[i]) {
+            Ordering::Equal => {}
+            other => return other,
+        }
+    }
+    a.len().cmp(&b.len())
+}
+
+#[cycle(compare)]
+#[tactic(auto, using(crate::proofs::Members::size_within, crate::proofs::Members::entry_size_within))]
+fn compare_entries(a: &Vec<(Value, Value)>, b: &Vec<(Value, Value)>) -> Ordering
+    ensures { result ≡ entries_cmp (entries_of a.now.items) (entries_of b.now.items) }
+{
+    for i in 0..a.len().min(b.len()) {
+        let x = &a[i];
+        let y = &b[i];
+        match compare(&x.0, &y.0).then(compare(&x.1, &y.1)) {
+            Ordering::Equal => {}
+            other => return other,
+        }
+    }
+    a.len().cmp(&b.len())
+}

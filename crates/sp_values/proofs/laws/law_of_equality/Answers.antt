@@ -1,5 +1,0 @@
-use Rattle.sp_values.proofs.Equals.{equal_is_alike}
-use Rattle.sp_values.proofs.laws.law_of_equality.Goals as goal
-
-pub returns : goal.returns
-returns c = equal_is_alike
