@@ -1,0 +1,6 @@
+//! What the canonical text of a module has to do with the module.
+#![tactic(auto)]
+
+mod laws;
+
+pub use laws::trees_are_of_words;
