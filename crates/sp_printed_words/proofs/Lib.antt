@@ -1,0 +1,5 @@
+pub mod Fixed
+pub mod Letters
+pub mod Literal
+pub mod Lines
+pub mod Stands

@@ -1,0 +1,6 @@
+//! Laws of printed words: the text of words is read as the tokens that they are.
+#![tactic(auto)]
+
+mod laws;
+
+pub use laws::words_are_read;
