@@ -1,5 +1,5 @@
 -- Where the text of a fixed kind stands, the lexer finds this kind, each by computing.
-use Rattle.std.proofs.Common.{◌≡◌, ℕ, List, [], ◌∷◌, ◌++◌, length, get_or, Bool, true, false, Some, refl}
+use Rattle.std.proofs.Common.{◌≡◌, ℕ, List, ◌∷◌, ◌++◌, length, get_or, Bool, true, false, Some, refl}
 use Rattle.std.specs.List.{prefix_len}
 use Rattle.sp_lex.specs.Bytes.{is_letter, is_word}
 use Rattle.sp_lex.specs.Elements.{element_at, sign_at, token_of}

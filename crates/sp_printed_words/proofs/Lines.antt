@@ -1,19 +1,16 @@
 -- Words one behind the other, read one by one.
-use Rattle.std.proofs.Common.{◌≡◌, ℕ, zero, suc, ◌+◌, ◌-◌, List, [], ◌∷◌, ◌++◌, length, drop, take, Bool, true, false, ◌||◌, cond, Option, Some, None, sym, refl, ap, subst, ◌∙◌, arith, append_assoc, inl, inr, ◌⊎◌, ◌<◌}
+use Rattle.std.proofs.Common.{◌≡◌, ℕ, suc, ◌+◌, ◌-◌, List, [], ◌∷◌, ◌++◌, length, drop, take, Bool, true, false, ◌||◌, cond, Option, Some, None, sym, refl, ap, subst, ◌∙◌, arith, append_assoc, ◌<◌}
 use Rattle.std.specs.Prelude.{flat_map}
-use Rattle.std.specs.List.{AllByRecursion}
 use Rattle.std.proofs.Math.Seq.{drop-append_seam, take-append_seam}
 use Rattle.std.proofs.lemmas.List.{drop-drop}
 use Rattle.sp_lex.specs.Elements.{ends_operand, element_at, token_of}
 use Rattle.sp_lex.specs.Readings.{Reading, Ends, Reads, token_at, read_on, reads_from, reading, behind, whole, bytes_of}
 use Rattle.sp_lex.specs.declared.kinds.TokenKind.{TokenKind}
-use Rattle.sp_lex.specs.declared.kinds.TokenKind.TheVariants as token
-use Rattle.sp_lex.specs.declared.kinds.Mark.TheVariants as mark
 use Rattle.sp_lex.specs.declared.tokens.Token.{Token}
-use Rattle.sp_print.specs.Page.{Page, page, is_scope, gap, put, puts, line}
-use Rattle.sp_print.specs.Words.{Word, fixed, name, number, text, bytes, regex, written, kind_of}
-use Rattle.sp_printed_words.specs.Read.{text_of, IsThis, AreThese, AreRead}
-use Rattle.sp_printed_words.specs.Sound.{read_as, may_follow, IsSound, AreSoundBehind, AreSound}
+use Rattle.sp_print.specs.Page.{page, is_scope, gap, puts}
+use Rattle.sp_print.specs.Words.{Word, written, kind_of}
+use Rattle.sp_printed_words.specs.Read.{text_of, AreThese, AreRead}
+use Rattle.sp_printed_words.specs.Sound.{read_as, IsSound, AreSoundBehind, AreSound}
 use Rattle.sp_printed_words.proofs.Stands.{Knows, IsBefore, word_stands, word_some, next_follows, end_follows}
 
 -- words behind a word, and then the rest of the text

@@ -1,5 +1,5 @@
 -- Each word where it stands.
-use Rattle.std.proofs.Common.{◌≡◌, ℕ, ◌<◌, List, [], ◌∷◌, ◌++◌, length, get_or, Bool, true, false, ◌||◌, ◌==◌, cond, not, Option, Some, None, sym, refl, ap, ◌∙◌, arith, inl, inr, ◌⊎◌, append_assoc, rules, tests}
+use Rattle.std.proofs.Common.{◌≡◌, ℕ, ◌<◌, List, [], ◌∷◌, ◌++◌, length, get_or, Bool, true, false, ◌||◌, cond, not, Option, Some, None, sym, refl, ap, ◌∙◌, arith, inl, inr, ◌⊎◌, rules, tests}
 use Rattle.std.specs.List.{AllByRecursion}
 use Rattle.std.specs.Char.{is_ascii_digit}
 use Rattle.std.proofs.lemmas.Fmt.{decimal_nonempty}
@@ -9,7 +9,6 @@ use Rattle.sp_lex.specs.Signs.{word_kind}
 use Rattle.sp_lex.specs.Spellings.{spelling, keyword_text, mark_text, attribute_text, property_text, hook_text}
 use Rattle.sp_lex.specs.declared.kinds.TokenKind.{TokenKind}
 use Rattle.sp_lex.specs.declared.kinds.TokenKind.TheVariants as token
-use Rattle.sp_lex.specs.declared.kinds.Keyword.{Keyword}
 use Rattle.sp_lex.specs.declared.kinds.Mark.{Mark}
 use Rattle.sp_lex.specs.declared.kinds.Mark.TheVariants as mark
 use Rattle.sp_lex.specs.declared.kinds.Attribute.{Attribute}
@@ -18,7 +17,7 @@ use Rattle.sp_lex.specs.declared.kinds.Hook.{Hook}
 use Rattle.sp_literals.specs.Values.{IsName}
 use Rattle.sp_print.specs.Page.{is_scope, gap}
 use Rattle.sp_print.specs.Words.{Word, fixed, name, number, text, bytes, regex, written, kind_of}
-use Rattle.sp_printed_words.specs.Sound.{is_fixed, is_colon, read_as, may_follow, IsSound, IsNameText}
+use Rattle.sp_printed_words.specs.Sound.{is_fixed, is_colon, read_as, may_follow, IsSound}
 use Rattle.sp_printed_words.proofs.Fixed.{mark_space, mark_feed, mark_scope, attribute_space, attribute_feed, attribute_scope, property_space, property_feed, property_scope, hook_space, hook_feed, hook_scope, scope_any, mark_sign, attribute_sign, property_sign, hook_sign, keyword_kind, keyword_letter, keyword_word}
 use Rattle.sp_printed_words.proofs.Letters.{word_ends, number_ends, all_of_prefix, decimal_digits}
 use Rattle.sp_printed_words.proofs.Literal.{text_stands, bytes_stands, regex_more}
