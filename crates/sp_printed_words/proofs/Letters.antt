@@ -121,3 +121,12 @@ all_append P (c ∷ x) y a b = (a.0, all_append P x y a.1 b)
 pub decimal_digits : (n : ℕ) → n < 2 ^ 64 → AllByRecursion (λ b. is_ascii_digit b ≡ true) (decimal n)
 decimal_digits = decimal_by_steps (λ n ds. AllByRecursion (λ b. is_ascii_digit b ≡ true) ds) (λ n h. (one_digit n h, tt))
     (λ n ds h more. all_append (λ b. is_ascii_digit b ≡ true) ds ((48 + n % 10) ∷ []) more (one_digit (n % 10) (omega arith), tt))
+
+second_digit : (x : List ℕ) → AllByRecursion (λ b. is_ascii_digit b ≡ true) x → (get_or x 0 0 == 120) ≡ false
+second_digit [] all = refl
+second_digit (b ∷ x) all = digit_no_x b all.0
+
+-- digits aren't read as hexadecimal ones
+pub digits_no_hex : (x : List ℕ) → AllByRecursion (λ b. is_ascii_digit b ≡ true) x → is_hex x ≡ false
+digits_no_hex [] all = refl
+digits_no_hex (b ∷ x) all = no_hex b x (second_digit x all.1)

@@ -1,5 +1,8 @@
+pub mod Clean
+pub mod Faultless
 pub mod Fixed
 pub mod Letters
 pub mod Literal
 pub mod Lines
 pub mod Stands
+pub mod Worth

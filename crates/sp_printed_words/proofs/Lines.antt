@@ -14,7 +14,7 @@ use Rattle.sp_printed_words.specs.Sound.{read_as, IsSound, AreSoundBehind, AreSo
 use Rattle.sp_printed_words.proofs.Stands.{Knows, IsBefore, word_stands, word_some, next_follows, end_follows}
 
 -- words behind a word, and then the rest of the text
-abbrev words_on : Option TokenKind → List Word → List ℕ → List ℕ
+abbrev pub words_on : Option TokenKind → List Word → List ℕ → List ℕ
 words_on last [] rest = rest
 words_on last (w ∷ ws) rest = gap last (kind_of w) ++ (written w ++ words_on (Some (kind_of w)) ws rest)
 
@@ -25,7 +25,7 @@ puts_on (w ∷ ws) front last rest =
     ∙ append_assoc (front ++ gap last (kind_of w)) (written w) (words_on (Some (kind_of w)) ws rest)
     ∙ append_assoc front (gap last (kind_of w)) (written w ++ words_on (Some (kind_of w)) ws rest)
 
-abbrev lines_on : List (List Word) → List ℕ
+abbrev pub lines_on : List (List Word) → List ℕ
 lines_on [] = []
 lines_on (ws ∷ lines) = words_on None ws (10 ∷ lines_on lines)
 

@@ -88,7 +88,7 @@ digits_of_byte digits c = digits (hex_digit (c / 16)) (hex_digit (c % 16))
 plain_no_quote : (c : ℕ) → is_plain c ≡ true → (c == 34) ≡ false
 plain_no_quote c h = search (rules, tests)
 
-plain_no_escape : (c : ℕ) → is_plain c ≡ true → (c == 92) ≡ false
+pub plain_no_escape : (c : ℕ) → is_plain c ≡ true → (c == 92) ≡ false
 plain_no_escape c h = search (rules, tests)
 
 -- a literal between quotes
@@ -189,7 +189,7 @@ all_high c high = all_from_places (encode_utf8 c) (high_bytes c high)
 high_no_quote : (b : ℕ) → 128 ≤ b → (b == 34) ≡ false
 high_no_quote b h = search (rules, tests)
 
-high_no_escape : (b : ℕ) → 128 ≤ b → (b == 92) ≡ false
+pub high_no_escape : (b : ℕ) → 128 ≤ b → (b == 92) ≡ false
 high_no_escape b h = search (rules, tests)
 
 high_in_line : (b : ℕ) → 128 ≤ b → is_in_line b ≡ true

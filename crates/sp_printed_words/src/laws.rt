@@ -1,11 +1,25 @@
-// Words that are written one behind the other are read as the tokens that they are.
-ghost use Rattle.std.specs.Prelude.{List};
+// What is read from words that are written one behind the other.
+ghost use Rattle.std.specs.Prelude.{◌≡◌, ◌≤◌, List, length};
+ghost use Rattle.sp_base.specs.declared.kinds.MKind.{MKind};
+ghost use Rattle.sp_base.specs.declared.kinds.MKind.TheVariants as module_kind;
+ghost use Rattle.sp_base.specs.declared.places.Span.{Span};
+ghost use Rattle.sp_lex.specs.Faults.{IsFault, most_bytes};
 ghost use Rattle.sp_lex.specs.declared.tokens.Token.{Token};
-ghost use Rattle.sp_print.specs.Words.{Word};
-ghost use Rattle.sp_printed_words.specs.Read.{AreRead};
-ghost use Rattle.sp_printed_words.specs.Sound.{AreSound};
+ghost use Rattle.sp_print.specs.Words.{Word, written};
+ghost use Rattle.sp_printed_words.specs.Read.{text_of, AreRead, IsWorth};
+ghost use Rattle.sp_printed_words.specs.Sound.{AreSound, IsSound};
 
-/// Lines of words that can be read again are read as these words.
+/// Lines of words that can be read again are read as these words: each word is one token of its kind, with its bytes.
 pub fn words_are_read()
     ensures { (lines : List (List Word)) → AreSound lines → (tokens : List Token) × AreRead lines tokens }
+{}
+
+/// What the bytes of a written word are worth is what the word says.
+pub fn words_keep_their_worth()
+    ensures { (w : Word) → IsSound w → IsWorth w (written w) }
+{}
+
+/// Nothing is wrong with the text of words that can be read again, if it is not too large, but that it may be nested too deep.
+pub fn words_have_no_other_fault()
+    ensures { (lines : List (List Word)) → AreSound lines → length (text_of lines) ≤ most_bytes → (span : Span) (kind : MKind) → IsFault (text_of lines) span kind → kind ≡ module_kind.TooDeep }
 {}

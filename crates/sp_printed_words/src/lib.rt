@@ -3,4 +3,4 @@
 
 mod laws;
 
-pub use laws::words_are_read;
+pub use laws::{words_are_read, words_have_no_other_fault, words_keep_their_worth};
