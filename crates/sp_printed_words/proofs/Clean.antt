@@ -14,7 +14,7 @@ use Rattle.sp_lex.proofs.Valid.{byte_utf8}
 use Rattle.sp_print.specs.Page.{is_scope, gap}
 use Rattle.sp_print.specs.Words.{Word, fixed, name, number, text, bytes, regex, written, kind_of, is_plain, shown_byte, shown_char}
 use Rattle.sp_printed_words.specs.Read.{text_of}
-use Rattle.sp_printed_words.specs.Sound.{IsSound, AreSoundBehind, AreSound}
+use Rattle.sp_printed_words.specs.Sound.{IsSound, AreSoundBehind, AreSound, HasNoZero, HaveNoZero}
 use Rattle.sp_printed_words.proofs.Letters.{decimal_digits}
 use Rattle.sp_printed_words.proofs.Literal.{of_below, all_high}
 use Rattle.sp_printed_words.proofs.Lines.{words_on, lines_on, text_on}
@@ -100,15 +100,15 @@ chars_clean (c ∷ cs) h = let parts = both _ (all_scalars cs) h in (char_clean 
 marked_clean : (a b : ℕ) (x : List ℕ) → is_clean a ≡ true → is_clean b ≡ true → IsClean x → IsClean (a ∷ x ++ b ∷ [])
 marked_clean a b x first last clean = clean_append (a ∷ []) (x ++ b ∷ []) (clean_byte a first) (clean_append x (b ∷ []) clean (clean_byte b last))
 
-written_clean : (w : Word) → IsSound w → IsClean (written w)
-written_clean (fixed kind) sound = clean_text (spelling kind) (spelling_clean kind)
-written_clean (name x) sound = clean_all x (all_of (λ b. is_word b ≡ true) (λ b. is_clean b ≡ true) x word_clean sound.1)
-written_clean (number n) sound = clean_all (decimal n) (all_of (λ b. is_ascii_digit b ≡ true) (λ b. is_clean b ≡ true) (decimal n) digit_clean (decimal_digits n sound))
-written_clean (text x) sound = marked_clean 34 34 (flat_map shown_char (chars x)) refl refl (clean_each shown_char (chars x) (chars_clean (chars x) (scalars-chars x sound)))
-written_clean (bytes x) sound =
+written_clean : (w : Word) → IsSound w → HasNoZero w → IsClean (written w)
+written_clean (fixed kind) sound zero = clean_text (spelling kind) (spelling_clean kind)
+written_clean (name x) sound zero = clean_all x (all_of (λ b. is_word b ≡ true) (λ b. is_clean b ≡ true) x word_clean sound.1)
+written_clean (number n) sound zero = clean_all (decimal n) (all_of (λ b. is_ascii_digit b ≡ true) (λ b. is_clean b ≡ true) (decimal n) digit_clean (decimal_digits n sound))
+written_clean (text x) sound zero = marked_clean 34 34 (flat_map shown_char (chars x)) refl refl (clean_each shown_char (chars x) (chars_clean (chars x) (scalars-chars x sound)))
+written_clean (bytes x) sound zero =
     clean_append (98 ∷ []) (34 ∷ flat_map shown_byte x ++ 34 ∷ []) (clean_byte 98 refl)
     (marked_clean 34 34 (flat_map shown_byte x) refl refl (clean_each shown_byte x (all_of (λ c. c < 256) (λ c. IsClean (shown_byte c)) x (λ c h. clean_text (shown_byte c) (shown_clean c h)) sound)))
-written_clean (regex x) sound = marked_clean 47 47 x refl refl (sound.2, sound.3)
+written_clean (regex x) sound zero = marked_clean 47 47 x refl refl (sound.2, zero)
 
 gap_by : (none : Bool) → IsClean (cond none [] (32 ∷ []))
 gap_by true = clean_nil
@@ -118,15 +118,15 @@ gap_clean : (last : Option TokenKind) (kind : TokenKind) → IsClean (gap last k
 gap_clean None kind = clean_nil
 gap_clean (Some before) kind = gap_by (is_scope before || is_scope kind)
 
-words_clean : (ws : List Word) (last before : Option TokenKind) (rest : List ℕ) → AreSoundBehind before ws → IsClean rest → IsClean (words_on last ws rest)
-words_clean [] last before rest sound clean = clean
-words_clean (w ∷ ws) last before rest sound clean =
+words_clean : (ws : List Word) (last before : Option TokenKind) (rest : List ℕ) → AreSoundBehind before ws → AllByRecursion HasNoZero ws → IsClean rest → IsClean (words_on last ws rest)
+words_clean [] last before rest sound zero clean = clean
+words_clean (w ∷ ws) last before rest sound zero clean =
     clean_append (gap last (kind_of w)) (written w ++ words_on (Some (kind_of w)) ws rest) (gap_clean last (kind_of w))
-    (clean_append (written w) (words_on (Some (kind_of w)) ws rest) (written_clean w sound.0) (words_clean ws (Some (kind_of w)) _ rest sound.2 clean))
+    (clean_append (written w) (words_on (Some (kind_of w)) ws rest) (written_clean w sound.0 zero.0) (words_clean ws (Some (kind_of w)) _ rest sound.2 zero.1 clean))
 
-lines_clean : (lines : List (List Word)) → AreSound lines → IsClean (lines_on lines)
-lines_clean [] sound = clean_nil
-lines_clean (ws ∷ lines) sound = words_clean ws None None (10 ∷ lines_on lines) sound.0 (clean_append (10 ∷ []) (lines_on lines) (clean_byte 10 refl) (lines_clean lines sound.1))
+lines_clean : (lines : List (List Word)) → AreSound lines → HaveNoZero lines → IsClean (lines_on lines)
+lines_clean [] sound zero = clean_nil
+lines_clean (ws ∷ lines) sound zero = words_clean ws None None (10 ∷ lines_on lines) sound.0 zero.0 (clean_append (10 ∷ []) (lines_on lines) (clean_byte 10 refl) (lines_clean lines sound.1 zero.1))
 
-pub text_clean : (lines : List (List Word)) → AreSound lines → IsClean (text_of lines)
-text_clean lines sound = subst IsClean (sym (text_on lines)) (lines_clean lines sound)
+pub text_clean : (lines : List (List Word)) → AreSound lines → HaveNoZero lines → IsClean (text_of lines)
+text_clean lines sound zero = subst IsClean (sym (text_on lines)) (lines_clean lines sound zero)

@@ -1,5 +1,5 @@
 -- Nothing is wrong with the tokens of words but their level.
-use Rattle.std.proofs.Common.{◌≡◌, ℕ, ◌+◌, ◌<◌, ◌≤◌, ◌^◌, min, inl, inr, List, [], ◌∷◌, ◌++◌, length, true, not, ◌==◌, Some, sym, refl, ap, subst, ◌∙◌, arith, rules, tests}
+use Rattle.std.proofs.Common.{◌≡◌, ℕ, ◌+◌, ◌<◌, ◌≤◌, ◌^◌, min, inl, inr, List, [], ◌∷◌, ◌++◌, length, true, not, ◌==◌, Some, refl, ap, subst, ◌∙◌, arith, rules, tests}
 use Rattle.std.specs.Prelude.{flat_map}
 use Rattle.std.specs.List.{AllByRecursion, position_or_len}
 use Rattle.std.proofs.lemmas.List.{take_all}
@@ -19,7 +19,7 @@ use Rattle.sp_literals.specs.Values.{IsName}
 use Rattle.sp_print.specs.Words.{Word, fixed, name, number, text, bytes, regex, written}
 use Rattle.sp_regex.specs.Syntax.{IsRegexText}
 use Rattle.sp_printed_words.specs.Read.{text_of, AreThese}
-use Rattle.sp_printed_words.specs.Sound.{is_fixed, read_as, IsSound, AreSoundBehind, AreSound}
+use Rattle.sp_printed_words.specs.Sound.{is_fixed, read_as, IsSound, AreSoundBehind, AreSound, HaveNoZero}
 use Rattle.sp_printed_words.proofs.Clean.{IsClean, text_clean}
 use Rattle.sp_printed_words.proofs.Lines.{tokens_in, lines_read}
 use Rattle.sp_printed_words.proofs.Worth.{between_marks, number_worth}
@@ -39,7 +39,7 @@ word_right (name x) m sound fault = name_right (word_kind x) x m sound.2 fault
 word_right (number n) m sound fault = let high : 2 ^ 64 ≤ number_value (written (number n)) = fault.1 in let worth = number_worth n sound in absurd (omega (arith, high, worth, sound))
 word_right (text x) m sound fault = fault
 word_right (bytes x) m sound fault = fault
-word_right (regex x) m sound fault = fault.1 (subst IsRegexText (sym (between_marks 47 47 x)) sound.1)
+word_right (regex x) m sound fault = sound.1 (subst (λ y. ¬ IsRegexText y) (between_marks 47 47 x) fault.1)
 
 deep_only : (w : Word) (its : List ℕ) (t : Token) (nesting : _) (m : MKind) → IsSound w → t.kind ≡ read_as w → its ≡ written w → IsTokenFault its nesting t m → m ≡ module_kind.TooDeep
 deep_only w its t nesting m sound kind_is bytes_are (inl own) = absurd (word_right w m sound (subst (λ k. IsOwnFault k (written w) m) kind_is (subst (λ b. IsOwnFault t.kind b m) bytes_are own)))
@@ -89,9 +89,9 @@ text_fault x span m clean small (inl bad) =
     absurd (omega (arith, here, none))
 text_fault x span m clean small (inr large) = let over : most_bytes < length x = large.2 in absurd (omega (arith, over, small))
 
-pub no_other_fault : (lines : List (List Word)) → AreSound lines → length (text_of lines) ≤ most_bytes → (span : Span) (m : MKind) → IsFault (text_of lines) span m → m ≡ module_kind.TooDeep
-no_other_fault lines sound small span m (inl fault) = absurd (text_fault (text_of lines) span m (text_clean lines sound) small fault)
-no_other_fault lines sound small span m (inr fault) =
+pub no_other_fault : (lines : List (List Word)) → AreSound lines → HaveNoZero lines → length (text_of lines) ≤ most_bytes → (span : Span) (m : MKind) → IsFault (text_of lines) span m → m ≡ module_kind.TooDeep
+no_other_fault lines sound zero small span m (inl fault) = absurd (text_fault (text_of lines) span m (text_clean lines sound zero) small fault)
+no_other_fault lines sound zero small span m (inr fault) =
     let read = lines_read lines sound in
     let same = looked_at_all (text_of lines) small in
     let here = subst (λ x. IsReadingFault x outermost (reading x) span m) same fault in

@@ -138,9 +138,9 @@ digit_worth_is n h = by_low (nat_lt (48 + n) 58) refl
 decimal_worth : (n : ℕ) → n < 2 ^ 64 → digits_value 10 (decimal n) ≡ n
 decimal_worth = decimal_by_steps (λ n ds. digits_value 10 ds ≡ n) (λ n h. let d = digit_worth_is n h in omega (arith, d))
     (λ n ds h more.
-      let d = digit_worth_is (n % 10) (omega arith) in
-      let push : digits_value 10 (ds ++ (48 + n % 10) ∷ []) ≡ digits_value 10 ds * 10 + digit_value (48 + n % 10) = fold-append (λ value digit. value * 10 + digit_value digit) 0 ds ((48 + n % 10) ∷ []) in
-      omega (arith, d, push, more))
+    let d = digit_worth_is (n % 10) (omega arith) in
+    let push : digits_value 10 (ds ++ (48 + n % 10) ∷ []) ≡ digits_value 10 ds * 10 + digit_value (48 + n % 10) = fold-append (λ value digit. value * 10 + digit_value digit) 0 ds ((48 + n % 10) ∷ []) in
+    omega (arith, d, push, more))
 
 number_from : (x : List ℕ) → is_hex x ≡ false → number_value x ≡ digits_value 10 x
 unfolding number_value

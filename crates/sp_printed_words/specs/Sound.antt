@@ -30,11 +30,10 @@ read_as w = kind_of w
 abbrev pub IsNameText : List ℕ → Type 0
 IsNameText x = (is_letter (slice_index x 0) ≡ true) × AllByRecursion (λ byte. is_word byte ≡ true) x × IsName (word_kind x)
 
--- what can stand between slashes: a regular expression in UTF-8 with no byte 0, and no slash in it ends the token
+-- What can stand between slashes: UTF-8 in which no slash ends the token, and of which the lexer doesn't find that it is
+-- no regular expression.
 abbrev pub IsRegexWord : List ℕ → Type 0
-IsRegexWord x =
-    (element_at false (written (regex x)) ≡ token_of token.Regex (Some (length (written (regex x)))))
-    × IsRegexText x × IsUtf8 x × AllByRecursion (λ byte. 0 < byte) x
+IsRegexWord x = (element_at false (written (regex x)) ≡ token_of token.Regex (Some (length (written (regex x))))) × (¬ (¬ IsRegexText x)) × IsUtf8 x
 
 -- a word that can be read again
 abbrev pub IsSound : Word → Type 0
@@ -68,3 +67,11 @@ AreSoundBehind before (w ∷ ws) = IsSound w × (may_follow before (read_as w) �
 -- lines of words that can be read again
 abbrev pub AreSound : List (List Word) → Type 0
 AreSound lines = AllByRecursion (AreSoundBehind None) lines
+
+-- A byte 0 may stand in a regular expression, but in no text: none has one.
+abbrev pub HasNoZero : Word → Type 0
+HasNoZero (regex x) = AllByRecursion (λ byte. 0 < byte) x
+HasNoZero w = Unit {0}
+
+abbrev pub HaveNoZero : List (List Word) → Type 0
+HaveNoZero lines = AllByRecursion (AllByRecursion HasNoZero) lines

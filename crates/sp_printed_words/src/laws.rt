@@ -7,7 +7,7 @@ ghost use Rattle.sp_lex.specs.Faults.{IsFault, most_bytes};
 ghost use Rattle.sp_lex.specs.declared.tokens.Token.{Token};
 ghost use Rattle.sp_print.specs.Words.{Word, written};
 ghost use Rattle.sp_printed_words.specs.Read.{text_of, AreRead, IsWorth};
-ghost use Rattle.sp_printed_words.specs.Sound.{AreSound, IsSound};
+ghost use Rattle.sp_printed_words.specs.Sound.{AreSound, HaveNoZero, IsSound};
 
 /// Lines of words that can be read again are read as these words: each word is one token of its kind, with its bytes.
 pub fn words_are_read()
@@ -21,5 +21,5 @@ pub fn words_keep_their_worth()
 
 /// Nothing is wrong with the text of words that can be read again, if it is not too large, but that it may be nested too deep.
 pub fn words_have_no_other_fault()
-    ensures { (lines : List (List Word)) → AreSound lines → length (text_of lines) ≤ most_bytes → (span : Span) (kind : MKind) → IsFault (text_of lines) span kind → kind ≡ module_kind.TooDeep }
+    ensures { (lines : List (List Word)) → AreSound lines → HaveNoZero lines → length (text_of lines) ≤ most_bytes → (span : Span) (kind : MKind) → IsFault (text_of lines) span kind → kind ≡ module_kind.TooDeep }
 {}
