@@ -4,5 +4,6 @@ pub mod Fixed
 pub mod Letters
 pub mod Literal
 pub mod Lines
+mod Rows
 pub mod Stands
 pub mod Worth
