@@ -34,7 +34,7 @@ letter_no_comment b h = search (rules, tests)
 word_no_quote : (b : ℕ) → is_word b ≡ true → (b == 34) ≡ false
 word_no_quote b h = search (rules, tests)
 
-letter_at : (b : ℕ) (text : List ℕ) (divides : Bool) → is_letter b ≡ true → element_at divides (b ∷ text) ≡ word_at (b ∷ text)
+pub letter_at : (b : ℕ) (text : List ℕ) (divides : Bool) → is_letter b ≡ true → element_at divides (b ∷ text) ≡ word_at (b ∷ text)
 unfolding element_at
 letter_at b text divides h =
     let white = letter_no_white b h in
@@ -78,7 +78,7 @@ other_no_x b h = search (rules, tests)
 other_no_digit : (b : ℕ) → is_word b ≡ false → is_ascii_digit b ≡ false
 other_no_digit b h = search (rules, tests)
 
-digit_at : (b : ℕ) (text : List ℕ) (divides : Bool) → is_ascii_digit b ≡ true → element_at divides (b ∷ text) ≡ token_of token.Number (Some (number_len (b ∷ text)))
+pub digit_at : (b : ℕ) (text : List ℕ) (divides : Bool) → is_ascii_digit b ≡ true → element_at divides (b ∷ text) ≡ token_of token.Number (Some (number_len (b ∷ text)))
 unfolding element_at
 digit_at b text divides h =
     let white = digit_no_white b h in

@@ -7,3 +7,4 @@ pub mod Lines
 mod Rows
 pub mod Stands
 pub mod Worth
+pub mod Told
