@@ -218,10 +218,10 @@ text_stands x rest divides =
     (λ f closes opens escapes stands. quoted_len_is f (34 ∷ []) (flat_map shown_char (chars x)) rest closes opens (passes_all (literal_end f) shown_char (chars x) (all_shown_pass f (chars x) closes escapes stands)))
 
 -- what a regular expression takes as an escape
-abbrev slashed_len : List ℕ → Option ℕ
+abbrev pub slashed_len : List ℕ → Option ℕ
 slashed_len t = cond (nat_lt 0 (length t) && is_in_line (get_or t 0 0)) (Some 1) None
 
-some_bytes : (n : ℕ) → nat_lt 0 (suc n) ≡ true
+pub some_bytes : (n : ℕ) → nat_lt 0 (suc n) ≡ true
 some_bytes n = search (rules, tests)
 
 slashed_more : (t more : List ℕ) (n : ℕ) → option_map (λ k. k + 1) (slashed_len t) ≡ Some n → option_map (λ k. k + 1) (slashed_len (t ++ more)) ≡ Some n

@@ -1,9 +1,8 @@
 -- The words that tokens tell.
 use Rattle.std.specs.Prelude.{ℕ, ◌≡◌, List, true}
 use Rattle.sp_lex.specs.declared.kinds.TokenKind.{TokenKind}
-use Rattle.sp_lex.specs.declared.kinds.TokenKind.TheVariants as token
 use Rattle.sp_literals.specs.Values.{IsName}
-use Rattle.sp_print.specs.Words.{Word, fixed, name, number, text, bytes, regex, kind_of}
+use Rattle.sp_print.specs.Words.{Word, fixed, name, kind_of}
 use Rattle.sp_printed_words.specs.Read.{IsWorth}
 use Rattle.sp_printed_words.specs.Sound.{is_fixed}
 

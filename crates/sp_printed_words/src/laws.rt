@@ -1,13 +1,17 @@
 // What is read from words that are written one behind the other.
-ghost use Rattle.std.specs.Prelude.{◌≡◌, ◌≤◌, List, length};
+ghost use Rattle.std.specs.Prelude.{◌≡◌, ◌<◌, ◌≤◌, ℕ, List, length};
 ghost use Rattle.sp_base.specs.declared.kinds.MKind.{MKind};
 ghost use Rattle.sp_base.specs.declared.kinds.MKind.TheVariants as module_kind;
 ghost use Rattle.sp_base.specs.declared.places.Span.{Span};
 ghost use Rattle.sp_lex.specs.Faults.{IsFault, most_bytes};
+ghost use Rattle.sp_lex.specs.Lexed.{IsLexed};
+ghost use Rattle.sp_lex.specs.Readings.{bytes_of};
 ghost use Rattle.sp_lex.specs.declared.tokens.Token.{Token};
+ghost use Rattle.sp_literals.specs.Values.{numbered};
 ghost use Rattle.sp_print.specs.Words.{Word, written};
 ghost use Rattle.sp_printed_words.specs.Read.{text_of, AreRead, IsWorth};
 ghost use Rattle.sp_printed_words.specs.Sound.{AreSound, HaveNoZero, IsSound};
+ghost use Rattle.sp_printed_words.specs.Told.{IsTold};
 
 /// Lines of words that can be read again are read as these words: each word is one token of its kind, with its bytes.
 pub fn words_are_read()
@@ -22,4 +26,9 @@ pub fn words_keep_their_worth()
 /// Nothing is wrong with the text of words that can be read again, if it is not too large, but that it may be nested too deep.
 pub fn words_have_no_other_fault()
     ensures { (lines : List (List Word)) → AreSound lines → HaveNoZero lines → length (text_of lines) ≤ most_bytes → (span : Span) (kind : MKind) → IsFault (text_of lines) span kind → kind ≡ module_kind.TooDeep }
+{}
+
+/// A word that a token of a text tells can be read again.
+pub fn words_of_a_text_are_sound()
+    ensures { (text : List ℕ) (tokens : List Token) → IsLexed text tokens → (at : ℕ) → at < length tokens → (w : Word) → IsTold w (numbered tokens at).kind (bytes_of text (numbered tokens at)) → IsSound w }
 {}
