@@ -292,8 +292,7 @@ module _ (all : List ℕ) (tokens : List Token) (lexed : IsLexed all tokens) (at
 
   regex_sound : here.kind ≡ token.Regex → IsRegexWord (between its)
   regex_sound is =
-      let stands = stands_as token.Regex is in
-      (
+      let stands = stands_as token.Regex is in (
         regex_one (drop here.span.from all) stands.0 (here.span.to - here.span.from) some within stands.1,
         λ wrong. (subst (λ k. (m : MKind) → ¬ IsOwnFault k its m) is right) module_kind.BadRegex (refl, wrong),
         regex_utf8 all tokens lexed at (token_at token.Id 0 0) inside is,

@@ -3,4 +3,6 @@
 
 mod laws;
 
-pub use laws::{words_are_read, words_have_no_other_fault, words_keep_their_worth, words_of_a_text_are_sound};
+pub use laws::{
+    words_are_read, words_have_no_other_fault, words_keep_their_worth, words_of_a_text_are_sound,
+};
