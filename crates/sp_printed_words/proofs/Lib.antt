@@ -8,3 +8,4 @@ mod Rows
 pub mod Stands
 pub mod Worth
 pub mod Told
+pub mod Modules

@@ -1,3 +1,4 @@
 pub mod Sound
 pub mod Read
 pub mod Told
+pub mod Modules

@@ -68,7 +68,7 @@ AreSoundBehind before (w ∷ ws) = IsSound w × (may_follow before (read_as w) �
 abbrev pub AreSound : List (List Word) → Type 0
 AreSound lines = AllByRecursion (AreSoundBehind None) lines
 
--- A byte 0 may stand in a regular expression, but in no text: none has one.
+-- No text may have a byte 0, and only a regular expression is written with those that it has: it has none.
 abbrev pub HasNoZero : Word → Type 0
 HasNoZero (regex x) = AllByRecursion (λ byte. 0 < byte) x
 HasNoZero w = Unit {0}

@@ -6,7 +6,7 @@ use Rattle.sp_print.specs.Words.{Word, fixed, name, kind_of}
 use Rattle.sp_printed_words.specs.Read.{IsWorth}
 use Rattle.sp_printed_words.specs.Sound.{is_fixed}
 
--- the kind of token that tells a word; a name is told by a reserved word too, where this can be a name
+-- the kind of token that tells a word; a name is told by an ID or by the word `skip`
 abbrev pub IsKindFor : Word → TokenKind → Type 0
 IsKindFor (fixed kind) its = (its ≡ kind) × (is_fixed kind ≡ true)
 IsKindFor (name x) its = IsName its

@@ -8,7 +8,10 @@ ghost use Rattle.sp_lex.specs.Lexed.{IsLexed};
 ghost use Rattle.sp_lex.specs.Readings.{bytes_of};
 ghost use Rattle.sp_lex.specs.declared.tokens.Token.{Token};
 ghost use Rattle.sp_literals.specs.Values.{numbered};
+ghost use Rattle.sp_ast.specs.Trees.{Tree};
+ghost use Rattle.sp_print.specs.Canonical.{canonical};
 ghost use Rattle.sp_print.specs.Words.{Word, written};
+ghost use Rattle.sp_printed_words.specs.Modules.{module_lines};
 ghost use Rattle.sp_printed_words.specs.Read.{text_of, AreRead, IsWorth};
 ghost use Rattle.sp_printed_words.specs.Sound.{AreSound, HaveNoZero, IsSound};
 ghost use Rattle.sp_printed_words.specs.Told.{IsTold};
@@ -31,4 +34,9 @@ pub fn words_have_no_other_fault()
 /// A word that a token of a text tells can be read again.
 pub fn words_of_a_text_are_sound()
     ensures { (text : List ℕ) (tokens : List Token) → IsLexed text tokens → (at : ℕ) → at < length tokens → (w : Word) → IsTold w (numbered tokens at).kind (bytes_of text (numbered tokens at)) → IsSound w }
+{}
+
+/// The canonical text of a module is the text of its words.
+pub fn canonical_text_is_of_words()
+    ensures { (m : Tree) → canonical m ≡ text_of (module_lines m) }
 {}

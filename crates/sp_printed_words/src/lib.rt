@@ -4,5 +4,6 @@
 mod laws;
 
 pub use laws::{
-    words_are_read, words_have_no_other_fault, words_keep_their_worth, words_of_a_text_are_sound,
+    canonical_text_is_of_words, words_are_read, words_have_no_other_fault, words_keep_their_worth,
+    words_of_a_text_are_sound,
 };
