@@ -14,7 +14,8 @@ use Rattle.sp_lex.proofs.Valid.{byte_utf8}
 use Rattle.sp_print.specs.Page.{is_scope, gap}
 use Rattle.sp_print.specs.Words.{Word, fixed, name, number, text, bytes, regex, written, kind_of, is_plain, shown_byte, shown_char}
 use Rattle.sp_printed_words.specs.Read.{text_of}
-use Rattle.sp_printed_words.specs.Sound.{IsSound, AreSoundBehind, AreSound, HasNoZero, HaveNoZero}
+use Rattle.sp_printed_words.specs.Sound.{IsSound, AreSound, HasNoZero, HaveNoZero}
+use Rattle.sp_printed_words.proofs.Stands.{AreSoundBehind, each_sound}
 use Rattle.sp_printed_words.proofs.Letters.{decimal_digits}
 use Rattle.sp_printed_words.proofs.Literal.{of_below, all_high}
 use Rattle.sp_printed_words.proofs.Lines.{words_on, lines_on, text_on}
@@ -124,9 +125,9 @@ words_clean (w ∷ ws) last before rest sound zero clean =
     clean_append (gap last (kind_of w)) (written w ++ words_on (Some (kind_of w)) ws rest) (gap_clean last (kind_of w))
     (clean_append (written w) (words_on (Some (kind_of w)) ws rest) (written_clean w sound.0 zero.0) (words_clean ws (Some (kind_of w)) _ rest sound.2 zero.1 clean))
 
-lines_clean : (lines : List (List Word)) → AreSound lines → HaveNoZero lines → IsClean (lines_on lines)
+lines_clean : (lines : List (List Word)) → AllByRecursion (AreSoundBehind None) lines → HaveNoZero lines → IsClean (lines_on lines)
 lines_clean [] sound zero = clean_nil
 lines_clean (ws ∷ lines) sound zero = words_clean ws None None (10 ∷ lines_on lines) sound.0 zero.0 (clean_append (10 ∷ []) (lines_on lines) (clean_byte 10 refl) (lines_clean lines sound.1 zero.1))
 
 pub text_clean : (lines : List (List Word)) → AreSound lines → HaveNoZero lines → IsClean (text_of lines)
-text_clean lines sound zero = subst IsClean (sym (text_on lines)) (lines_clean lines sound zero)
+text_clean lines sound zero = subst IsClean (sym (text_on lines)) (lines_clean lines (each_sound lines sound) zero)

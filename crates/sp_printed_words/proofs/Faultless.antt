@@ -1,5 +1,5 @@
 -- Nothing is wrong with the tokens of words but their level.
-use Rattle.std.proofs.Common.{◌≡◌, ℕ, ◌+◌, ◌<◌, ◌≤◌, ◌^◌, min, inl, inr, List, [], ◌∷◌, ◌++◌, length, true, not, ◌==◌, Some, refl, ap, subst, ◌∙◌, arith, rules, tests}
+use Rattle.std.proofs.Common.{◌≡◌, ℕ, ◌+◌, ◌<◌, ◌≤◌, ◌^◌, min, inl, inr, List, [], ◌∷◌, ◌++◌, length, true, not, ◌==◌, refl, ap, subst, ◌∙◌, arith, rules, tests}
 use Rattle.std.specs.Prelude.{flat_map}
 use Rattle.std.specs.List.{AllByRecursion, position_or_len}
 use Rattle.std.proofs.lemmas.List.{take_all}
@@ -19,7 +19,7 @@ use Rattle.sp_literals.specs.Values.{IsName}
 use Rattle.sp_print.specs.Words.{Word, fixed, name, number, text, bytes, regex, written}
 use Rattle.sp_regex.specs.Syntax.{IsRegexText}
 use Rattle.sp_printed_words.specs.Read.{text_of, AreThese}
-use Rattle.sp_printed_words.specs.Sound.{is_fixed, read_as, IsSound, AreSoundBehind, AreSound, HaveNoZero}
+use Rattle.sp_printed_words.specs.Sound.{is_fixed, read_as, IsSound, AreSound, HaveNoZero}
 use Rattle.sp_printed_words.proofs.Clean.{IsClean, text_clean}
 use Rattle.sp_printed_words.proofs.Lines.{tokens_in, lines_read}
 use Rattle.sp_printed_words.proofs.Worth.{between_marks, number_worth}
@@ -52,17 +52,13 @@ reading_fault all (w ∷ ws) [] nesting span m sound these fault = absurd these
 reading_fault all (w ∷ ws) (t ∷ ts) nesting span m sound these (inl here) = deep_only w (bytes_of all t) t nesting m sound.0 these.0.kind these.0.bytes here.1
 reading_fault all (w ∷ ws) (t ∷ ts) nesting span m sound these (inr later) = reading_fault all ws ts (after nesting (role_of t.kind)) span m sound.1 these.1 later
 
-sound_words : (ws : List Word) (before : _) → AreSoundBehind before ws → AllByRecursion IsSound ws
-sound_words [] before sound = tt
-sound_words (w ∷ ws) before sound = (sound.0, sound_words ws (Some (read_as w)) sound.2)
-
 all_append : (xs ys : List Word) → AllByRecursion IsSound xs → AllByRecursion IsSound ys → AllByRecursion IsSound (xs ++ ys)
 all_append [] ys first second = second
 all_append (x ∷ xs) ys first second = (first.0, all_append xs ys first.1 second)
 
-sound_lines : (lines : List (List Word)) → AreSound lines → AllByRecursion IsSound (flat_map (λ ws. ws) lines)
+sound_lines : (lines : List (List Word)) → AllByRecursion (AllByRecursion IsSound) lines → AllByRecursion IsSound (flat_map (λ ws. ws) lines)
 sound_lines [] sound = tt
-sound_lines (ws ∷ lines) sound = all_append ws (flat_map (λ ws. ws) lines) (sound_words ws _ sound.0) (sound_lines lines sound.1)
+sound_lines (ws ∷ lines) sound = all_append ws (flat_map (λ ws. ws) lines) sound.0 (sound_lines lines sound.1)
 
 no_zero : (b : ℕ) → 0 < b → not (b == 0) ≡ true
 no_zero b h = search (rules, tests)
@@ -95,5 +91,5 @@ no_other_fault lines sound zero small span m (inr fault) =
     let read = lines_read lines sound in
     let same = looked_at_all (text_of lines) small in
     let here = subst (λ x. IsReadingFault x outermost (reading x) span m) same fault in
-    reading_fault (text_of lines) (flat_map (λ ws. ws) lines) (tokens_in 0 lines) outermost span m (sound_lines lines sound) read.these
+    reading_fault (text_of lines) (flat_map (λ ws. ws) lines) (tokens_in 0 lines) outermost span m (sound_lines lines sound.words) read.these
     (subst (λ r. IsReadingFault (text_of lines) outermost r span m) read.read here)

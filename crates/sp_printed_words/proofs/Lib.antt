@@ -9,3 +9,4 @@ pub mod Stands
 pub mod Worth
 pub mod Told
 pub mod Modules
+pub mod Trees

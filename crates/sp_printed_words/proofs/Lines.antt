@@ -1,6 +1,7 @@
 -- Words one behind the other, read one by one.
 use Rattle.std.proofs.Common.{◌≡◌, ℕ, suc, ◌+◌, ◌-◌, List, [], ◌∷◌, ◌++◌, length, drop, take, Bool, true, false, ◌||◌, cond, Option, Some, None, sym, refl, ap, subst, ◌∙◌, arith, append_assoc, ◌<◌}
 use Rattle.std.specs.Prelude.{flat_map}
+use Rattle.std.specs.List.{AllByRecursion}
 use Rattle.std.proofs.Math.Seq.{drop-append_seam, take-append_seam}
 use Rattle.std.proofs.lemmas.List.{drop-drop}
 use Rattle.sp_lex.specs.Elements.{ends_operand, element_at, token_of}
@@ -10,8 +11,8 @@ use Rattle.sp_lex.specs.declared.tokens.Token.{Token}
 use Rattle.sp_print.specs.Page.{page, is_scope, gap, puts}
 use Rattle.sp_print.specs.Words.{Word, written, kind_of}
 use Rattle.sp_printed_words.specs.Read.{text_of, AreThese, AreRead}
-use Rattle.sp_printed_words.specs.Sound.{read_as, IsSound, AreSoundBehind, AreSound}
-use Rattle.sp_printed_words.proofs.Stands.{Knows, IsBefore, word_stands, word_some, next_follows, end_follows}
+use Rattle.sp_printed_words.specs.Sound.{read_as, IsSound, AreSound}
+use Rattle.sp_printed_words.proofs.Stands.{AreSoundBehind, each_sound, Knows, IsBefore, word_stands, word_some, next_follows, end_follows}
 
 -- words behind a word, and then the rest of the text
 abbrev pub words_on : Option TokenKind → List Word → List ℕ → List ℕ
@@ -107,7 +108,7 @@ abbrev pub tokens_in : ℕ → List (List Word) → List Token
 tokens_in at [] = []
 tokens_in at (ws ∷ lines) = tokens_at at None ws ++ tokens_in (end_at at None ws + 1) lines
 
-read_lines : (lines : List (List Word)) (at : ℕ) (divides : Bool) → AreSound lines → read_on at divides 0 (lines_on lines) ≡ whole (tokens_in at lines)
+read_lines : (lines : List (List Word)) (at : ℕ) (divides : Bool) → AllByRecursion (AreSoundBehind None) lines → read_on at divides 0 (lines_on lines) ≡ whole (tokens_in at lines)
 read_lines [] at divides sound = refl
 read_lines (ws ∷ lines) at divides sound =
     read_words ws at divides None None (lines_on lines) sound.0 tt
@@ -148,6 +149,6 @@ these_lines all (ws ∷ lines) at h =
 -- lines of words are read as these words
 pub lines_read : (lines : List (List Word)) → AreSound lines → AreRead lines (tokens_in 0 lines)
 lines_read lines sound = record {
-  read = ap reading (text_on lines) ∙ read_lines lines 0 false sound;
+  read = ap reading (text_on lines) ∙ read_lines lines 0 false (each_sound lines sound);
   these = subst (λ all. AreThese all (flat_map (λ ws. ws) lines) (tokens_in 0 lines)) (sym (text_on lines)) (these_lines (lines_on lines) lines 0 refl);
 }

@@ -1,6 +1,7 @@
 -- A few lines that can be read again, with their text and their tokens.
-use Rattle.std.proofs.Common.{◌≡◌, List, [], ◌∷◌, None, refl, inl, inr, arith}
+use Rattle.std.proofs.Common.{◌≡◌, List, [], ◌∷◌, refl, inl, inr, arith}
 use Rattle.std.specs.Prelude.{codes}
+use Rattle.std.specs.List.{AllByRecursion}
 use Rattle.std.specs.Fmt.{digits}
 use Rattle.sp_lex.proofs.Valid.{byte_utf8}
 use Rattle.sp_lex.specs.Elements.{element_at, literal_at}
@@ -14,7 +15,7 @@ use Rattle.sp_lex.specs.declared.kinds.TokenKind.TheVariants as token
 use Rattle.sp_print.specs.Words.{Word, fixed, name, number, bytes, regex}
 use Rattle.sp_regex.specs.Syntax.{alternatives, pieces, once, plain_byte, no_piece, no_alternative}
 use Rattle.sp_printed_words.specs.Read.{text_of}
-use Rattle.sp_printed_words.specs.Sound.{AreSoundBehind, AreSound, IsRegexWord, IsNameText}
+use Rattle.sp_printed_words.specs.Sound.{AreSound, IsSound, IsRegexWord, IsNameText}
 use Rattle.sp_printed_words.proofs.Lines.{tokens_in}
 
 abbrev header : List Word
@@ -42,16 +43,17 @@ regex_a : IsRegexWord (codes "a")
 unfolding element_at literal_at literal_len char_len
 regex_a = (refl, λ wrong. wrong (_, alternatives (pieces (once (plain_byte refl)) no_piece) no_alternative), byte_utf8 97 (omega arith))
 
-header_sound : AreSoundBehind None header
+header_sound : AllByRecursion IsSound header
 unfolding word_kind
-header_sound = (refl, refl, (name_m, refl, (refl, refl, tt)))
+header_sound = (refl, (name_m, (refl, tt)))
 
-body_sound : AreSoundBehind None body
+body_sound : AllByRecursion IsSound body
 unfolding word_kind
-body_sound = (refl, refl, (name_u, refl, (refl, refl, (refl, refl, (name_skip, refl, (refl, refl, (omega arith, refl, (refl, refl, (refl, refl, (regex_a, refl, (refl, refl, ((omega arith, (omega arith, tt)), refl, tt))))))))))))
+body_sound = (refl, (name_u, (refl, (refl, (name_skip, (refl, (omega arith, (refl, (refl, (regex_a, (refl, ((omega arith, (omega arith, tt)), tt))))))))))))
 
 sound : AreSound (header ∷ body ∷ [])
-sound = (header_sound, (body_sound, tt))
+unfolding word_kind
+sound = record { words = (header_sound, (body_sound, tt)); places = ((refl, (refl, (refl, tt))), ((refl, (refl, (refl, (refl, (refl, (refl, (refl, (refl, (refl, (refl, (refl, (refl, tt)))))))))))), tt)) }
 
 printed : text_of (header ∷ body ∷ []) ≡ codes "module M ;\non U::%init skip = 12 / ( /a/ , b\"\\x01\\\"\"\n"
 unfolding digits

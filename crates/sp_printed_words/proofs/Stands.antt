@@ -17,7 +17,7 @@ use Rattle.sp_lex.specs.declared.kinds.Hook.{Hook}
 use Rattle.sp_literals.specs.Values.{IsName}
 use Rattle.sp_print.specs.Page.{is_scope, gap}
 use Rattle.sp_print.specs.Words.{Word, fixed, name, number, text, bytes, regex, written, kind_of}
-use Rattle.sp_printed_words.specs.Sound.{is_fixed, is_colon, read_as, may_follow, IsSound}
+use Rattle.sp_printed_words.specs.Sound.{is_fixed, is_colon, read_as, may_follow, ArePlaced, AreSound, IsSound}
 use Rattle.sp_printed_words.proofs.Fixed.{mark_space, mark_feed, mark_scope, attribute_space, attribute_feed, attribute_scope, property_space, property_feed, property_scope, hook_space, hook_feed, hook_scope, scope_any, mark_sign, attribute_sign, property_sign, hook_sign, keyword_kind, keyword_letter, keyword_word}
 use Rattle.sp_printed_words.proofs.Letters.{word_ends, number_ends, all_of_prefix, decimal_digits}
 use Rattle.sp_printed_words.proofs.Literal.{text_stands, bytes_stands, regex_more}
@@ -159,3 +159,19 @@ next_follows w v more sound may = gap_follows (read_as w) v more (is_scope (kind
 
 pub end_follows : (kind : TokenKind) (more : List ℕ) → IsBefore kind (10 ∷ more)
 end_follows kind more = inr ended
+
+-- words that can be read again, each where it may stand behind the one before
+abbrev pub AreSoundBehind : Option TokenKind → List Word → Type 0
+AreSoundBehind before [] = Unit {0}
+AreSoundBehind before (w ∷ ws) = IsSound w × (may_follow before (read_as w) ≡ true) × AreSoundBehind (Some (read_as w)) ws
+
+both : (ws : List Word) (before : Option TokenKind) → AllByRecursion IsSound ws → ArePlaced before ws → AreSoundBehind before ws
+both [] before sound placed = tt
+both (w ∷ ws) before sound placed = (sound.0, placed.0, both ws (Some (read_as w)) sound.1 placed.1)
+
+both_lines : (lines : List (List Word)) → AllByRecursion (AllByRecursion IsSound) lines → AllByRecursion (ArePlaced None) lines → AllByRecursion (AreSoundBehind None) lines
+both_lines [] sound placed = tt
+both_lines (ws ∷ lines) sound placed = (both ws None sound.0 placed.0, both_lines lines sound.1 placed.1)
+
+pub each_sound : (lines : List (List Word)) → AreSound lines → AllByRecursion (AreSoundBehind None) lines
+each_sound lines sound = both_lines lines sound.words sound.places

@@ -2,3 +2,4 @@ pub mod Sound
 pub mod Read
 pub mod Told
 pub mod Modules
+pub mod Trees

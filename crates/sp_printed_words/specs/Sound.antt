@@ -59,14 +59,15 @@ may_follow None (token.Mark mark.Slash) = false
 may_follow None token.Regex = false
 may_follow before kind = true
 
--- words that can be read again, one behind the other, with the kind of the word before them
-abbrev pub AreSoundBehind : Option TokenKind → List Word → Type 0
-AreSoundBehind before [] = Unit {0}
-AreSoundBehind before (w ∷ ws) = IsSound w × (may_follow before (read_as w) ≡ true) × AreSoundBehind (Some (read_as w)) ws
+-- words of which each may follow the one before, with the kind of the word before them
+abbrev pub ArePlaced : Option TokenKind → List Word → Type 0
+ArePlaced before [] = Unit {0}
+ArePlaced before (w ∷ ws) = (may_follow before (read_as w) ≡ true) × ArePlaced (Some (read_as w)) ws
 
--- lines of words that can be read again
-abbrev pub AreSound : List (List Word) → Type 0
-AreSound lines = AllByRecursion (AreSoundBehind None) lines
+-- lines of words that can be read again, each where it may stand
+pub record AreSound (lines : List (List Word)) : Type 0 where
+  pub words : AllByRecursion (AllByRecursion IsSound) lines
+  pub places : AllByRecursion (ArePlaced None) lines
 
 -- No text may have a byte 0, and only a regular expression is written with those that it has: it has none.
 abbrev pub HasNoZero : Word → Type 0

@@ -1,5 +1,6 @@
 // What is read from words that are written one behind the other.
 ghost use Rattle.std.specs.Prelude.{◌≡◌, ◌<◌, ◌≤◌, ℕ, List, length};
+ghost use Rattle.std.specs.List.{AllByRecursion};
 ghost use Rattle.sp_base.specs.declared.kinds.MKind.{MKind};
 ghost use Rattle.sp_base.specs.declared.kinds.MKind.TheVariants as module_kind;
 ghost use Rattle.sp_base.specs.declared.places.Span.{Span};
@@ -15,6 +16,7 @@ ghost use Rattle.sp_printed_words.specs.Modules.{module_lines};
 ghost use Rattle.sp_printed_words.specs.Read.{text_of, AreRead, IsWorth};
 ghost use Rattle.sp_printed_words.specs.Sound.{AreSound, HaveNoZero, IsSound};
 ghost use Rattle.sp_printed_words.specs.Told.{IsTold};
+ghost use Rattle.sp_printed_words.specs.Trees.{TellsSoundWords};
 
 /// Lines of words that can be read again are read as these words: each word is one token of its kind, with its bytes.
 pub fn words_are_read()
@@ -39,4 +41,9 @@ pub fn words_of_a_text_are_sound()
 /// The canonical text of a module is the text of its words.
 pub fn canonical_text_is_of_words()
     ensures { (m : Tree) → canonical m ≡ text_of (module_lines m) }
+{}
+
+/// The words of a module can be read again if those can that the alternatives in its tree tell.
+pub fn words_of_a_module_are_sound()
+    ensures { (m : Tree) → TellsSoundWords m → AllByRecursion (AllByRecursion IsSound) (module_lines m) }
 {}
