@@ -14,9 +14,9 @@ ghost use Rattle.sp_print.specs.Canonical.{canonical};
 ghost use Rattle.sp_print.specs.Words.{Word, written};
 ghost use Rattle.sp_printed_words.specs.Modules.{module_lines};
 ghost use Rattle.sp_printed_words.specs.Read.{text_of, AreRead, IsWorth};
-ghost use Rattle.sp_printed_words.specs.Sound.{AreSound, HaveNoZero, IsSound};
+ghost use Rattle.sp_printed_words.specs.Sound.{AreSound, HasNoZero, HaveNoZero, IsSound};
 ghost use Rattle.sp_printed_words.specs.Told.{IsTold};
-ghost use Rattle.sp_printed_words.specs.Trees.{TellsSoundWords};
+ghost use Rattle.sp_printed_words.specs.Trees.{TellsOnly};
 
 /// Lines of words that can be read again are read as these words: each word is one token of its kind, with its bytes.
 pub fn words_are_read()
@@ -43,7 +43,8 @@ pub fn canonical_text_is_of_words()
     ensures { (m : Tree) → canonical m ≡ text_of (module_lines m) }
 {}
 
-/// The words of a module can be read again if those can that the alternatives in its tree tell.
+/// The words of a module can be read again, and have no byte 0, if this holds of those that the alternatives in its tree tell.
 pub fn words_of_a_module_are_sound()
-    ensures { (m : Tree) → TellsSoundWords m → AllByRecursion (AllByRecursion IsSound) (module_lines m) }
+    ensures sound { (m : Tree) → TellsOnly IsSound m → AllByRecursion (AllByRecursion IsSound) (module_lines m) }
+    ensures no_zero { (m : Tree) → TellsOnly HasNoZero m → HaveNoZero (module_lines m) }
 {}
