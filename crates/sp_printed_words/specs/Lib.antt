@@ -1,0 +1,5 @@
+pub mod Sound
+pub mod Read
+pub mod Told
+pub mod Modules
+pub mod Trees
