@@ -3,4 +3,4 @@
 
 mod laws;
 
-pub use laws::trees_are_of_words;
+pub use laws::{trees_are_of_words, words_of_a_read_module_are_sound};
