@@ -12,7 +12,7 @@ use Rattle.sp_lex.specs.Spellings.{spelling}
 use Rattle.sp_lex.specs.declared.kinds.TokenKind.{TokenKind}
 use Rattle.sp_lex.proofs.Valid.{byte_utf8}
 use Rattle.sp_print.specs.Page.{is_scope, gap}
-use Rattle.sp_print.specs.Words.{Word, fixed, name, number, text, bytes, regex, written, kind_of, is_plain, shown_byte, shown_char}
+use Rattle.sp_print.specs.Words.{Word, fixed, name, number, text, bytes, regex, written, kind_of, shown_byte, shown_char}
 use Rattle.sp_printed_words.specs.Read.{text_of}
 use Rattle.sp_printed_words.specs.Sound.{IsSound, AreSound, HasNoZero, HaveNoZero}
 use Rattle.sp_printed_words.proofs.Stands.{AreSoundBehind, each_sound}
@@ -71,9 +71,6 @@ word_clean b h = search (rules, tests)
 
 digit_clean : (b : ℕ) → is_ascii_digit b ≡ true → is_clean b ≡ true
 digit_clean b h = search (rules, tests)
-
-plain_clean : (b : ℕ) → is_plain b ≡ true → is_clean b ≡ true
-plain_clean b h = search (rules, tests)
 
 all_of : (P Q : ℕ → Type 0) (x : List ℕ) → ((b : ℕ) → P b → Q b) → AllByRecursion P x → AllByRecursion Q x
 all_of P Q [] step all = tt

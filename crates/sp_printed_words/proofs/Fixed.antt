@@ -79,11 +79,6 @@ pub scope_any : (rest : List ℕ) → sign_at (58 ∷ 58 ∷ rest) ≡ token_of 
 unfolding sign_at longest_sign
 scope_any rest = refl
 
-slash_sign : (divides : Bool) (rest : List ℕ) → divides ≡ true → element_at divides (47 ∷ rest) ≡ sign_at (47 ∷ rest)
-unfolding element_at
-slash_sign true rest h = refl
-slash_sign false rest h = cc
-
 -- a mark begins with a sign; a / is one where it divides
 pub mark_sign : (m : Mark) (divides : Bool) (rest : List ℕ) → (m ≡ mark.Slash → divides ≡ true) → element_at divides (mark_text m ++ rest) ≡ sign_at (mark_text m ++ rest)
 unfolding element_at

@@ -37,9 +37,6 @@ itself_stands c other rest = rw other refl
 one_is : (c d : ℕ) (y : List ℕ) → c ≡ d → StandFor y (d ∷ []) → StandFor y (c ∷ [])
 one_is c d y same stands rest = stands rest ∙ ap (λ b. b ∷ decoded rest) (sym same)
 
-short_stands : (e d : ℕ) → ((rest : List ℕ) → decoded (92 ∷ e ∷ rest) ≡ d ∷ decoded rest) → StandFor (92 ∷ e ∷ []) (d ∷ [])
-short_stands e d h rest = h rest
-
 abbrev worth_of_byte : ℕ → Bool
 worth_of_byte c = 16 * digit_worth (hex_digit (c / 16)) + digit_worth (hex_digit (c % 16)) == c
 

@@ -1,5 +1,5 @@
 -- What is put of an exit.
-use Rattle.std.proofs.Common.{◌≡◌, ℕ, refl, inl, inr}
+use Rattle.std.proofs.Common.{◌≡◌, ℕ, inl, inr}
 use Rattle.sp_io.specs.Moved.{appended}
 use Rattle.sp_io.specs.declared.traits.OutFault.{OutFault}
 use Rattle.sp_io.specs.declared.traits.OutFault.TheVariants as fault
@@ -7,10 +7,6 @@ use Rattle.sp_command.specs.Puts.{IsPartPut, PutCause, failure_status}
 use Rattle.sp_command.proofs.PartPuts.{nothing_put, all_put}
 use Rattle.sp_spicyc.specs.declared.exits.Exit.{Exit}
 use Rattle.sp_spicyc.specs.Command.{Outputs, Reported, output_of, message_of}
-
--- there was no memory for the message
-pub nothing_reported : (exit : Exit) (before : Outputs) → Reported exit before before 7
-nothing_reported exit before = inr (inr (refl, (nothing_put before.out before.out (output_of exit) refl, nothing_put before.err before.err (message_of exit) refl), (refl, refl)))
 
 -- the output was not written
 pub output_failed : (exit : Exit) (before after : Outputs) (f : OutFault) (status : ℕ) → status ≡ failure_status f → IsPartPut before.out after.out (output_of exit) → PutCause before.out_faults after.out_faults f
