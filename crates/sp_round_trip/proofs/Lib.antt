@@ -1,3 +1,6 @@
 pub mod Machine
 pub mod Telling
 pub mod Tells
+pub mod Goes
+pub mod Held
+pub mod Shown

@@ -1,0 +1,84 @@
+-- The machine that builds trees, apart from places: where a tree begins, it keeps what the token there tells.
+use Rattle.std.specs.Prelude.{option_map, if◌then◌else◌}
+use Rattle.std.proofs.Common.{List, [], ◌∷◌, reverse, Bool, Option, Some, None}
+use Rattle.sp_ast.specs.declared.forms.Form.{Form}
+use Rattle.sp_ast.specs.Trees.{Tree, absent, tree, in_row}
+use Rattle.sp_build.specs.declared.groups.Group.TheVariants.{Expressions as expressions}
+use Rattle.sp_build.specs.declared.groups.Sort.{Sort}
+use Rattle.sp_build.specs.declared.groups.Sort.TheVariants.{One as one}
+use Rattle.sp_build.specs.declared.groups.Slot.{Slot}
+use Rattle.sp_build.specs.declared.groups.Slot.TheVariants.{Part as part, Several as several}
+use Rattle.sp_build.specs.Groups.{fits, is_of, is_node}
+use Rattle.sp_build.specs.Rules.{Rule, begins, leaves_out, takes, gathers, closes, closes_integer, closes_attribute, encloses, joins, wraps}
+use Rattle.sp_build.specs.Tokens.{integer_of, attribute_of}
+use Rattle.sp_round_trip.specs.Bare.{nowhere}
+use Rattle.sp_round_trip.specs.Told.{Telling}
+use Rattle.sp_round_trip.proofs.Machine.{form_told}
+
+-- the beginning of a tree, or a tree that is built
+pub data Held : Type 0 where
+  started : Telling → Held
+  made : Tree → Held
+
+-- the last item first
+abbrev pub Pile : Type 0
+Pile = List Held
+
+-- an answer, and the pile that is left
+pub record After (A : Type 0) : Type 0 where
+  pub value : A
+  pub rest : Pile
+
+abbrev pub after : {A : Type 0} → A → Pile → After A
+after x s = record { value = x; rest = s }
+
+abbrev pub after_do : {A B : Type 0} → Option (After A) → (A → Pile → Option B) → Option B
+after_do None go = None
+after_do (Some x) go = go x.value x.rest
+
+-- the last tree, if it may stand for such a part
+abbrev pub top : Sort → Pile → Option (After Tree)
+top sort (made t ∷ s) = if fits sort t then Some (after t s) else None
+top sort _ = None
+
+-- the trees that pass a test and stand last, in the order of the text, before those that are found
+abbrev pub front : (Tree → Bool) → Pile → List Tree → After (List Tree)
+front wanted [] ts = after ts []
+front wanted (started p ∷ s) ts = after ts (started p ∷ s)
+front wanted (made t ∷ s) ts = if wanted t then front wanted s (t ∷ ts) else after ts (made t ∷ s)
+
+-- the beginning that stands last
+abbrev pub start : Pile → Option (After Telling)
+start (started p ∷ s) = Some (after p s)
+start _ = None
+
+-- the parts that the slots want, the last slot first, before those that are found
+abbrev pub filled : List Slot → List Tree → Pile → Option (After (List Tree))
+filled [] ts s = Some (after ts s)
+filled (part sort ∷ slots) ts s = after_do (top sort s) (λ t rest. filled slots (t ∷ ts) rest)
+filled (several g ∷ slots) ts s = let found = front (is_of g) s ts in filled slots found.value found.rest
+
+abbrev pub put : Tree → Pile → Option Pile
+put t s = Some (made t ∷ s)
+
+abbrev pub put_if : Option Form → Pile → Option Pile
+put_if None s = None
+put_if (Some form) s = put (tree form nowhere []) s
+
+-- a tree of the parts since it began, with what the token there tells
+abbrev pub closed : List Slot → (Telling → Option Form) → Pile → Option Pile
+closed slots form s =
+    after_do (filled (reverse slots) [] s) (λ ts rest. after_do (start rest) (λ p below. after_do (option_map (λ f. after f below) (form p)) (λ f under. put (tree f nowhere ts) under)))
+
+-- what a rule does where the next token tells this
+abbrev pub does : Rule → Telling → Pile → Option Pile
+does begins t s = Some (started t ∷ s)
+does leaves_out t s = put absent s
+does (takes l) t s = put_if (form_told l t.kind t.word) s
+does gathers t s = let found = front is_node s [] in after_do (start found.rest) (λ p below. put (in_row found.value) below)
+does (closes slots form) t s = closed slots (λ p. Some form) s
+does (closes_integer slots form) t s = closed slots (λ p. option_map form (integer_of p.kind)) s
+does (closes_attribute slots form) t s = closed slots (λ p. option_map form (attribute_of p.kind)) s
+does encloses t s = after_do (top (one expressions) s) (λ u rest. after_do (start rest) (λ p below. put u below))
+does (joins slots form) t s = after_do (filled (reverse slots) [] s) (λ ts rest. put (tree form nowhere ts) rest)
+does (wraps g form) t s = after_do (top (one g) s) (λ u rest. put (tree form nowhere (u ∷ [])) rest)
