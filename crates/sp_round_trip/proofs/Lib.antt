@@ -1,3 +1,4 @@
+pub mod Leaves
 pub mod Machine
 pub mod Telling
 pub mod Tells
