@@ -5,3 +5,5 @@ pub mod Tells
 pub mod Goes
 pub mod Held
 pub mod Shown
+pub mod Singles
+pub mod Chunks
