@@ -1,3 +1,5 @@
+pub mod Semicolons
+pub mod Steps
 pub mod Leaves
 pub mod Machine
 pub mod Telling

@@ -1,0 +1,54 @@
+-- The first step of a trace, and of a reading.
+use Rattle.std.specs.Prelude.{◌<◌, length, cond}
+use Rattle.std.specs.Int.{bit_at}
+use Rattle.std.proofs.Common.{◌≡◌, ℕ, List, [], ◌∷◌, map, Bool, true, false, ◌==◌, Some, refl, sym, ◌∙◌, subst, inl, inr}
+use Rattle.std.proofs.lemmas.Bool.{cases_Bool, eqb-true, cond-false}
+use Rattle.std.proofs.lemmas.Nat.Bits.{bit_at-zero}
+use Rattle.sp_parser.specs.declared.symbol.Symbol.{Symbol}
+use Rattle.sp_parser.specs.declared.symbol.Symbol.TheVariants as symbol
+use Rattle.sp_parser.specs.Grammar.{takes, First, All, Nothing, CLOSE, Applies, production_of, productions_of, ahead}
+use Rattle.sp_grammar.specs.declared.marks.Mark.{Mark}
+use Rattle.sp_grammar.specs.Marks.{mark_with}
+use Rattle.sp_grammar.specs.Own.{own}
+use Rattle.sp_build.specs.Rules.{rule}
+use Rattle.sp_round_trip.proofs.Held.{Pile, does}
+use Rattle.sp_round_trip.proofs.Goes.{Tok, entire, number, next, Goes, nothing, part}
+use Rattle.sp_round_trip.proofs.Shown.{Claim, Trace, ended, token_passed, half_passed, mark_passed, part_passed}
+
+never_first : (b : Bool) → cond b All Nothing ≡ First → ⊥
+never_first true h = absurd cc
+never_first false h = absurd cc
+
+by_kind : (e k : ℕ) → cond (e == k) All Nothing ≡ All → e ≡ k
+by_kind e k h = elim (cases_Bool (e == k)) [ inl y ↦ eqb-true e k y | inr z ↦ absurd (let q : Nothing ≡ All = sym (cond-false (e == k) All Nothing z) ∙ h in cc) ]
+
+-- a terminal but the one that closes a list of types takes only a token of its own kind, and takes it whole
+taken_by : (e k : ℕ) → (e == CLOSE) ≡ false → takes e k ≡ cond (e == k) All Nothing
+taken_by e k h = cond-false (e == CLOSE) _ (cond (e == k) All Nothing) h
+
+pub is_token : (e : ℕ) (x : Tok) → (e == CLOSE) ≡ false → takes e (number x) ≡ All → number x ≡ e
+is_token e x h taken = sym (by_kind e (number x) (sym (taken_by e (number x) h) ∙ taken))
+
+pub passes_token : (e : ℕ) {ss : List Symbol} {w v : List Tok} {s t : Pile} → (e == CLOSE) ≡ false → Trace (symbol.Terminal e ∷ ss) w s v t
+    → (x : Tok) × (rest : List Tok) × (w ≡ x ∷ rest) × (takes e (number x) ≡ All) × Trace ss rest s v t
+passes_token e h (token_passed {x = x} {w = rest} taken trace) = (x, rest, refl, taken, trace)
+passes_token e h (half_passed {x = x} taken trace) = absurd (never_first (e == number (entire x)) (sym (taken_by e (number (entire x)) h) ∙ taken))
+
+pub passes_mark : (n : ℕ) (m : Mark) {ss : List Symbol} {w v : List Tok} {s u : Pile} → mark_with n ≡ Some m → Trace (symbol.Mark n ∷ ss) w s v u
+    → (t : Pile) × (does (rule m) (next w) s ≡ Some t) × Trace ss w t v u
+passes_mark n m {w = w} {s = s} h (mark_passed {t = t} also is done trace) = let e : also ≡ m = (let q : Some also ≡ Some m = sym is ∙ h in cc) in (t, subst (λ x. does (rule x) (next w) s ≡ Some t) e done, trace)
+
+pub passes_part : (n : ℕ) {ss : List Symbol} {w v : List Tok} {s z : Pile} → Trace (symbol.Nonterminal n ∷ ss) w s v z
+    → (u : List Tok) × (t : Pile) × Claim n w s t u × Trace ss u t v z
+passes_part n (part_passed {u = u} {t = t} claim trace) = (u, t, claim, trace)
+
+pub passes_none : {w v : List Tok} {s t : Pile} → Trace [] w s v t → (w ≡ v) × (s ≡ t)
+passes_none ended = (refl, refl)
+
+-- a part read, and then what comes behind it
+pub beside : {n : ℕ} {ss : List Symbol} {w u v : List Tok} {s t z : Pile} → Goes (symbol.Nonterminal n ∷ []) w s u t → Goes ss u t v z → Goes (symbol.Nonterminal n ∷ ss) w s v z
+beside (part p may reads nothing) rest = part p may reads rest
+
+-- an alternative that may stand before anything
+pub anywhere : (n p : ℕ) (w : List Tok) → p < length (productions_of own n) → (production_of own n p).avoid ≡ 0 → Applies own n p (map number w)
+anywhere n p w below free = record { below = below; allowed = subst (λ a. bit_at a (ahead (map number w)) ≡ 0) (sym free) (bit_at-zero (ahead (map number w))) }
