@@ -7,3 +7,5 @@ pub mod Held
 pub mod Shown
 pub mod Singles
 pub mod Chunks
+pub mod Advance
+pub mod Failing
