@@ -6,7 +6,8 @@ use Rattle.sp_lex.specs.declared.kinds.TokenKind.{TokenKind}
 use Rattle.sp_runs.specs.Kinds.{number_of, terminal_of}
 use Rattle.sp_ast.specs.declared.forms.Form.{Form}
 use Rattle.sp_ast.specs.declared.forms.Form.TheVariants as form_is
-use Rattle.sp_ast.specs.Trees.{Tree, node, trees}
+use Rattle.sp_ast.specs.declared.forms.ExprForm.TheVariants as expr_is
+use Rattle.sp_ast.specs.Trees.{Tree, node, none, trees}
 use Rattle.sp_print.specs.declared.layouts.Frame.{Frame}
 use Rattle.sp_print.specs.declared.layouts.Frame.TheVariants as frame
 use Rattle.sp_print.specs.declared.layouts.Separator.{Separator}
@@ -15,7 +16,7 @@ use Rattle.sp_print.specs.declared.layouts.PartLayout.{PartLayout}
 use Rattle.sp_print.specs.declared.layouts.PartLayout.TheVariants as layout_is
 use Rattle.sp_print.specs.declared.layouts.Piece.{Piece}
 use Rattle.sp_print.specs.declared.layouts.Piece.TheVariants as piece
-use Rattle.sp_print.specs.Canonical.{Writing, nothing, chain, kinds, least, is_dividend, spelled}
+use Rattle.sp_print.specs.Canonical.{Writing, nothing, chain, kinds, least, is_dividend, form_level, spelled}
 use Rattle.sp_print.specs.Layouts.{opening, closing, between}
 use Rattle.sp_print.specs.Own.{own_words}
 use Rattle.sp_print.specs.Words.{Word, fixed}
@@ -23,23 +24,37 @@ use Rattle.sp_round_trip.specs.Bare.{nowhere}
 use Rattle.sp_round_trip.proofs.Singles.{kind_for, is_single}
 use Rattle.sp_round_trip.proofs.Shown.{Yield, one, optional, left_out, listed, followed, in_row, arguments, hooks, silent, yielded, Fits}
 
--- a token of this number; trees that are written so; an expression of this alternative, without parentheses round it
+-- a token of this number; trees that are written so; an expression that binds so tightly, without parentheses round it
 pub data Chunk : Type 0 where
   word : ℕ → Chunk
   tree : Yield → Chunk
-  built : Form → Chunk
+  built : ℕ → Chunk
+
+-- an alternative may stand in parentheses, where it is one of expressions
+abbrev pub is_expression : Form → Bool
+is_expression (form_is.Expr form) = true
+is_expression _ = false
+
+-- how tightly a `new` binds, its parts tell
+abbrev pub is_new : Form → Bool
+is_new (form_is.Expr expr_is.New) = true
+is_new _ = false
+
+-- an expression that isn't a `new`, and binds so tightly
+abbrev pub IsBuilt : ℕ → List Tree → Type 0
+IsBuilt level us = (form : Form) × (ts : List Tree) × (us ≡ node form nowhere (trees ts) ∷ []) × (is_expression form ≡ true) × (is_new form ≡ false) × (form_level form none ≡ level)
 
 -- the trees that a chunk is
 abbrev pub Owns : Chunk → List Tree → Type 0
 Owns (word e) us = us ≡ []
 Owns (tree y) us = Fits y us
-Owns (built form) us = (ts : List Tree) × (us ≡ node form nowhere (trees ts) ∷ [])
+Owns (built level) us = IsBuilt level us
 
 abbrev pub chunk_words : Chunk → List Tree → Writing
 chunk_words (word e) us = kinds (kind_for e ∷ [])
 chunk_words (tree y) us = yielded y us
-chunk_words (built form) (t ∷ []) = spelled t
-chunk_words (built form) _ = nothing
+chunk_words (built level) (t ∷ []) = spelled t
+chunk_words (built level) _ = nothing
 
 -- trees by the chunks that they are
 pub data Split : List Chunk → List Tree → Type 0 where
@@ -51,14 +66,9 @@ abbrev pub wrote : {cs : List Chunk} {ts : List Tree} → Split cs ts → Writin
 wrote no_chunk = nothing
 wrote (a_chunk {c = c} us owns rest) = chain (chunk_words c us) (wrote rest)
 
--- an alternative of expressions may stand in parentheses, and no other one
-abbrev pub is_expression : Form → Bool
-is_expression (form_is.Expr form) = true
-is_expression _ = false
-
 -- the chunk that a tree is when it is built
 abbrev pub node_chunk : Form → Chunk
-node_chunk form = if is_expression form then built form else tree (one 1)
+node_chunk form = if is_expression form then built (form_level form none) else tree (one 1)
 
 abbrev pub frame_number : Frame → ℕ
 frame_number frame.Bare = 0
@@ -177,5 +187,5 @@ row_chunks _ = None
 -- laid_again : (form : Form) (cs : List Chunk) (ts : List Tree) → laid_as form (layout form) cs ≡ true → (sp : Split cs ts) → (last : Option TokenKind) → wrote sp last ≡ spelled (node form nowhere (trees ts)) last
 -- ends_again : (y : Yield) (cs : List Chunk) (ts : List Tree) → ends_as y cs ≡ true → (sp : Split cs ts) → Fits y ts × ((last : Option TokenKind) → wrote sp last ≡ yielded y ts last)
 -- row_again : (cs ds : List Chunk) (ts : List Tree) → row_chunks cs ≡ Some ds → (sp : Split cs ts) → (again : Split ds (in_row ts ∷ [])) × ((last : Option TokenKind) → wrote again last ≡ wrote sp last)
--- node_again : (form : Form) (ts : List Tree) → Owns (node_chunk form) (node form nowhere (trees ts) ∷ []) × ((last : Option TokenKind) → chunk_words (node_chunk form) (node form nowhere (trees ts) ∷ []) last ≡ spelled (node form nowhere (trees ts)) last)
+-- node_again : (form : Form) (ts : List Tree) → is_new form ≡ false → Owns (node_chunk form) (node form nowhere (trees ts) ∷ []) × ((last : Option TokenKind) → chunk_words (node_chunk form) (node form nowhere (trees ts) ∷ []) last ≡ spelled (node form nowhere (trees ts)) last)
 -- If a test is too weak for this (is_end where `left_out` or an empty list may stand, say), mend the test here, minimally, and say so.
