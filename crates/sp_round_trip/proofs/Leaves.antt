@@ -139,7 +139,7 @@ attribute_again attribute_name.ParseAt = refl
 attribute_again attribute_name.Try = refl
 attribute_again attribute_name.Synchronize = refl
 
-some_is : {A : Type 0} {x y : A} → Some x ≡ Some y → x ≡ y
+pub some_is : {A : Type 0} {x y : A} → Some x ≡ Some y → x ≡ y
 some_is e = cc
 
 -- the word that the tree of a token tells, which tells the same, and is of the same kind

@@ -1,3 +1,4 @@
+pub mod Parameters
 pub mod Semicolons
 pub mod Steps
 pub mod Leaves

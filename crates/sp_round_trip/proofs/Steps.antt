@@ -1,7 +1,7 @@
 -- The first step of a trace, and of a reading.
 use Rattle.std.specs.Prelude.{◌<◌, length, cond}
 use Rattle.std.specs.Int.{bit_at}
-use Rattle.std.proofs.Common.{◌≡◌, ℕ, List, [], ◌∷◌, map, Bool, true, false, ◌==◌, Some, refl, sym, ◌∙◌, subst, inl, inr}
+use Rattle.std.proofs.Common.{◌≡◌, ℕ, List, [], ◌∷◌, map, Bool, true, false, ◌==◌, Some, refl, sym, ◌∙◌, ap, subst, inl, inr}
 use Rattle.std.proofs.lemmas.Bool.{cases_Bool, eqb-true, cond-false}
 use Rattle.std.proofs.lemmas.Nat.Bits.{bit_at-zero}
 use Rattle.sp_parser.specs.declared.symbol.Symbol.{Symbol}
@@ -10,10 +10,18 @@ use Rattle.sp_parser.specs.Grammar.{takes, First, All, Nothing, CLOSE, Applies, 
 use Rattle.sp_grammar.specs.declared.marks.Mark.{Mark}
 use Rattle.sp_grammar.specs.Marks.{mark_with}
 use Rattle.sp_grammar.specs.Own.{own}
-use Rattle.sp_build.specs.Rules.{rule}
-use Rattle.sp_round_trip.proofs.Held.{Pile, does}
-use Rattle.sp_round_trip.proofs.Goes.{Tok, entire, number, next, Goes, nothing, part}
-use Rattle.sp_round_trip.proofs.Shown.{Claim, Trace, ended, token_passed, half_passed, mark_passed, part_passed}
+use Rattle.sp_grammar.specs.declared.marks.Mark.TheVariants as build
+use Rattle.sp_ast.specs.declared.forms.Form.{Form}
+use Rattle.sp_ast.specs.Trees.{Tree, absent, tree, in_row}
+use Rattle.sp_build.specs.declared.groups.Slot.{Slot}
+use Rattle.sp_round_trip.specs.Bare.{nowhere}
+use Rattle.sp_round_trip.specs.Told.{Telling}
+use Rattle.sp_round_trip.proofs.Leaves.{some_is}
+use Rattle.sp_round_trip.proofs.Closing.{gathered_all, closed_all}
+use Rattle.sp_build.specs.Rules.{rule, gathers, closes}
+use Rattle.sp_round_trip.proofs.Held.{Pile, started, made, closed, does}
+use Rattle.sp_round_trip.proofs.Goes.{Tok, entire, number, next, coming, pushed, Goes, nothing, part}
+use Rattle.sp_round_trip.proofs.Shown.{Claim, ClaimAs, Yield, Fits, Shows, plain, manner_of, Trace, ended, token_passed, half_passed, mark_passed, part_passed}
 
 never_first : (b : Bool) → cond b All Nothing ≡ First → ⊥
 never_first true h = absurd cc
@@ -41,6 +49,45 @@ passes_mark n m {w = w} {s = s} h (mark_passed {t = t} also is done trace) = let
 pub passes_part : (n : ℕ) {ss : List Symbol} {w v : List Tok} {s z : Pile} → Trace (symbol.Nonterminal n ∷ ss) w s v z
     → (u : List Tok) × (t : Pile) × Claim n w s t u × Trace ss u t v z
 passes_part n (part_passed {u = u} {t = t} claim trace) = (u, t, claim, trace)
+
+-- a part that is written as these trees are
+pub passes_trees : (n : ℕ) (y : Yield) {ss : List Symbol} {w v : List Tok} {s z : Pile} → manner_of n ≡ plain y → Trace (symbol.Nonterminal n ∷ ss) w s v z
+    → (u : List Tok) × (ts : List Tree) × Fits y ts × Shows n y ts (coming u) × Trace ss u (pushed ts s) v z
+passes_trees n y {ss = ss} {v = v} {s = s} {z = z} is (part_passed {w = w} {u = u} {t = t} claim trace) =
+    let (ts, pile, fits, shows) = subst (λ m. ClaimAs m n w s t u) is claim in (u, ts, fits, shows, subst (λ p. Trace ss u p v z) pile trace)
+
+-- the beginning of a tree
+pub passes_begin : {ss : List Symbol} {w v : List Tok} {s u : Pile} → Trace (symbol.Mark 0 ∷ ss) w s v u → Trace ss w (started (next w) ∷ s) v u
+passes_begin {ss = ss} {w = w} {v = v} {s = s} {u = u} trace =
+    let (t, done, rest) = passes_mark 0 build.Begin refl trace in subst (λ p. Trace ss w p v u) (some_is (sym done)) rest
+
+-- a part that is left out
+pub passes_absent : {ss : List Symbol} {w v : List Tok} {s u : Pile} → Trace (symbol.Mark 16 ∷ ss) w s v u → Trace ss w (made absent ∷ s) v u
+passes_absent {ss = ss} {w = w} {v = v} {s = s} {u = u} trace =
+    let (t, done, rest) = passes_mark 16 build.Absent refl trace in subst (λ p. Trace ss w p v u) (some_is (sym done)) rest
+
+-- trees that make a row wherever they stand behind a beginning
+abbrev pub Gather : List Tree → Type 0
+Gather us = (x q : Telling) (c : Pile) → does gathers x (pushed us (started q ∷ c)) ≡ Some (made (in_row us) ∷ c)
+
+pub passes_row : (us : List Tree) (p : Telling) {ss : List Symbol} {w v : List Tok} {s u : Pile} → Trace (symbol.Mark 2 ∷ ss) w (pushed us (started p ∷ s)) v u → Gather us × Trace ss w (made (in_row us) ∷ s) v u
+passes_row us p {ss = ss} {w = w} {v = v} {s = s} {u = u} trace =
+    let (t, done, rest) = passes_mark 2 build.Row refl trace in
+    let (is, gather) = gathered_all us p s t (next w) done in
+    (gather, subst (λ x. Trace ss w x v u) is rest)
+
+-- Trees that an alternative closes wherever they stand behind a beginning.
+abbrev pub Close : List Slot → Form → List Tree → Type 0
+Close slots form us = (x q : Telling) (c : Pile) → does (closes slots form) x (pushed us (started q ∷ c)) ≡ Some (made (tree form nowhere us) ∷ c)
+
+pub passes_closes : (n : ℕ) (m : Mark) (slots : List Slot) (form : Form) (us : List Tree) (p : Telling) {ss : List Symbol} {w v : List Tok} {s u : Pile}
+    → mark_with n ≡ Some m → rule m ≡ closes slots form → Trace (symbol.Mark n ∷ ss) w (pushed us (started p ∷ s)) v u → Close slots form us × Trace ss w (made (tree form nowhere us) ∷ s) v u
+passes_closes n m slots form us p {ss = ss} {w = w} {v = v} {s = s} {u = u} is does_so trace =
+    let (t, done, rest) = passes_mark n m is trace in
+    let closed_so : closed slots (λ x. Some form) (pushed us (started p ∷ s)) ≡ Some t = subst (λ r. does r (next w) (pushed us (started p ∷ s)) ≡ Some t) does_so done in
+    let (its, told, pile, again) = closed_all slots (λ x. Some form) us p s t closed_so in
+    let same : its ≡ form = some_is (sym told) in
+    (λ x q c. again q c told ∙ ap (λ f. Some (made (tree f nowhere us) ∷ c)) same, subst (λ z. Trace ss w z v u) (pile ∙ ap (λ f. made (tree f nowhere us) ∷ s) same) rest)
 
 pub passes_none : {w v : List Tok} {s t : Pile} → Trace [] w s v t → (w ≡ v) × (s ≡ t)
 passes_none ended = (refl, refl)
