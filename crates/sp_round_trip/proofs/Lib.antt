@@ -1,7 +1,12 @@
+pub mod Leaves
 pub mod Machine
 pub mod Telling
 pub mod Tells
 pub mod Goes
 pub mod Held
-pub mod Shown
 pub mod Closing
+pub mod Shown
+pub mod Singles
+pub mod Chunks
+pub mod Advance
+pub mod Failing
