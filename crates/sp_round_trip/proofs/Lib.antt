@@ -9,4 +9,3 @@ pub mod Shown
 pub mod Singles
 pub mod Chunks
 pub mod Advance
-pub mod Failing
