@@ -5,3 +5,4 @@ pub mod Goes
 pub mod Held
 pub mod Shown
 pub mod Words
+pub mod Levels
