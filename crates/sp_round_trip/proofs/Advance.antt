@@ -5,7 +5,7 @@ use Rattle.std.specs.Int.{bit_at}
 use Rattle.std.proofs.Common.{ℕ, List, [], ◌∷◌, ◌++◌, get_or, Bool, true, false, ◌==◌, Option, Some, None}
 use Rattle.sp_parser.specs.declared.symbol.Symbol.{Symbol}
 use Rattle.sp_parser.specs.declared.symbol.Symbol.TheVariants as symbol
-use Rattle.sp_parser.specs.Grammar.{Take, Nothing, All, takes, CLOSE, GREATER}
+use Rattle.sp_parser.specs.Grammar.{Take, Nothing, All, takes, CLOSE, GREATER, SECOND}
 use Rattle.sp_grammar.specs.declared.terminals.Terminal.{Terminal}
 use Rattle.sp_grammar.specs.declared.marks.Mark.{Mark}
 use Rattle.sp_grammar.specs.Marks.{mark_with}
@@ -17,11 +17,11 @@ use Rattle.sp_ast.specs.declared.forms.Form.{Form}
 use Rattle.sp_ast.specs.declared.words.IntWord.TheVariants as integer
 use Rattle.sp_ast.specs.declared.words.HookName.TheVariants as hook_name
 use Rattle.sp_build.specs.declared.groups.Slot.{Slot}
-use Rattle.sp_build.specs.declared.groups.Slot.TheVariants.{Part as slot_part, Several as several}
 use Rattle.sp_build.specs.Rules.{Leaf, always, by_name, by_string, by_bytes, by_regex, by_number, by_integer, by_event, Rule, begins, leaves_out, takes as takes_leaf, gathers, closes, joins, wraps, rule}
 use Rattle.sp_print.specs.declared.layouts.Piece.{Piece}
 use Rattle.sp_print.specs.declared.layouts.Piece.TheVariants as piece
 use Rattle.sp_print.specs.Layouts.{layout}
+use Rattle.sp_round_trip.proofs.Closing.{are_parts}
 use Rattle.sp_round_trip.proofs.Singles.{kind_for}
 use Rattle.sp_round_trip.proofs.Shown.{Yield, one, optional, left_out, in_row, arguments, hooks, Manner, plain, expression, manner_of, avoided, is_kept, level_part}
 use Rattle.sp_round_trip.proofs.Chunks.{Chunk, word, tree, built, is_new, node_chunk, is_token, laid_as, ends_as, row_chunks}
@@ -101,18 +101,13 @@ is_all _ = false
 
 -- a kind that is expected as it stands, and not what closes a list of types
 abbrev pub is_itself : ℕ → Bool
-is_itself e = is_all (takes e e)
+is_itself e = is_all (takes e e) && not (is_taken (takes e SECOND))
 
 -- a tree that is always the same, and the token that it is written as, if any
 abbrev pub always_moved : Form → List Piece → Option ℕ → State → Move
 always_moved form [] coming σ = stays (add (node_chunk form) σ)
 always_moved form (piece.Word k ∷ []) (Some e) σ = if is_token k e && is_itself e then eats (add (node_chunk form) σ) else stuck
 always_moved form _ coming σ = stuck
-
-abbrev pub are_parts : List Slot → Bool
-are_parts [] = true
-are_parts (slot_part sort ∷ slots) = are_parts slots
-are_parts (several g ∷ slots) = false
 
 -- whether a chunk is one tree
 abbrev pub is_one : Chunk → Bool

@@ -9,3 +9,5 @@ pub mod Shown
 pub mod Singles
 pub mod Chunks
 pub mod Advance
+pub mod Words
+pub mod Levels
