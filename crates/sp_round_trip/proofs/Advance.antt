@@ -1,32 +1,29 @@
 -- What the symbols of a production read, found by going over them, and the test that each production's trees are written
 -- as its part's trees are.
-use Rattle.std.specs.Prelude.{length, not, nat_lt, ◌&&◌, ◌||◌, if◌then◌else◌}
+use Rattle.std.specs.Prelude.{not, nat_lt, ◌&&◌, ◌||◌, if◌then◌else◌}
 use Rattle.std.specs.Int.{bit_at}
-use Rattle.std.proofs.Common.{◌≡◌, ℕ, zero, suc, List, [], ◌∷◌, ◌++◌, map, get_or, Bool, true, false, ◌==◌, Option, Some, None, refl}
+use Rattle.std.proofs.Common.{ℕ, List, [], ◌∷◌, ◌++◌, get_or, Bool, true, false, ◌==◌, Option, Some, None}
 use Rattle.sp_parser.specs.declared.symbol.Symbol.{Symbol}
 use Rattle.sp_parser.specs.declared.symbol.Symbol.TheVariants as symbol
-use Rattle.sp_parser.specs.Grammar.{Take, Nothing, First, All, takes, CLOSE, GREATER}
+use Rattle.sp_parser.specs.Grammar.{Take, Nothing, All, takes, CLOSE, GREATER, SECOND}
 use Rattle.sp_grammar.specs.declared.terminals.Terminal.{Terminal}
-use Rattle.sp_grammar.specs.declared.terminals.Terminal.TheVariants as token
 use Rattle.sp_grammar.specs.declared.marks.Mark.{Mark}
 use Rattle.sp_grammar.specs.Marks.{mark_with}
 use Rattle.sp_grammar.specs.Sets.{sets}
 use Rattle.sp_grammar.specs.Terminals.{terminal_number}
-use Rattle.sp_grammar.specs.Own.{own}
 use Rattle.sp_grammar.specs.Written.{Part, part_number}
-use Rattle.sp_grammar.proofs.Spans.{every_production}
 use Rattle.sp_runs.specs.Kinds.{number_of, terminal_of}
 use Rattle.sp_ast.specs.declared.forms.Form.{Form}
 use Rattle.sp_ast.specs.declared.words.IntWord.TheVariants as integer
 use Rattle.sp_ast.specs.declared.words.HookName.TheVariants as hook_name
 use Rattle.sp_build.specs.declared.groups.Slot.{Slot}
-use Rattle.sp_build.specs.declared.groups.Slot.TheVariants.{Part as slot_part, Several as several}
-use Rattle.sp_build.specs.Rules.{Leaf, always, by_name, by_string, by_bytes, by_regex, by_number, by_integer, by_event, Rule, begins, leaves_out, takes as takes_leaf, gathers, closes, closes_integer, closes_attribute, encloses, joins, wraps, rule}
+use Rattle.sp_build.specs.Rules.{Leaf, always, by_name, by_string, by_bytes, by_regex, by_number, by_integer, by_event, Rule, begins, leaves_out, takes as takes_leaf, gathers, closes, joins, wraps, rule}
 use Rattle.sp_print.specs.declared.layouts.Piece.{Piece}
 use Rattle.sp_print.specs.declared.layouts.Piece.TheVariants as piece
 use Rattle.sp_print.specs.Layouts.{layout}
+use Rattle.sp_round_trip.proofs.Closing.{are_parts}
 use Rattle.sp_round_trip.proofs.Singles.{kind_for}
-use Rattle.sp_round_trip.proofs.Shown.{Yield, one, optional, left_out, listed, followed, in_row, arguments, hooks, silent, Manner, plain, expression, other, manner_of, avoided, is_kept, level_part}
+use Rattle.sp_round_trip.proofs.Shown.{Yield, one, optional, left_out, in_row, arguments, hooks, Manner, plain, expression, manner_of, avoided, is_kept, level_part}
 use Rattle.sp_round_trip.proofs.Chunks.{Chunk, word, tree, built, is_new, node_chunk, is_token, laid_as, ends_as, row_chunks}
 
 -- whether these symbols can read nothing
@@ -98,16 +95,19 @@ leaf_chunk (by_number form) = node_chunk (form 0)
 leaf_chunk (by_integer form) = node_chunk (form integer.Uint8)
 leaf_chunk (by_event form) = node_chunk (form hook_name.Init)
 
+abbrev pub is_all : Take → Bool
+is_all All = true
+is_all _ = false
+
+-- a kind that is expected as it stands, and not what closes a list of types
+abbrev pub is_itself : ℕ → Bool
+is_itself e = is_all (takes e e) && not (is_taken (takes e SECOND))
+
 -- a tree that is always the same, and the token that it is written as, if any
 abbrev pub always_moved : Form → List Piece → Option ℕ → State → Move
 always_moved form [] coming σ = stays (add (node_chunk form) σ)
-always_moved form (piece.Word k ∷ []) (Some e) σ = if is_token k e then eats (add (node_chunk form) σ) else stuck
+always_moved form (piece.Word k ∷ []) (Some e) σ = if is_token k e && is_itself e then eats (add (node_chunk form) σ) else stuck
 always_moved form _ coming σ = stuck
-
-abbrev pub are_parts : List Slot → Bool
-are_parts [] = true
-are_parts (slot_part sort ∷ slots) = are_parts slots
-are_parts (several g ∷ slots) = false
 
 -- whether a chunk is one tree
 abbrev pub is_one : Chunk → Bool
@@ -152,7 +152,7 @@ abbrev pub move : Rule → Option ℕ → State → Move
 move begins coming σ = stays ([] ∷ σ)
 move leaves_out coming σ = stays (add (tree left_out) σ)
 move (takes_leaf (always form)) coming σ = always_moved form (layout form) coming σ
-move (takes_leaf l) (Some e) σ = eats (add (leaf_chunk l) σ)
+move (takes_leaf l) (Some e) σ = if is_itself e then eats (add (leaf_chunk l) σ) else stuck
 move gathers coming (cs ∷ ds ∷ σ) = row_moved (row_chunks cs) ds σ
 move (closes slots form) coming (cs ∷ ds ∷ σ) = if is_laid form cs then stays ((ds ++ node_chunk form ∷ []) ∷ σ) else stuck
 move (joins slots form) coming (cs ∷ σ) = if are_parts slots && one_each cs slots && is_laid form cs then stays ((node_chunk form ∷ []) ∷ σ) else stuck
@@ -172,10 +172,6 @@ yield_of _ = None
 -- the number of the token as which one is written: where a list of types closes, a `>`
 abbrev pub shown_number : ℕ → ℕ
 shown_number e = if e == CLOSE then GREATER else e
-
-abbrev pub is_all : Take → Bool
-is_all All = true
-is_all _ = false
 
 -- whether it is the token of its number
 abbrev pub is_read : ℕ → Bool

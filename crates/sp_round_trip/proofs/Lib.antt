@@ -7,8 +7,10 @@ pub mod Telling
 pub mod Tells
 pub mod Goes
 pub mod Held
+pub mod Closing
 pub mod Shown
 pub mod Singles
 pub mod Chunks
 pub mod Advance
-pub mod Failing
+pub mod Words
+pub mod Levels

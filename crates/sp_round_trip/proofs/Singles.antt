@@ -6,9 +6,7 @@ use Rattle.sp_lex.specs.declared.kinds.Mark.TheVariants as mark
 use Rattle.sp_lex.specs.declared.kinds.Property.TheVariants as property
 use Rattle.sp_lex.specs.declared.kinds.TokenKind.{TokenKind}
 use Rattle.sp_lex.specs.declared.kinds.TokenKind.TheVariants as token
-use Rattle.sp_grammar.specs.declared.terminals.Terminal.TheVariants as terminal
-use Rattle.sp_grammar.specs.Terminals.{terminal_number}
-use Rattle.sp_runs.specs.Kinds.{keyword_terminal, number_of, terminal_of}
+use Rattle.sp_runs.specs.Kinds.{number_of, terminal_of}
 
 -- the kinds in the order of the terminals; a name where a terminal is no kind or several
 abbrev all_kinds : List TokenKind
