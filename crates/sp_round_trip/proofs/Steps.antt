@@ -18,10 +18,11 @@ use Rattle.sp_round_trip.specs.Bare.{nowhere}
 use Rattle.sp_round_trip.specs.Told.{Telling}
 use Rattle.sp_round_trip.proofs.Leaves.{some_is}
 use Rattle.sp_round_trip.proofs.Closing.{gathered_all, closed_all}
+use Rattle.sp_build.specs.Groups.{is_node}
 use Rattle.sp_build.specs.Rules.{rule, gathers, closes}
 use Rattle.sp_round_trip.proofs.Held.{Pile, started, made, closed, does}
 use Rattle.sp_round_trip.proofs.Goes.{Tok, entire, number, next, coming, pushed, Goes, nothing, part}
-use Rattle.sp_round_trip.proofs.Shown.{Claim, ClaimAs, Yield, Fits, Shows, plain, manner_of, Trace, ended, token_passed, half_passed, mark_passed, part_passed}
+use Rattle.sp_round_trip.proofs.Shown.{Claim, ClaimAs, Yield, Fits, Shows, IsOneNode, MayFollow, Avoids, avoided, is_kept, plain, one, manner_of, Trace, ended, token_passed, half_passed, mark_passed, part_passed}
 
 never_first : (b : Bool) → cond b All Nothing ≡ First → ⊥
 never_first true h = absurd cc
@@ -55,6 +56,15 @@ pub passes_trees : (n : ℕ) (y : Yield) {ss : List Symbol} {w v : List Tok} {s 
     → (u : List Tok) × (ts : List Tree) × Fits y ts × Shows n y ts (coming u) × Trace ss u (pushed ts s) v z
 passes_trees n y {ss = ss} {v = v} {s = s} {z = z} is (part_passed {w = w} {u = u} {t = t} claim trace) =
     let (ts, pile, fits, shows) = subst (λ m. ClaimAs m n w s t u) is claim in (u, ts, fits, shows, subst (λ p. Trace ss u p v z) pile trace)
+
+one_node : (n level : ℕ) {ss : List Symbol} {u v : List Tok} {s z : Pile} (ts : List Tree) → IsOneNode ts → Shows n (one level) ts (coming u) → Trace ss u (pushed ts s) v z
+    → (x : Tree) × (is_node x ≡ true) × Shows n (one level) (x ∷ []) (coming u) × Trace ss u (made x ∷ s) v z
+one_node n level {ss = ss} {u = u} {v = v} {s = s} {z = z} ts (x, same, node) shows trace = (x, node, subst (λ xs. Shows n (one level) xs (coming u)) same shows, subst (λ xs. Trace ss u (pushed xs s) v z) same trace)
+
+-- a part that is one tree
+pub passes_one : (n level : ℕ) {ss : List Symbol} {w v : List Tok} {s z : Pile} → manner_of n ≡ plain (one level) → Trace (symbol.Nonterminal n ∷ ss) w s v z
+    → (u : List Tok) × (x : Tree) × (is_node x ≡ true) × Shows n (one level) (x ∷ []) (coming u) × Trace ss u (made x ∷ s) v z
+passes_one n level is trace = let (u, ts, fits, shows, rest) = passes_trees n (one level) is trace in let (x, node, shows_one, behind) = one_node n level ts fits shows rest in (u, x, node, shows_one, behind)
 
 -- the beginning of a tree
 pub passes_begin : {ss : List Symbol} {w v : List Tok} {s u : Pile} → Trace (symbol.Mark 0 ∷ ss) w s v u → Trace ss w (started (next w) ∷ s) v u
@@ -99,3 +109,8 @@ beside (part p may reads nothing) rest = part p may reads rest
 -- an alternative that may stand before anything
 pub anywhere : (n p : ℕ) (w : List Tok) → p < length (productions_of own n) → (production_of own n p).avoid ≡ 0 → Applies own n p (map number w)
 anywhere n p w below free = record { below = below; allowed = subst (λ a. bit_at a (ahead (map number w)) ≡ 0) (sym free) (bit_at-zero (ahead (map number w))) }
+
+-- what may come behind a part behind which no `else` that came before may come
+pub unavoided : (n came : ℕ) (v : List Tok) → is_kept n ≡ false → MayFollow n came v → Avoids (avoided n) v
+unavoided n came v never (inl free) = free
+unavoided n came v never (inr (kept, else_came)) = absurd (let q : false ≡ true = sym never ∙ kept in cc)
