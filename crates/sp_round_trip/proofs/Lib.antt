@@ -1,3 +1,4 @@
+pub mod FieldHooks
 pub mod EnumLabels
 pub mod Parameters
 pub mod Semicolons
