@@ -1,3 +1,4 @@
+pub mod IntegerBases
 pub mod FieldHooks
 pub mod EnumLabels
 pub mod Parameters

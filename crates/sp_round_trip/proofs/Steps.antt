@@ -1,27 +1,37 @@
 -- The first step of a trace, and of a reading.
-use Rattle.std.specs.Prelude.{◌<◌, length, cond}
+use Rattle.std.specs.Prelude.{◌<◌, length, cond, option_map}
 use Rattle.std.specs.Int.{bit_at}
-use Rattle.std.proofs.Common.{◌≡◌, ℕ, List, [], ◌∷◌, map, Bool, true, false, ◌==◌, Some, refl, sym, ◌∙◌, ap, subst, inl, inr}
+use Rattle.std.proofs.Common.{◌≡◌, ℕ, List, [], ◌∷◌, map, Bool, true, false, ◌==◌, Option, Some, None, refl, sym, ◌∙◌, ap, subst, inl, inr}
 use Rattle.std.proofs.lemmas.Bool.{cases_Bool, eqb-true, cond-false}
 use Rattle.std.proofs.lemmas.Nat.Bits.{bit_at-zero}
 use Rattle.sp_parser.specs.declared.symbol.Symbol.{Symbol}
 use Rattle.sp_parser.specs.declared.symbol.Symbol.TheVariants as symbol
-use Rattle.sp_parser.specs.Grammar.{takes, First, All, Nothing, CLOSE, Applies, production_of, productions_of, ahead}
+use Rattle.sp_parser.specs.Grammar.{takes, First, All, Nothing, CLOSE, SECOND, Applies, production_of, productions_of, ahead}
 use Rattle.sp_grammar.specs.declared.marks.Mark.{Mark}
 use Rattle.sp_grammar.specs.Marks.{mark_with}
 use Rattle.sp_grammar.specs.Own.{own}
 use Rattle.sp_grammar.specs.declared.marks.Mark.TheVariants as build
 use Rattle.sp_ast.specs.declared.forms.Form.{Form}
+use Rattle.sp_ast.specs.declared.forms.Form.TheVariants as form_is
+use Rattle.sp_lex.specs.declared.kinds.TokenKind.{TokenKind}
+use Rattle.sp_print.specs.Words.{Word, name}
+use Rattle.sp_print.specs.Words.{number as numeral}
+use Rattle.sp_printed_words.specs.Sound.{read_as}
+use Rattle.sp_round_trip.proofs.Machine.{form_told}
 use Rattle.sp_ast.specs.Trees.{Tree, absent, tree, in_row}
+use Rattle.sp_ast.specs.declared.words.IntWord.{IntWord}
+use Rattle.sp_ast.specs.declared.words.AttributeName.{AttributeName}
+use Rattle.sp_build.specs.Tokens.{integer_of, attribute_of}
+use Rattle.sp_build.specs.declared.groups.Group.{Group}
 use Rattle.sp_build.specs.declared.groups.Slot.{Slot}
 use Rattle.sp_round_trip.specs.Bare.{nowhere}
 use Rattle.sp_round_trip.specs.Told.{Telling}
-use Rattle.sp_round_trip.proofs.Leaves.{some_is}
-use Rattle.sp_round_trip.proofs.Closing.{gathered_all, closed_all}
+use Rattle.sp_round_trip.proofs.Leaves.{some_is, mapped}
+use Rattle.sp_round_trip.proofs.Closing.{gathered_all, closed_all, wrapped}
 use Rattle.sp_build.specs.Groups.{is_node}
-use Rattle.sp_build.specs.Rules.{rule, gathers, closes}
-use Rattle.sp_round_trip.proofs.Held.{Pile, started, made, closed, does}
-use Rattle.sp_round_trip.proofs.Goes.{Tok, entire, number, next, coming, pushed, Goes, nothing, part}
+use Rattle.sp_build.specs.Rules.{Leaf, by_name, by_number, rule, gathers, closes, closes_integer, closes_attribute, wraps, takes as takes_leaf}
+use Rattle.sp_round_trip.proofs.Held.{Pile, started, made, put_if, closed, does}
+use Rattle.sp_round_trip.proofs.Goes.{Tok, entire, half, tells, number, next, coming, pushed, Goes, nothing, part}
 use Rattle.sp_round_trip.proofs.Shown.{Claim, ClaimAs, Yield, Fits, Shows, IsOneNode, MayFollow, Avoids, avoided, is_kept, plain, one, manner_of, Trace, ended, token_passed, half_passed, mark_passed, part_passed}
 
 never_first : (b : Bool) → cond b All Nothing ≡ First → ⊥
@@ -86,6 +96,49 @@ passes_row us p {ss = ss} {w = w} {v = v} {s = s} {u = u} trace =
     let (is, gather) = gathered_all us p s t (next w) done in
     (gather, subst (λ x. Trace ss w x v u) is rest)
 
+was_put : (o : Option Form) (s t : Pile) → put_if o s ≡ Some t → (form : Form) × (o ≡ Some form) × (t ≡ made (tree form nowhere []) ∷ s)
+was_put None s t h = absurd (let q : None ≡ Some t = h in cc)
+was_put (Some form) s t h = (form, refl, sym (some_is h))
+
+whole_word : (e : ℕ) (x : Tok) → takes e SECOND ≡ Nothing → takes e (number x) ≡ All → (y : Word) × (x ≡ entire y)
+whole_word e (entire y) second taken = (y, refl)
+whole_word e (half y) second taken = absurd (let q : Nothing ≡ All = sym second ∙ taken in cc)
+
+name_told : (k : TokenKind) (x : Word) (form : Form) → form_told (by_name (λ y. form_is.Name y)) k x ≡ Some form → (y : List ℕ) × (x ≡ name y) × (form ≡ form_is.Name y)
+name_told k (name y) form h = (y, refl, sym (some_is h))
+name_told k x form h = absurd cc
+
+number_told : (k : TokenKind) (x : Word) (form : Form) → form_told (by_number (λ n. form_is.Number n)) k x ≡ Some form → (n : ℕ) × (form ≡ form_is.Number n)
+number_told k (numeral n) form h = (n, sym (some_is h))
+number_told k x form h = absurd cc
+
+-- a tree of one token, by the word that told it
+pub passes_leaf : (n e : ℕ) (m : Mark) (l : Leaf) {ss : List Symbol} {w v : List Tok} {s z : Pile} → mark_with n ≡ Some m → rule m ≡ takes_leaf l → (e == CLOSE) ≡ false → takes e SECOND ≡ Nothing → Trace (symbol.Mark n ∷ symbol.Terminal e ∷ ss) w s v z
+    → (x : Word) × (form : Form) × (takes e (number (entire x)) ≡ All) × (form_told l (read_as x) x ≡ Some form) × (rest : List Tok) × Trace ss rest (made (tree form nowhere []) ∷ s) v z
+passes_leaf n e m l {ss = ss} {w = w} {v = v} {s = s} {z = z} is does_so itself second trace =
+    let (t, done, behind) = passes_mark n m is trace in
+    let (x, rest, begins_so, taken, ends) = passes_token e itself behind in
+    let took : put_if (form_told l (tells x).kind (tells x).word) s ≡ Some t = subst (λ y. put_if (form_told l (next y).kind (next y).word) s ≡ Some t) begins_so (subst (λ r. does r (next w) s ≡ Some t) does_so done) in
+    let (word, is_word) = whole_word e x second taken in
+    let told = subst (λ y. put_if (form_told l (tells y).kind (tells y).word) s ≡ Some t) is_word took in
+    let (form, told_so, pile) = was_put (form_told l (read_as word) word) s t told in
+    (word, form, subst (λ y. takes e (number y) ≡ All) is_word taken, told_so, rest, subst (λ p. Trace ss rest p v z) pile ends)
+
+-- the tree of a name, of a number and of an event
+pub passes_name : {ss : List Symbol} {w v : List Tok} {s z : Pile} → Trace (symbol.Mark 1 ∷ symbol.Terminal 1 ∷ ss) w s v z
+    → (x : List ℕ) × (takes 1 (number (entire (name x))) ≡ All) × (rest : List Tok) × Trace ss rest (made (tree (form_is.Name x) nowhere []) ∷ s) v z
+passes_name {ss = ss} {v = v} {s = s} {z = z} trace =
+    let (x, form, taken, told, rest, behind) = passes_leaf 1 1 build.Name (by_name (λ y. form_is.Name y)) refl refl refl refl trace in
+    let (y, is, its) = name_told (read_as x) x form told in
+    (y, subst (λ q. takes 1 (number (entire q)) ≡ All) is taken, rest, subst (λ f. Trace ss rest (made (tree f nowhere []) ∷ s) v z) its behind)
+
+pub passes_number : {ss : List Symbol} {w v : List Tok} {s z : Pile} → Trace (symbol.Mark 34 ∷ symbol.Terminal 36 ∷ ss) w s v z
+    → (n : ℕ) × (rest : List Tok) × Trace ss rest (made (tree (form_is.Number n) nowhere []) ∷ s) v z
+passes_number {ss = ss} {v = v} {s = s} {z = z} trace =
+    let (x, form, taken, told, rest, behind) = passes_leaf 34 36 build.Number (by_number (λ n. form_is.Number n)) refl refl refl refl trace in
+    let (n, its) = number_told (read_as x) x form told in
+    (n, rest, subst (λ f. Trace ss rest (made (tree f nowhere []) ∷ s) v z) its behind)
+
 -- Trees that an alternative closes wherever they stand behind a beginning.
 abbrev pub Close : List Slot → Form → List Tree → Type 0
 Close slots form us = (x q : Telling) (c : Pile) → does (closes slots form) x (pushed us (started q ∷ c)) ≡ Some (made (tree form nowhere us) ∷ c)
@@ -109,6 +162,39 @@ beside (part p may reads nothing) rest = part p may reads rest
 -- an alternative that may stand before anything
 pub anywhere : (n p : ℕ) (w : List Tok) → p < length (productions_of own n) → (production_of own n p).avoid ≡ 0 → Applies own n p (map number w)
 anywhere n p w below free = record { below = below; allowed = subst (λ a. bit_at a (ahead (map number w)) ≡ 0) (sym free) (bit_at-zero (ahead (map number w))) }
+
+-- a tree that is closed with what the token tells at which it began
+closed_by : {A : Type 0} (slots : List Slot) (tell : Telling → Option A) (form : A → Form) (us : List Tree) (p : Telling) (s t : Pile) → closed slots (λ q. option_map form (tell q)) (pushed us (started p ∷ s)) ≡ Some t
+    → (a : A) × (tell p ≡ Some a) × (t ≡ made (tree (form a) nowhere us) ∷ s) × ((q : Telling) (c : Pile) → tell q ≡ Some a → closed slots (λ x. option_map form (tell x)) (pushed us (started q ∷ c)) ≡ Some (made (tree (form a) nowhere us) ∷ c))
+closed_by slots tell form us p s t h =
+    let (its, told, pile, again) = closed_all slots (λ q. option_map form (tell q)) us p s t h in
+    let (a, tells_so, is) = mapped form (tell p) its told in
+    (a, tells_so, pile ∙ ap (λ f. made (tree f nowhere us) ∷ s) (sym is), λ q c also. again q c (ap (λ o. option_map form o) also ∙ ap Some is) ∙ ap (λ f. Some (made (tree f nowhere us) ∷ c)) (sym is))
+
+abbrev pub CloseBy : {A : Type 0} → List Slot → (Telling → Option A) → (A → Form) → List Tree → A → Type 0
+CloseBy slots tell form us a = (q : Telling) (c : Pile) → tell q ≡ Some a → closed slots (λ x. option_map form (tell x)) (pushed us (started q ∷ c)) ≡ Some (made (tree (form a) nowhere us) ∷ c)
+
+pub passes_integer : (n : ℕ) (m : Mark) (slots : List Slot) (form : IntWord → Form) (us : List Tree) (p : Telling) {ss : List Symbol} {w v : List Tok} {s u : Pile}
+    → mark_with n ≡ Some m → rule m ≡ closes_integer slots form → Trace (symbol.Mark n ∷ ss) w (pushed us (started p ∷ s)) v u
+    → (a : IntWord) × CloseBy slots (λ q. integer_of q.kind) form us a × Trace ss w (made (tree (form a) nowhere us) ∷ s) v u
+passes_integer n m slots form us p {ss = ss} {w = w} {v = v} {s = s} {u = u} is does_so trace =
+    let (t, done, rest) = passes_mark n m is trace in
+    let (a, told, pile, again) = closed_by slots (λ q. integer_of q.kind) form us p s t (subst (λ r. does r (next w) (pushed us (started p ∷ s)) ≡ Some t) does_so done) in
+    (a, again, subst (λ z. Trace ss w z v u) pile rest)
+
+pub passes_attribute : (n : ℕ) (m : Mark) (slots : List Slot) (form : AttributeName → Form) (us : List Tree) (p : Telling) {ss : List Symbol} {w v : List Tok} {s u : Pile}
+    → mark_with n ≡ Some m → rule m ≡ closes_attribute slots form → Trace (symbol.Mark n ∷ ss) w (pushed us (started p ∷ s)) v u
+    → (a : AttributeName) × CloseBy slots (λ q. attribute_of q.kind) form us a × Trace ss w (made (tree (form a) nowhere us) ∷ s) v u
+passes_attribute n m slots form us p {ss = ss} {w = w} {v = v} {s = s} {u = u} is does_so trace =
+    let (t, done, rest) = passes_mark n m is trace in
+    let (a, told, pile, again) = closed_by slots (λ q. attribute_of q.kind) form us p s t (subst (λ r. does r (next w) (pushed us (started p ∷ s)) ≡ Some t) does_so done) in
+    (a, again, subst (λ z. Trace ss w z v u) pile rest)
+
+pub passes_wraps : (n : ℕ) (m : Mark) (g : Group) (form : Form) (x : Tree) {ss : List Symbol} {w v : List Tok} {s u : Pile} → mark_with n ≡ Some m → rule m ≡ wraps g form → Trace (symbol.Mark n ∷ ss) w (made x ∷ s) v u
+    → Trace ss w (made (tree form nowhere (x ∷ [])) ∷ s) v u
+passes_wraps n m g form x {ss = ss} {w = w} {v = v} {s = s} {u = u} is does_so trace =
+    let (t, done, rest) = passes_mark n m is trace in
+    subst (λ z. Trace ss w z v u) (wrapped g form x s t (next w) (subst (λ r. does r (next w) (made x ∷ s) ≡ Some t) does_so done)).0 rest
 
 -- what may come behind a part behind which no `else` that came before may come
 pub unavoided : (n came : ℕ) (v : List Tok) → is_kept n ≡ false → MayFollow n came v → Avoids (avoided n) v
