@@ -31,7 +31,7 @@ use Rattle.sp_round_trip.proofs.Closing.{gathered_all, closed_all, wrapped}
 use Rattle.sp_build.specs.Groups.{is_node}
 use Rattle.sp_build.specs.Rules.{Leaf, by_name, by_number, rule, gathers, closes, closes_integer, closes_attribute, wraps, takes as takes_leaf}
 use Rattle.sp_round_trip.proofs.Held.{Pile, started, made, put_if, closed, does}
-use Rattle.sp_round_trip.proofs.Goes.{Tok, entire, half, tells, number, next, coming, pushed, Goes, nothing, part}
+use Rattle.sp_round_trip.proofs.Goes.{Tok, entire, half, tells, number, next, coming, pushed, Goes, nothing, whole, first_half, mark, part}
 use Rattle.sp_round_trip.proofs.Shown.{Claim, ClaimAs, Yield, Fits, Shows, IsOneNode, MayFollow, Avoids, avoided, is_kept, plain, one, manner_of, Trace, ended, token_passed, half_passed, mark_passed, part_passed}
 
 never_first : (b : Bool) → cond b All Nothing ≡ First → ⊥
@@ -158,6 +158,16 @@ passes_none ended = (refl, refl)
 -- a part read, and then what comes behind it
 pub beside : {n : ℕ} {ss : List Symbol} {w u v : List Tok} {s t z : Pile} → Goes (symbol.Nonterminal n ∷ []) w s u t → Goes ss u t v z → Goes (symbol.Nonterminal n ∷ ss) w s v z
 beside (part p may reads nothing) rest = part p may reads rest
+
+pub reads_mark : {n : ℕ} {ss : List Symbol} {w v : List Tok} {s u : Pile} → Goes (symbol.Mark n ∷ ss) w s v u → (t : Pile) × Goes ss w t v u
+reads_mark (mark {t = t} m is done reads) = (t, reads)
+
+pub reads_token : (e : ℕ) {ss : List Symbol} {w v : List Tok} {s t : Pile} → (e == CLOSE) ≡ false → Goes (symbol.Terminal e ∷ ss) w s v t → coming w ≡ e
+reads_token e h (whole {x = x} taken reads) = is_token e x h taken
+reads_token e h (first_half {x = x} taken reads) = absurd (never_first (e == number (entire x)) (sym (taken_by e (number (entire x)) h) ∙ taken))
+
+pub reads_nothing : {w v : List Tok} {s t : Pile} → Goes [] w s v t → w ≡ v
+reads_nothing nothing = refl
 
 -- an alternative that may stand before anything
 pub anywhere : (n p : ℕ) (w : List Tok) → p < length (productions_of own n) → (production_of own n p).avoid ≡ 0 → Applies own n p (map number w)
