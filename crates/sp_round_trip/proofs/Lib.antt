@@ -1,3 +1,4 @@
+pub mod HookPaths
 pub mod Attributes
 pub mod IntegerBases
 pub mod FieldHooks

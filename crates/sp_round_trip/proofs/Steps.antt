@@ -21,15 +21,16 @@ use Rattle.sp_round_trip.proofs.Machine.{form_told}
 use Rattle.sp_ast.specs.Trees.{Tree, absent, tree, in_row}
 use Rattle.sp_ast.specs.declared.words.IntWord.{IntWord}
 use Rattle.sp_ast.specs.declared.words.AttributeName.{AttributeName}
-use Rattle.sp_build.specs.Tokens.{integer_of, attribute_of}
+use Rattle.sp_build.specs.Tokens.{integer_of, attribute_of, hook_name_of}
+use Rattle.sp_lex.specs.declared.kinds.Hook.{Hook}
 use Rattle.sp_build.specs.declared.groups.Group.{Group}
 use Rattle.sp_build.specs.declared.groups.Slot.{Slot}
 use Rattle.sp_round_trip.specs.Bare.{nowhere}
 use Rattle.sp_round_trip.specs.Told.{Telling}
-use Rattle.sp_round_trip.proofs.Leaves.{some_is, mapped}
+use Rattle.sp_round_trip.proofs.Leaves.{some_is, mapped, event_told}
 use Rattle.sp_round_trip.proofs.Closing.{gathered_all, closed_all, wrapped}
 use Rattle.sp_build.specs.Groups.{is_node}
-use Rattle.sp_build.specs.Rules.{Leaf, by_name, by_number, rule, gathers, closes, closes_integer, closes_attribute, wraps, takes as takes_leaf}
+use Rattle.sp_build.specs.Rules.{Leaf, by_name, by_number, by_event, rule, gathers, closes, closes_integer, closes_attribute, wraps, takes as takes_leaf}
 use Rattle.sp_round_trip.proofs.Held.{Pile, started, made, put_if, closed, does}
 use Rattle.sp_round_trip.proofs.Goes.{Tok, entire, half, tells, number, next, coming, pushed, Goes, nothing, whole, first_half, mark, part}
 use Rattle.sp_round_trip.proofs.Shown.{Claim, ClaimAs, Yield, Fits, Shows, IsOneNode, MayFollow, Avoids, avoided, is_kept, plain, one, manner_of, Trace, ended, token_passed, half_passed, mark_passed, part_passed}
@@ -138,6 +139,13 @@ passes_number {ss = ss} {v = v} {s = s} {z = z} trace =
     let (x, form, taken, told, rest, behind) = passes_leaf 34 36 build.Number (by_number (λ n. form_is.Number n)) refl refl refl refl trace in
     let (n, its) = number_told (read_as x) x form told in
     (n, rest, subst (λ f. Trace ss rest (made (tree f nowhere []) ∷ s) v z) its behind)
+
+pub passes_event : {ss : List Symbol} {w v : List Tok} {s z : Pile} → Trace (symbol.Mark 17 ∷ symbol.Terminal 16 ∷ ss) w s v z
+    → (h : Hook) × (rest : List Tok) × Trace ss rest (made (tree (form_is.Event (hook_name_of h)) nowhere []) ∷ s) v z
+passes_event {ss = ss} {v = v} {s = s} {z = z} trace =
+    let (x, form, taken, told, rest, behind) = passes_leaf 17 16 build.Event (by_event (λ h. form_is.Event h)) refl refl refl refl trace in
+    let (h, kind, its) = event_told (read_as x) (λ h. form_is.Event h) x form told in
+    (h, rest, subst (λ f. Trace ss rest (made (tree f nowhere []) ∷ s) v z) (sym its) behind)
 
 -- Trees that an alternative closes wherever they stand behind a beginning.
 abbrev pub Close : List Slot → Form → List Tree → Type 0
