@@ -34,17 +34,17 @@ use Rattle.sp_round_trip.proofs.Steps.{Close, passes_token, passes_begin, passes
 use Rattle.sp_round_trip.proofs.Closing.{pushed_append}
 use Rattle.sp_round_trip.proofs.Words.{before_both}
 
-abbrev named : List ℕ → Tree
+abbrev pub named : List ℕ → Tree
 named x = tree (form_is.Name x) nowhere []
 
-abbrev path_of : List Tree → Tree
+abbrev pub path_of : List Tree → Tree
 path_of xs = tree form_is.Path nowhere xs
 
 abbrev name_slots : List Slot
 name_slots = several names ∷ []
 
 -- what is read behind the names xs of a path: the names ys, and the event e or none
-abbrev Rest : List Tree → List Tree → Tree → Type 0
+abbrev pub Rest : List Tree → List Tree → Tree → Type 0
 Rest xs ys e = (last : Option TokenKind) (v : List Tok) (q : Telling) (c : Pile) → Goes (symbol.Nonterminal 4 ∷ []) (before (chain (written_followed separator.Scope (parts_of (trees ys))) (framed frame.Scope (part_of e)) last) v) (pushed xs (started q ∷ c)) v (made e ∷ made (path_of (xs ++ ys)) ∷ c)
 
 name_again : (xs ys : List Tree) (e : Tree) (x : List ℕ) → takes 1 (number (entire (name x))) ≡ All → Rest (xs ++ named x ∷ []) ys e → Rest xs (named x ∷ ys) e
