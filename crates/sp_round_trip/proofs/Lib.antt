@@ -1,3 +1,4 @@
+pub mod ElseBranches
 pub mod HookDeclarations
 pub mod HookPaths
 pub mod Attributes
