@@ -11,3 +11,5 @@ pub mod Chunks
 pub mod Advance
 pub mod Words
 pub mod Levels
+pub mod Firsts
+pub mod Piles
