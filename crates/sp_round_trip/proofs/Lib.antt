@@ -13,3 +13,4 @@ pub mod Words
 pub mod Levels
 pub mod Firsts
 pub mod Piles
+pub mod Laid
