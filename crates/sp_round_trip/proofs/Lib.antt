@@ -6,3 +6,4 @@ pub mod Held
 pub mod Shown
 pub mod Words
 pub mod Levels
+pub mod Expressions
