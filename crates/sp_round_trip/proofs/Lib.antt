@@ -7,3 +7,5 @@ pub mod Shown
 pub mod Words
 pub mod Levels
 pub mod Expressions
+pub mod Traces
+pub mod Keeping

@@ -1,0 +1,48 @@
+-- What comes first in a trace: a token, a mark, or what is claimed of a part.
+use Rattle.std.specs.Prelude.{nat_lt, ◌||◌}
+use Rattle.std.proofs.Common.{◌≡◌, ℕ, cond, List, [], ◌∷◌, true, false, ◌==◌, Some, refl, ap, sym, ◌∙◌, subst, inl, inr, arith}
+use Rattle.std.proofs.lemmas.Bool.{cases_Bool, ltb-true, ne_eqb}
+use Rattle.sp_parser.specs.declared.symbol.Symbol.{Symbol}
+use Rattle.sp_parser.specs.declared.symbol.Symbol.TheVariants as symbol
+use Rattle.sp_parser.specs.Grammar.{takes, Nothing, First, All, SECOND, GREATER, SHIFT, CLOSE}
+use Rattle.sp_grammar.specs.declared.marks.Mark.{Mark}
+use Rattle.sp_grammar.specs.Marks.{mark_with}
+use Rattle.sp_ast.specs.Trees.{Tree}
+use Rattle.sp_build.specs.Rules.{rule}
+use Rattle.sp_round_trip.proofs.Held.{Pile, made, does}
+use Rattle.sp_round_trip.proofs.Goes.{Tok, entire, number, next}
+use Rattle.sp_round_trip.proofs.Shown.{expression, manner_of, ClaimAs, Claim, Spells, Trace, ended, token_passed, half_passed, mark_passed, part_passed}
+
+pub part_first : {n : ℕ} {ss : List Symbol} {w v : List Tok} {s z : Pile} → Trace (symbol.Nonterminal n ∷ ss) w s v z → (u : List Tok) × (t : Pile) × Claim n w s t u × Trace ss u t v z
+part_first (part_passed {u = u} {t = t} c g) = (u, t, c, g)
+
+-- a mark does what its rule does
+pub mark_first : {n : ℕ} {ss : List Symbol} {w v : List Tok} {s u : Pile} (m : Mark) (t : Pile) → mark_with n ≡ Some m → does (rule m) (next w) s ≡ Some t → Trace (symbol.Mark n ∷ ss) w s v u → Trace ss w t v u
+mark_first {n} {ss} {w} {v} {s} {u} m t is d (mark_passed {t = t'} m' is' d' g) =
+    let same : m' ≡ m = let q : Some m' ≡ Some m = sym is' ∙ is in cc in
+    let d' : does (rule m) (next w) s ≡ Some t' = subst (λ r. does (rule r) (next w) s ≡ Some t') same d' in
+    let e : t' ≡ t = let q : Some t' ≡ Some t = sym d' ∙ d in cc in subst (λ x. Trace ss w x v u) e g
+
+-- nothing takes a half but what closes a list of types
+no_half : (e k : ℕ) → nat_lt e SECOND ≡ true → takes e k ≡ First → ⊥
+no_half e k h t =
+    let below = ltb-true e SECOND h in
+    let n : (e == CLOSE) ≡ false = ne_eqb e CLOSE (λ q. omega (arith, q, below)) in
+    let own : takes e k ≡ cond (e == k) All Nothing = ap (λ c. cond c (cond (k == GREATER || k == SECOND) All (cond (k == SHIFT) First Nothing)) (cond (e == k) All Nothing)) n in
+    elim (cases_Bool (e == k)) [
+      | inl y ↦ let q : All ≡ First = sym (own ∙ ap (λ c. cond c All Nothing) y) ∙ t in absurd cc
+      | inr n ↦ let q : Nothing ≡ First = sym (own ∙ ap (λ c. cond c All Nothing) n) ∙ t in absurd cc
+    ]
+
+pub token_first : {e : ℕ} {ss : List Symbol} {w v : List Tok} {s t : Pile} → nat_lt e SECOND ≡ true → Trace (symbol.Terminal e ∷ ss) w s v t → (x : Tok) × (u : List Tok) × (w ≡ x ∷ u) × (takes e (number x) ≡ All) × Trace ss u s v t
+token_first h (token_passed {x = x} {w = w} k g) = (x, w, refl, k, g)
+token_first {e} h (half_passed {x = x} k g) = absurd (no_half e (number (entire x)) h k)
+
+pub at_end : {w v : List Tok} {s t : Pile} → Trace [] w s v t → (w ≡ v) × (s ≡ t)
+at_end ended = (refl, refl)
+
+-- an expression comes first
+pub expression_first : {n level : ℕ} {ss : List Symbol} {w v : List Tok} {s z : Pile} → manner_of n ≡ expression level → Trace (symbol.Nonterminal n ∷ ss) w s v z → (u : List Tok) × (x : Tree) × Spells x × Trace ss u (made x ∷ s) v z
+expression_first {n} {level} {ss} {w} {v} {s} {z} is g =
+    let h = part_first g in let claim = subst (λ m. ClaimAs m n w s h.1 h.0) is h.2 in
+    (h.0, claim.0, claim.2, subst (λ t. Trace ss h.0 t v z) claim.1 h.3)
