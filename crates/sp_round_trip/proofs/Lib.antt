@@ -1,9 +1,14 @@
+pub mod Leaves
 pub mod Machine
 pub mod Telling
 pub mod Tells
 pub mod Goes
 pub mod Held
+pub mod Closing
 pub mod Shown
+pub mod Singles
+pub mod Chunks
+pub mod Advance
 pub mod Words
 pub mod Levels
 pub mod Expressions
