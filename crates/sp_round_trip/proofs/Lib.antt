@@ -14,3 +14,4 @@ pub mod Levels
 pub mod Expressions
 pub mod Traces
 pub mod Keeping
+pub mod Operands

@@ -17,11 +17,13 @@ pub part_first : {n : ℕ} {ss : List Symbol} {w v : List Tok} {s z : Pile} → 
 part_first (part_passed {u = u} {t = t} c g) = (u, t, c, g)
 
 -- a mark does what its rule does
+pub mark_does : {n : ℕ} {ss : List Symbol} {w v : List Tok} {s u : Pile} (m : Mark) → mark_with n ≡ Some m → Trace (symbol.Mark n ∷ ss) w s v u → (t : Pile) × (does (rule m) (next w) s ≡ Some t) × Trace ss w t v u
+mark_does {w = w} {s = s} m is (mark_passed {t = t} m' is' d g) =
+    let same : m' ≡ m = let q : Some m' ≡ Some m = sym is' ∙ is in cc in (t, subst (λ r. does (rule r) (next w) s ≡ Some t) same d, g)
+
 pub mark_first : {n : ℕ} {ss : List Symbol} {w v : List Tok} {s u : Pile} (m : Mark) (t : Pile) → mark_with n ≡ Some m → does (rule m) (next w) s ≡ Some t → Trace (symbol.Mark n ∷ ss) w s v u → Trace ss w t v u
-mark_first {n} {ss} {w} {v} {s} {u} m t is d (mark_passed {t = t'} m' is' d' g) =
-    let same : m' ≡ m = let q : Some m' ≡ Some m = sym is' ∙ is in cc in
-    let d' : does (rule m) (next w) s ≡ Some t' = subst (λ r. does (rule r) (next w) s ≡ Some t') same d' in
-    let e : t' ≡ t = let q : Some t' ≡ Some t = sym d' ∙ d in cc in subst (λ x. Trace ss w x v u) e g
+mark_first {ss = ss} {w = w} {v = v} {u = u} m t is d g =
+    let h = mark_does m is g in let e : h.0 ≡ t = let q : Some h.0 ≡ Some t = sym h.1 ∙ d in cc in subst (λ x. Trace ss w x v u) e h.2
 
 -- nothing takes a half but what closes a list of types
 no_half : (e k : ℕ) → nat_lt e SECOND ≡ true → takes e k ≡ First → ⊥
