@@ -6,12 +6,15 @@ use Rattle.sp_parser.specs.declared.symbol.Symbol.{Symbol}
 use Rattle.sp_parser.specs.declared.symbol.Symbol.TheVariants as symbol
 use Rattle.sp_parser.specs.Grammar.{takes, Nothing, First, All, SECOND, GREATER, SHIFT, CLOSE}
 use Rattle.sp_grammar.specs.declared.marks.Mark.{Mark}
-use Rattle.sp_grammar.specs.Marks.{mark_with}
-use Rattle.sp_ast.specs.Trees.{Tree}
-use Rattle.sp_build.specs.Rules.{rule}
-use Rattle.sp_round_trip.proofs.Held.{Pile, made, does}
-use Rattle.sp_round_trip.proofs.Goes.{Tok, entire, number, next}
-use Rattle.sp_round_trip.proofs.Shown.{expression, manner_of, ClaimAs, Claim, Spells, Trace, ended, token_passed, half_passed, mark_passed, part_passed}
+use Rattle.sp_grammar.specs.declared.marks.Mark.TheVariants as build
+use Rattle.sp_grammar.specs.Marks.{mark_with, mark_number}
+use Rattle.sp_ast.specs.Trees.{Tree, in_row}
+use Rattle.sp_build.specs.Rules.{rule, gathers}
+use Rattle.sp_round_trip.specs.Told.{Telling}
+use Rattle.sp_round_trip.proofs.Held.{Pile, started, made, does}
+use Rattle.sp_round_trip.proofs.Goes.{Tok, entire, number, next, coming, pushed}
+use Rattle.sp_round_trip.proofs.Closing.{gathered_all}
+use Rattle.sp_round_trip.proofs.Shown.{Yield, expression, plain, manner_of, Fits, Shows, ClaimAs, Claim, Spells, Trace, ended, token_passed, half_passed, mark_passed, part_passed}
 
 pub part_first : {n : ℕ} {ss : List Symbol} {w v : List Tok} {s z : Pile} → Trace (symbol.Nonterminal n ∷ ss) w s v z → (u : List Tok) × (t : Pile) × Claim n w s t u × Trace ss u t v z
 part_first (part_passed {u = u} {t = t} c g) = (u, t, c, g)
@@ -48,3 +51,16 @@ pub expression_first : {n level : ℕ} {ss : List Symbol} {w v : List Tok} {s z 
 expression_first {n} {level} {ss} {w} {v} {s} {z} is g =
     let h = part_first g in let claim = subst (λ m. ClaimAs m n w s h.1 h.0) is h.2 in
     (h.0, claim.0, claim.2, subst (λ t. Trace ss h.0 t v z) claim.1 h.3)
+
+-- trees that are written so come first
+pub plain_first : {n : ℕ} {y : Yield} {ss : List Symbol} {w v : List Tok} {s z : Pile} → manner_of n ≡ plain y → Trace (symbol.Nonterminal n ∷ ss) w s v z → (u : List Tok) × (ts : List Tree) × Fits y ts × Shows n y ts (coming u) × Trace ss u (pushed ts s) v z
+plain_first {n} {y} {ss} {w} {v} {s} {z} is g =
+    let (u, t, claim, rest) = part_first g in
+    let (ts, all, fit, shows) = subst (λ m. ClaimAs m n w s t u) is claim in (u, ts, fit, shows, subst (λ x. Trace ss u x v z) all rest)
+
+-- trees since one began are gathered in a row
+abbrev pub Gathers : List Tree → Type 0
+Gathers ts = (p q : Telling) (s : Pile) → does gathers p (pushed ts (started q ∷ s)) ≡ Some (made (in_row ts) ∷ s)
+
+pub row_first : {ss : List Symbol} {w v : List Tok} {s z : Pile} (ts : List Tree) (p : Telling) → Trace (symbol.Mark (mark_number build.Row) ∷ ss) w (pushed ts (started p ∷ s)) v z → Gathers ts × Trace ss w (made (in_row ts) ∷ s) v z
+row_first {ss} {w} {v} {s} {z} ts p g = let (t, d, rest) = mark_does build.Row refl g in let (is, again) = gathered_all ts p s t (next w) d in (again, subst (λ x. Trace ss w x v z) is rest)
