@@ -15,3 +15,4 @@ pub mod Expressions
 pub mod Traces
 pub mod Keeping
 pub mod Operands
+pub mod News

@@ -14,7 +14,7 @@ use Rattle.sp_round_trip.specs.Told.{Telling}
 use Rattle.sp_round_trip.proofs.Held.{Pile, started, made, does}
 use Rattle.sp_round_trip.proofs.Goes.{Tok, entire, number, next, coming, pushed}
 use Rattle.sp_round_trip.proofs.Closing.{gathered_all}
-use Rattle.sp_round_trip.proofs.Shown.{Yield, expression, plain, manner_of, Fits, Shows, ClaimAs, Claim, Spells, Trace, ended, token_passed, half_passed, mark_passed, part_passed}
+use Rattle.sp_round_trip.proofs.Shown.{Yield, one, expression, plain, manner_of, Fits, Shows, ClaimAs, Claim, Spells, Trace, ended, token_passed, half_passed, mark_passed, part_passed}
 
 pub part_first : {n : ℕ} {ss : List Symbol} {w v : List Tok} {s z : Pile} → Trace (symbol.Nonterminal n ∷ ss) w s v z → (u : List Tok) × (t : Pile) × Claim n w s t u × Trace ss u t v z
 part_first (part_passed {u = u} {t = t} c g) = (u, t, c, g)
@@ -57,6 +57,12 @@ pub plain_first : {n : ℕ} {y : Yield} {ss : List Symbol} {w v : List Tok} {s z
 plain_first {n} {y} {ss} {w} {v} {s} {z} is g =
     let (u, t, claim, rest) = part_first g in
     let (ts, all, fit, shows) = subst (λ m. ClaimAs m n w s t u) is claim in (u, ts, fit, shows, subst (λ x. Trace ss u x v z) all rest)
+
+-- one tree comes first
+pub one_first : {n level : ℕ} {ss : List Symbol} {w v : List Tok} {s z : Pile} → manner_of n ≡ plain (one level) → Trace (symbol.Nonterminal n ∷ ss) w s v z → (u : List Tok) × (t : Tree) × Shows n (one level) (t ∷ []) (coming u) × Trace ss u (made t ∷ s) v z
+one_first {n} {level} {ss} {w} {v} {s} {z} is g =
+    let (u, ts, fit, shows, rest) = plain_first is g in
+    let (t, all, node) = fit in (u, t, subst (λ xs. Shows n (one level) xs (coming u)) all shows, subst (λ xs. Trace ss u (pushed xs s) v z) all rest)
 
 -- trees since one began are gathered in a row
 abbrev pub Gathers : List Tree → Type 0
