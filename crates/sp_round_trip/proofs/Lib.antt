@@ -16,3 +16,4 @@ pub mod Traces
 pub mod Keeping
 pub mod Operands
 pub mod News
+pub mod TypedNumbers
