@@ -11,6 +11,7 @@ pub mod Goes
 pub mod Held
 pub mod HookDeclarations
 pub mod HookPaths
+pub mod IfStatements
 pub mod IntegerBases
 pub mod Keeping
 pub mod Laid
