@@ -21,3 +21,4 @@ pub mod Tells
 pub mod Traces
 pub mod TypedNumbers
 pub mod Words
+pub mod Sound
