@@ -7,6 +7,7 @@ use Rattle.sp_parser.specs.declared.symbol.Symbol.{Symbol}
 use Rattle.sp_parser.specs.declared.symbol.Symbol.TheVariants as symbol
 use Rattle.sp_parser.specs.Grammar.{Take, Nothing, All, takes, CLOSE, GREATER, SECOND}
 use Rattle.sp_grammar.specs.declared.terminals.Terminal.{Terminal}
+use Rattle.sp_grammar.specs.declared.terminals.Terminal.TheVariants as token
 use Rattle.sp_grammar.specs.declared.marks.Mark.{Mark}
 use Rattle.sp_grammar.specs.Marks.{mark_with}
 use Rattle.sp_grammar.specs.Sets.{sets}
@@ -75,11 +76,17 @@ abbrev pub is_avoided : Option Terminal → Terminal → Bool
 is_avoided None e = false
 is_avoided (Some f) e = terminal_number f == terminal_number e
 
+-- the tokens that parts avoid
+abbrev pub is_watched : Terminal → Bool
+is_watched token.LeftParen = true
+is_watched token.Else = true
+is_watched _ = false
+
 -- whether the part may stand before these symbols
 abbrev pub next_fits : Option Terminal → Guard → ℕ → List Symbol → Bool
 next_fits None guard n rest = true
 next_fits (Some e) guard n rest =
-    not (comes_first (terminal_number e) rest)
+    is_watched e && not (comes_first (terminal_number e) rest)
     && (not (may_be_empty rest) || (is_avoided guard.avoid e && (not guard.kept || (is_kept n && are_marks rest))))
 
 -- chunks for each tree that has begun, the last one first

@@ -32,3 +32,4 @@ pub mod Tells
 pub mod Traces
 pub mod TypedNumbers
 pub mod Words
+pub mod Sound

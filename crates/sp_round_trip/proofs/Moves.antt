@@ -284,7 +284,7 @@ takes_itself e ok = all_taken (parser_takes e e) (and_parts (is_all (parser_take
   all_taken First h = absurd (let q : false ≡ true = h in cc)
   all_taken Nothing h = absurd (let q : false ≡ true = h in cc)
 
-not_second : (e : ℕ) → is_itself e ≡ true → parser_takes e SECOND ≡ Nothing
+pub not_second : (e : ℕ) → is_itself e ≡ true → parser_takes e SECOND ≡ Nothing
 not_second e ok = none_taken (parser_takes e SECOND) (and_parts (is_all (parser_takes e e)) (not (is_taken (parser_takes e SECOND))) ok).1
   where
   none_taken : (t : Take) → not (is_taken t) ≡ true → t ≡ Nothing
@@ -415,3 +415,34 @@ ate (closes slots form) plain n (cs ∷ ds ∷ σ) τ x ok passed e g = not_eats
 ate (joins slots form) plain n (cs ∷ σ) τ x ok passed e g = not_eats (are_parts slots && one_each cs slots && is_laid form cs) ((node_chunk form ∷ []) ∷ σ) τ ok
 ate (wraps k form) plain n (cs ∷ σ) τ x ok passed e g = moved_no_eat (wrapped_last form cs) σ τ ok
 ate r plain n σ τ x ok passed e g = no_eat ok
+
+-- The token that is eaten is no half of another.
+always_itself : (form : Form) (ps : List Piece) (n : ℕ) (σ τ : State) → always_moved form ps (Some n) σ ≡ eats τ → is_itself n ≡ true
+always_itself form (piece.Word k ∷ []) n σ τ ok =
+    (and_parts (is_token k n) (is_itself n) (and_parts (is_token k n && is_itself n) (not (is_new form)) (if_eats (is_token k n && is_itself n && not (is_new form)) (add (node_chunk form) σ) τ ok).0).0).1
+always_itself form [] n σ τ ok = new_eats (is_new form) ok
+  where
+  new_eats : {A : Type 0} (c : Bool) → (if c then stuck else stays (add (node_chunk form) σ)) ≡ eats τ → A
+  new_eats true e = no_eat e
+  new_eats false e = absurd (let q : stays _ ≡ eats _ = e in cc)
+always_itself form (piece.Word k ∷ p ∷ ps) n σ τ ok = no_eat ok
+always_itself form (piece.Own ∷ ps) n σ τ ok = no_eat ok
+always_itself form (piece.All by ∷ ps) n σ τ ok = no_eat ok
+always_itself form (piece.Part p ∷ ps) n σ τ ok = no_eat ok
+
+pub eats_itself : (r : Rule) (n : ℕ) (σ τ : State) → move r (Some n) σ ≡ eats τ → is_itself n ≡ true
+eats_itself (takes (always form)) n σ τ ok = always_itself form (layout form) n σ τ ok
+eats_itself (takes (by_name its)) n σ τ ok = (if_eats (is_itself n) (add (leaf_chunk (by_name its)) σ) τ ok).0
+eats_itself (takes (by_string its)) n σ τ ok = (if_eats (is_itself n) (add (leaf_chunk (by_string its)) σ) τ ok).0
+eats_itself (takes (by_bytes its)) n σ τ ok = (if_eats (is_itself n) (add (leaf_chunk (by_bytes its)) σ) τ ok).0
+eats_itself (takes (by_regex its)) n σ τ ok = (if_eats (is_itself n) (add (leaf_chunk (by_regex its)) σ) τ ok).0
+eats_itself (takes (by_number its)) n σ τ ok = (if_eats (is_itself n) (add (leaf_chunk (by_number its)) σ) τ ok).0
+eats_itself (takes (by_integer its)) n σ τ ok = (if_eats (is_itself n) (add (leaf_chunk (by_integer its)) σ) τ ok).0
+eats_itself (takes (by_event its)) n σ τ ok = (if_eats (is_itself n) (add (leaf_chunk (by_event its)) σ) τ ok).0
+eats_itself begins n σ τ ok = absurd (let q : stays _ ≡ eats _ = ok in cc)
+eats_itself leaves_out n σ τ ok = absurd (let q : stays _ ≡ eats _ = ok in cc)
+eats_itself gathers n (cs ∷ ds ∷ σ) τ ok = row_no_eat (row_chunks cs) ds σ τ ok
+eats_itself (closes slots form) n (cs ∷ ds ∷ σ) τ ok = not_eats (is_laid form cs) (add (node_chunk form) (ds ∷ σ)) τ ok
+eats_itself (joins slots form) n (cs ∷ σ) τ ok = not_eats (are_parts slots && one_each cs slots && is_laid form cs) ((node_chunk form ∷ []) ∷ σ) τ ok
+eats_itself (wraps k form) n (cs ∷ σ) τ ok = moved_no_eat (wrapped_last form cs) σ τ ok
+eats_itself r n σ τ ok = no_eat ok
