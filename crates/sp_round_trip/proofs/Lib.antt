@@ -2,6 +2,7 @@ pub mod Advance
 pub mod Attributes
 pub mod Chunks
 pub mod Closing
+pub mod Declarations
 pub mod ElseBranches
 pub mod EnumLabels
 pub mod Expressions
