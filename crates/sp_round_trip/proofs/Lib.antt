@@ -22,3 +22,5 @@ pub mod Traces
 pub mod TypedNumbers
 pub mod Words
 pub mod Sound
+pub mod Spelled
+pub mod Again
