@@ -17,3 +17,4 @@ pub mod Keeping
 pub mod Operands
 pub mod News
 pub mod TypedNumbers
+pub mod Spelled
