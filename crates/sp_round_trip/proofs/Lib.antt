@@ -18,3 +18,4 @@ pub mod Operands
 pub mod News
 pub mod TypedNumbers
 pub mod Spelled
+pub mod Alternatives
