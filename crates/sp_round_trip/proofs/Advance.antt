@@ -7,6 +7,7 @@ use Rattle.sp_parser.specs.declared.symbol.Symbol.{Symbol}
 use Rattle.sp_parser.specs.declared.symbol.Symbol.TheVariants as symbol
 use Rattle.sp_parser.specs.Grammar.{Take, Nothing, All, takes, CLOSE, GREATER, SECOND}
 use Rattle.sp_grammar.specs.declared.terminals.Terminal.{Terminal}
+use Rattle.sp_grammar.specs.declared.terminals.Terminal.TheVariants as token
 use Rattle.sp_grammar.specs.declared.marks.Mark.{Mark}
 use Rattle.sp_grammar.specs.Marks.{mark_with}
 use Rattle.sp_grammar.specs.Sets.{sets}
@@ -26,12 +27,23 @@ use Rattle.sp_round_trip.proofs.Singles.{kind_for}
 use Rattle.sp_round_trip.proofs.Shown.{Yield, one, optional, left_out, in_row, arguments, hooks, Manner, plain, expression, manner_of, avoided, is_kept, level_part}
 use Rattle.sp_round_trip.proofs.Chunks.{Chunk, word, tree, built, is_new, node_chunk, is_token, laid_as, ends_as, row_chunks}
 
+-- The sets of the table, as they are for the parts of the grammar in its own words: there `Postfix` is an operand, and no
+-- tail of one.
+abbrev pub table_part : ℕ → ℕ
+table_part n = if n == part_number Part.Postfix then part_number Part.Primary else n
+
+abbrev pub begins_with : ℕ → ℕ → Bool
+begins_with e n = bit_at (get_or sets.first (table_part n) 0) e == 1
+
+abbrev pub is_nullable : ℕ → Bool
+is_nullable n = get_or sets.nullable (table_part n) false
+
 -- whether these symbols can read nothing
 abbrev pub may_be_empty : List Symbol → Bool
 may_be_empty [] = true
 may_be_empty (symbol.Terminal e ∷ ss) = false
 may_be_empty (symbol.Mark m ∷ ss) = may_be_empty ss
-may_be_empty (symbol.Nonterminal n ∷ ss) = get_or sets.nullable n false && may_be_empty ss
+may_be_empty (symbol.Nonterminal n ∷ ss) = is_nullable n && may_be_empty ss
 
 abbrev pub is_taken : Take → Bool
 is_taken Nothing = false
@@ -42,7 +54,7 @@ abbrev pub comes_first : ℕ → List Symbol → Bool
 comes_first e [] = false
 comes_first e (symbol.Terminal f ∷ ss) = is_taken (takes f e)
 comes_first e (symbol.Mark m ∷ ss) = comes_first e ss
-comes_first e (symbol.Nonterminal n ∷ ss) = (bit_at (get_or sets.first n 0) e == 1) || (get_or sets.nullable n false && comes_first e ss)
+comes_first e (symbol.Nonterminal n ∷ ss) = begins_with e n || (is_nullable n && comes_first e ss)
 
 -- what may come behind a production: not this token, but an `else` where one came
 pub record Guard : Type 0 where
@@ -64,20 +76,30 @@ abbrev pub is_avoided : Option Terminal → Terminal → Bool
 is_avoided None e = false
 is_avoided (Some f) e = terminal_number f == terminal_number e
 
+-- the tokens that parts avoid
+abbrev pub is_watched : Terminal → Bool
+is_watched token.LeftParen = true
+is_watched token.Else = true
+is_watched _ = false
+
 -- whether the part may stand before these symbols
 abbrev pub next_fits : Option Terminal → Guard → ℕ → List Symbol → Bool
 next_fits None guard n rest = true
 next_fits (Some e) guard n rest =
-    not (comes_first (terminal_number e) rest)
+    is_watched e && not (comes_first (terminal_number e) rest)
     && (not (may_be_empty rest) || (is_avoided guard.avoid e && (not guard.kept || (is_kept n && are_marks rest))))
 
 -- chunks for each tree that has begun, the last one first
 abbrev pub State : Type 0
 State = List (List Chunk)
 
+-- more chunks for the last one
+abbrev pub put_on : List Chunk → State → State
+put_on ds [] = []
+put_on ds (cs ∷ σ) = (cs ++ ds) ∷ σ
+
 abbrev pub add : Chunk → State → State
-add c [] = []
-add c (cs ∷ σ) = (cs ++ c ∷ []) ∷ σ
+add c σ = put_on (c ∷ []) σ
 
 -- what a mark makes of a state, by itself or with the token that comes next
 pub data Move : Type 0 where
@@ -105,8 +127,8 @@ is_itself e = is_all (takes e e) && not (is_taken (takes e SECOND))
 
 -- a tree that is always the same, and the token that it is written as, if any
 abbrev pub always_moved : Form → List Piece → Option ℕ → State → Move
-always_moved form [] coming σ = stays (add (node_chunk form) σ)
-always_moved form (piece.Word k ∷ []) (Some e) σ = if is_token k e && is_itself e then eats (add (node_chunk form) σ) else stuck
+always_moved form [] coming σ = if is_new form then stuck else stays (add (node_chunk form) σ)
+always_moved form (piece.Word k ∷ []) (Some e) σ = if is_token k e && is_itself e && not (is_new form) then eats (add (node_chunk form) σ) else stuck
 always_moved form _ coming σ = stuck
 
 -- whether a chunk is one tree
@@ -130,15 +152,15 @@ one_each _ _ = false
 abbrev pub is_laid : Form → List Chunk → Bool
 is_laid form cs = laid_as form (layout form) cs && not (is_new form)
 
+abbrev pub put_before : Chunk → Option (List Chunk) → Option (List Chunk)
+put_before c None = None
+put_before c (Some cs) = Some (c ∷ cs)
+
 -- the last tree of the chunks is wrapped
 abbrev pub wrapped_last : Form → List Chunk → Option (List Chunk)
 wrapped_last form [] = None
 wrapped_last form (c ∷ []) = if is_one c && is_laid form (c ∷ []) then Some (node_chunk form ∷ []) else None
 wrapped_last form (c ∷ d ∷ cs) = put_before c (wrapped_last form (d ∷ cs))
-  where
-  put_before : Chunk → Option (List Chunk) → Option (List Chunk)
-  put_before c None = None
-  put_before c (Some cs) = Some (c ∷ cs)
 
 abbrev pub moved : Option (List Chunk) → State → Move
 moved None σ = stuck
@@ -146,7 +168,7 @@ moved (Some cs) σ = stays (cs ∷ σ)
 
 abbrev pub row_moved : Option (List Chunk) → List Chunk → State → Move
 row_moved None ds σ = stuck
-row_moved (Some cs) ds σ = stays ((ds ++ cs) ∷ σ)
+row_moved (Some cs) ds σ = stays (put_on cs (ds ∷ σ))
 
 abbrev pub move : Rule → Option ℕ → State → Move
 move begins coming σ = stays ([] ∷ σ)
@@ -154,7 +176,7 @@ move leaves_out coming σ = stays (add (tree left_out) σ)
 move (takes_leaf (always form)) coming σ = always_moved form (layout form) coming σ
 move (takes_leaf l) (Some e) σ = if is_itself e then eats (add (leaf_chunk l) σ) else stuck
 move gathers coming (cs ∷ ds ∷ σ) = row_moved (row_chunks cs) ds σ
-move (closes slots form) coming (cs ∷ ds ∷ σ) = if is_laid form cs then stays ((ds ++ node_chunk form ∷ []) ∷ σ) else stuck
+move (closes slots form) coming (cs ∷ ds ∷ σ) = if is_laid form cs then stays (add (node_chunk form) (ds ∷ σ)) else stuck
 move (joins slots form) coming (cs ∷ σ) = if are_parts slots && one_each cs slots && is_laid form cs then stays ((node_chunk form ∷ []) ∷ σ) else stuck
 move (wraps g form) coming (cs ∷ σ) = moved (wrapped_last form cs) σ
 move _ coming σ = stuck
