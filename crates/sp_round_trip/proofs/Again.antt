@@ -1,8 +1,8 @@
 -- A production whose test holds: what it built can be read again.
-use Rattle.std.specs.Prelude.{length, nat_lt, ◌&&◌, ◌||◌, ◌⊎◌, if◌then◌else◌}
+use Rattle.std.specs.Prelude.{length, nat_lt, ◌&&◌, ◌||◌, ◌⊎◌, ◌<◌, if◌then◌else◌}
 use Rattle.std.specs.Int.{bit_at}
-use Rattle.std.proofs.Common.{◌≡◌, ℕ, List, [], ◌∷◌, ◌++◌, map, Bool, true, false, ◌==◌, Option, Some, None, refl, sym, ◌∙◌, ap, subst, inl, inr}
-use Rattle.std.proofs.lemmas.Bool.{and_parts, or_cases, eqb-true}
+use Rattle.std.proofs.Common.{◌≡◌, ℕ, List, [], ◌∷◌, ◌++◌, map, Bool, true, false, ◌==◌, Option, Some, None, refl, sym, ◌∙◌, ap, subst, inl, inr, arith}
+use Rattle.std.proofs.lemmas.Bool.{and_parts, or_cases, eqb-true, ltb-true}
 use Rattle.std.proofs.lemmas.List.{append-nil}
 use Rattle.std.proofs.lemmas.Nat.Bits.{bit_at-zero}
 use Rattle.sp_parser.specs.declared.symbol.Symbol.{Symbol}
@@ -10,6 +10,8 @@ use Rattle.sp_parser.specs.declared.symbol.Symbol.TheVariants as symbol
 use Rattle.sp_parser.specs.Grammar.{Applies, right, ahead, production_of, productions_of}
 use Rattle.sp_lex.specs.declared.kinds.TokenKind.{TokenKind}
 use Rattle.sp_grammar.specs.declared.terminals.Terminal.TheVariants as token
+use Rattle.sp_grammar.specs.declared.terminals.Terminal.{Terminal}
+use Rattle.sp_grammar.specs.Terminals.{terminal_number}
 use Rattle.sp_grammar.specs.Own.{own}
 use Rattle.sp_grammar.specs.Written.{Part, part_number}
 use Rattle.sp_ast.specs.declared.forms.Form.{Form}
@@ -19,11 +21,11 @@ use Rattle.sp_print.specs.Words.{Word}
 use Rattle.sp_round_trip.specs.Bare.{nowhere}
 use Rattle.sp_round_trip.proofs.Held.{Pile, made}
 use Rattle.sp_round_trip.proofs.Goes.{Tok, number, coming, before, pushed, Goes, nothing, part}
-use Rattle.sp_round_trip.proofs.Shown.{Yield, Manner, plain, expression, manner_of, level_part, Avoids, MayPass, Spells, yielded, Fits, Claim, ClaimAs, Trace}
+use Rattle.sp_round_trip.proofs.Shown.{Yield, Manner, plain, expression, avoided, level_part, Avoids, MayPass, Spells, yielded, Fits, Claim, ClaimAs, Trace}
 use Rattle.sp_round_trip.proofs.Spelled.{spells_of}
 use Rattle.sp_round_trip.proofs.Chunks.{Chunk, built, chunk_words, is_expression, is_new, Split, no_chunk, a_chunk, wrote, ends_as}
 use Rattle.sp_round_trip.proofs.Laid.{ends_again}
-use Rattle.sp_round_trip.proofs.Advance.{State, Guard, guard_of, unguarded, advance, is_yield, is_spelled, is_again}
+use Rattle.sp_round_trip.proofs.Advance.{State, Guard, guard_of, unguarded, advance, is_yield, is_spelled, avoids_only, is_again}
 use Rattle.sp_round_trip.proofs.Piles.{Piled, bottom, above, said, Copies}
 use Rattle.sp_round_trip.proofs.Sound.{Guarded, Onward, sound}
 
@@ -68,9 +70,9 @@ spelled_some n passes (Some ((built level ∷ []) ∷ [])) e = let b = and_parts
 spelled_some n passes o e = absurd (let q : false ≡ true = e in cc)
 
 -- an expression that is left is spelled, if what may come behind it is what its level lets pass
-expression_again : (n p level : ℕ) (guard : Guard) → IsFree n p → (((n == part_number Part.Primary) || (n == part_number (level_part level))) ≡ true) → {w u : List Tok} {s t : Pile}
+expression_again : (n p level : ℕ) (guard : Guard) (w u : List Tok) → IsFree n p → (((n == part_number Part.Primary) || (n == part_number (level_part level))) ≡ true) → {s t : Pile}
     → Applies own n p (map number w) → ((v : List Tok) → MayPass level v → Guarded guard (coming u) v) → Left guard (right own n p) u (built level ∷ []) s t → (x : Tree) × (t ≡ made x ∷ s) × Spells x
-expression_again n p level guard free fits {w = w} {s = s} a may (ts, a_chunk us (form, parts, is, expression_is, not_new, level_is) no_chunk, e, goes) =
+expression_again n p level guard w u free fits {s = s} a may (ts, a_chunk us (form, parts, is, expression_is, not_new, level_is) no_chunk, e, goes) =
     let x : Tree = node form nowhere (trees parts) in
     let all : us ++ [] ≡ x ∷ [] = append-nil us ∙ is in
     let words : (last : Option TokenKind) → chunk_words (built level) us last ++ [] ≡ spelled x last = λ last. append-nil (chunk_words (built level) us last) ∙ ap (λ zs. chunk_words (built level) zs last) is in
@@ -79,5 +81,27 @@ expression_again n p level guard free fits {w = w} {s = s} a may (ts, a_chunk us
     taken_again n p free w a (subst (λ zs. Goes (right own n p) (before (spelled x last) v) c v (pushed zs c)) all
     (subst (λ q. Goes (right own n p) (before q v) c v (pushed (us ++ []) c)) (words last) (goes last v c (may v (subst (λ l. MayPass l v) level_is pass)))))))
 
-spelled_again : (n p level : ℕ) → IsFree n p → manner_of n ≡ expression level → is_again (expression level) n (right own n p) ≡ true → {w u : List Tok} {s t : Pile} → Applies own n p (map number w) → Trace (right own n p) w s u t → ClaimAs (expression level) n w s t u
-spelled_again n p level free is ok a tr = ?
+avoids_it : (o : Option Terminal) (v : List Tok) → avoids_only token.LeftParen o ≡ true → Avoids (Some token.LeftParen) v → Avoids o v
+avoids_it None v ok avoids = tt
+avoids_it (Some f) v ok avoids = subst (λ n. (coming v == n) ≡ false) (eqb-true (terminal_number token.LeftParen) (terminal_number f) ok) avoids
+
+spelled_again : (n p level : ℕ) → IsFree n p → is_again (expression level) n (right own n p) ≡ true → {w u : List Tok} {s t : Pile} → Applies own n p (map number w) → Trace (right own n p) w s u t → ClaimAs (expression level) n w s t u
+spelled_again n p level free ok {w = w} {u = u} a tr =
+    elim (or_cases (is_spelled n true (advance unguarded (right own n p) ([] ∷ []))) (avoids_only token.LeftParen (avoided n) && is_spelled n false (advance (guard_of n) (right own n p) ([] ∷ []))) ok) [
+    | inl passes ↦
+        let (l, found, is, fits) = spelled_some n true (advance unguarded (right own n p) ([] ∷ [])) passes in
+        expression_again n p l unguarded w u free fits a (λ v pass. inl tt) (left_by unguarded (right own n p) (built l ∷ []) found tr)
+    | inr avoids ↦
+        let b = and_parts (avoids_only token.LeftParen (avoided n)) (is_spelled n false (advance (guard_of n) (right own n p) ([] ∷ []))) avoids in
+        let (l, found, is, fits) = spelled_some n false (advance (guard_of n) (right own n p) ([] ∷ [])) b.1 in
+        expression_again n p l (guard_of n) w u free fits a (λ v pass. elim pass [
+        | inl all ↦ absurd (let below : l < 15 = ltb-true l 15 is in omega (arith, below, all))
+        | inr paren ↦ inl (avoids_it (avoided n) v b.0 paren)
+        ]) (left_by (guard_of n) (right own n p) (built l ∷ []) found tr)
+    ]
+
+-- what a production that passes the test built can be read again
+pub test_again : (m : Manner) (n p : ℕ) → IsFree n p → is_again m n (right own n p) ≡ true → {w u : List Tok} {s t : Pile} → Applies own n p (map number w) → Trace (right own n p) w s u t → ClaimAs m n w s t u
+test_again (plain y) n p free ok a tr = plain_again n p y free ok a tr
+test_again (expression level) n p free ok a tr = spelled_again n p level free ok a tr
+test_again m n p free ok a tr = absurd (let q : false ≡ true = ok in cc)

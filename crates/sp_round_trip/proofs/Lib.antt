@@ -1,4 +1,6 @@
 pub mod Advance
+pub mod Again
+pub mod Alternatives
 pub mod Chunks
 pub mod Closing
 pub mod Expressions
@@ -16,11 +18,10 @@ pub mod Operands
 pub mod Piles
 pub mod Shown
 pub mod Singles
+pub mod Sound
+pub mod Spelled
 pub mod Telling
 pub mod Tells
 pub mod Traces
 pub mod TypedNumbers
 pub mod Words
-pub mod Sound
-pub mod Spelled
-pub mod Again
