@@ -228,8 +228,13 @@ abbrev pub is_spelled : ℕ → Bool → Option State → Bool
 is_spelled n passes (Some ((built level ∷ []) ∷ [])) = (if passes then level == 15 else nat_lt level 15) && ((n == part_number Part.Primary) || (n == part_number (level_part level)))
 is_spelled n passes _ = false
 
+-- whether nothing else is avoided than this token
+abbrev pub avoids_only : Terminal → Option Terminal → Bool
+avoids_only e None = true
+avoids_only e (Some f) = terminal_number e == terminal_number f
+
 -- a production of a part is written as the part's trees are
 abbrev pub is_again : Manner → ℕ → List Symbol → Bool
 is_again (plain y) n ss = is_yield y (advance (guard_of n) ss ([] ∷ []))
-is_again (expression level) n ss = is_spelled n true (advance unguarded ss ([] ∷ [])) || is_spelled n false (advance (guard_of n) ss ([] ∷ []))
+is_again (expression level) n ss = is_spelled n true (advance unguarded ss ([] ∷ [])) || (avoids_only token.LeftParen (avoided n) && is_spelled n false (advance (guard_of n) ss ([] ∷ [])))
 is_again _ n ss = false

@@ -1,4 +1,6 @@
 pub mod Advance
+pub mod Again
+pub mod Alternatives
 pub mod Attributes
 pub mod Chunks
 pub mod Closing
@@ -27,10 +29,11 @@ pub mod Piles
 pub mod Semicolons
 pub mod Shown
 pub mod Singles
+pub mod Sound
+pub mod Spelled
 pub mod Steps
 pub mod Telling
 pub mod Tells
 pub mod Traces
 pub mod TypedNumbers
 pub mod Words
-pub mod Sound

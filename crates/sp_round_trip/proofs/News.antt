@@ -112,14 +112,14 @@ new_spells path [] came shows reads is = record {
   low = omega arith;
   high = omega arith;
   reads = λ last v s pass.
-  let avoids : Avoids (Some token.LeftParen) v = ⊎_elim (λ e. absurd (omega (arith, e))) (λ a. a) pass in
-  primary_at 14 (omega arith) (omega arith) (new_read path [] came shows reads is last v s (λ e. avoids))
+      let avoids : Avoids (Some token.LeftParen) v = ⊎_elim (λ e. absurd (omega (arith, e))) (λ a. a) pass in
+      primary_at 14 (omega arith) (omega arith) (new_read path [] came shows reads is last v s (λ e. avoids));
 }
 new_spells path (u ∷ us) came shows reads is = record {
   is = refl;
   low = omega arith;
   high = omega arith;
-  reads = λ last v s pass. primary_at 15 (omega arith) (omega arith) (new_read path (u ∷ us) came shows reads is last v s (λ e. absurd (let q : u ∷ us ≡ [] = e in cc)))
+  reads = λ last v s pass. primary_at 15 (omega arith) (omega arith) (new_read path (u ∷ us) came shows reads is last v s (λ e. absurd (let q : u ∷ us ≡ [] = e in cc)));
 }
 
 pub makes_new : {w u : List Tok} {s t : Pile} → Trace (right own (part_number Part.Primary) 19) w s u t → Claim (part_number Part.Primary) w s t u

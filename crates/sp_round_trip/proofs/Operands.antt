@@ -45,14 +45,14 @@ divided x y x_spells y_spells joined = record {
   low = omega arith;
   high = omega arith;
   reads = λ last v s pass.
-  let slash : Word = fixed (kind.Mark sign.Slash) in
-  let left = at_place 12 true x (spelled x) last in
-  let right = at_place 13 false y (spelled y) (Some (kind.Mark sign.Slash)) in
-  let pass : MayPass 13 v = ⊎_elim (λ e. absurd (omega (arith, e))) (λ a. inr a) pass in
-  let reads_right = subst (λ w. Goes (symbol.Nonterminal (part_number Part.Prefix) ∷ []) w (made x ∷ s) v (made y ∷ made x ∷ s)) (sym (before_both right [] v)) (at_level y y_spells 13 (omega arith) (omega arith) false (Some (kind.Mark sign.Slash)) v (made x ∷ s) pass) in
-  let reads_left = at_level x x_spells 12 (omega arith) (omega arith) true last (entire slash ∷ before (right ++ []) v) s (inr refl) in
-  subst (λ w. Goes (symbol.Nonterminal (part_number Part.Product) ∷ []) w s v (made (tree division nowhere (x ∷ y ∷ [])) ∷ s)) (sym (before_both left (slash ∷ (right ++ [])) v))
-  (taken (part_number Part.Product) 1 refl refl (and_more reads_left (whole refl (and_more reads_right (mark build.Divide refl (joined (next v) s) nothing)))))
+      let slash : Word = fixed (kind.Mark sign.Slash) in
+      let left = at_place 12 true x (spelled x) last in
+      let right = at_place 13 false y (spelled y) (Some (kind.Mark sign.Slash)) in
+      let pass : MayPass 13 v = ⊎_elim (λ e. absurd (omega (arith, e))) (λ a. inr a) pass in
+      let reads_right = subst (λ w. Goes (symbol.Nonterminal (part_number Part.Prefix) ∷ []) w (made x ∷ s) v (made y ∷ made x ∷ s)) (sym (before_both right [] v)) (at_level y y_spells 13 (omega arith) (omega arith) false (Some (kind.Mark sign.Slash)) v (made x ∷ s) pass) in
+      let reads_left = at_level x x_spells 12 (omega arith) (omega arith) true last (entire slash ∷ before (right ++ []) v) s (inr refl) in
+      subst (λ w. Goes (symbol.Nonterminal (part_number Part.Product) ∷ []) w s v (made (tree division nowhere (x ∷ y ∷ [])) ∷ s)) (sym (before_both left (slash ∷ (right ++ [])) v))
+      (taken (part_number Part.Product) 1 refl refl (and_more reads_left (whole refl (and_more reads_right (mark build.Divide refl (joined (next v) s) nothing)))));
 }
 
 pub divides : {w u : List Tok} {s t : Pile} → Trace (right own (part_number Part.Product) 1) w s u t → Claim (part_number Part.Product) w s t u
@@ -80,15 +80,15 @@ called x ts came x_spells shows gathered joined = record {
   low = omega arith;
   high = omega arith;
   reads = λ last v s pass.
-  let opening : Word = fixed (kind.Mark sign.LeftParen) in
-  let closing : Word = fixed (kind.Mark sign.RightParen) in
-  let callee = at_place 15 false x (spelled x) last in
-  let inside = yielded (listed separator.Comma) ts (Some (kind.Mark sign.LeftParen)) in
-  let below : Pile = started (next (before (inside ++ closing ∷ []) v)) ∷ made x ∷ s in
-  let reads_inside = subst (λ w. Goes (symbol.Nonterminal (part_number Part.Args) ∷ []) w below (entire closing ∷ v) (pushed ts below)) (sym (before_both inside (closing ∷ []) v)) (shows (Some (kind.Mark sign.LeftParen)) (entire closing ∷ v) below (inl refl)) in
-  let reads_callee = at_level x x_spells 15 (omega arith) (omega arith) false last (entire opening ∷ before (inside ++ closing ∷ []) v) s (inl refl) in
-  subst (λ w. Goes (symbol.Nonterminal (part_number Part.Postfix) ∷ []) w s v (made (tree call nowhere (x ∷ in_row ts ∷ [])) ∷ s)) (sym (before_both callee (opening ∷ (inside ++ closing ∷ [])) v))
-  (taken (part_number Part.Postfix) 3 refl refl (and_more reads_callee (whole refl (mark build.Begin refl refl (and_more reads_inside (whole refl (mark build.Row refl (gathered (next v) (next (before (inside ++ closing ∷ []) v)) (made x ∷ s)) (mark build.Call refl (joined (next v) s) nothing))))))))
+      let opening : Word = fixed (kind.Mark sign.LeftParen) in
+      let closing : Word = fixed (kind.Mark sign.RightParen) in
+      let callee = at_place 15 false x (spelled x) last in
+      let inside = yielded (listed separator.Comma) ts (Some (kind.Mark sign.LeftParen)) in
+      let below : Pile = started (next (before (inside ++ closing ∷ []) v)) ∷ made x ∷ s in
+      let reads_inside = subst (λ w. Goes (symbol.Nonterminal (part_number Part.Args) ∷ []) w below (entire closing ∷ v) (pushed ts below)) (sym (before_both inside (closing ∷ []) v)) (shows (Some (kind.Mark sign.LeftParen)) (entire closing ∷ v) below (inl refl)) in
+      let reads_callee = at_level x x_spells 15 (omega arith) (omega arith) false last (entire opening ∷ before (inside ++ closing ∷ []) v) s (inl refl) in
+      subst (λ w. Goes (symbol.Nonterminal (part_number Part.Postfix) ∷ []) w s v (made (tree call nowhere (x ∷ in_row ts ∷ [])) ∷ s)) (sym (before_both callee (opening ∷ (inside ++ closing ∷ [])) v))
+      (taken (part_number Part.Postfix) 3 refl refl (and_more reads_callee (whole refl (mark build.Begin refl refl (and_more reads_inside (whole refl (mark build.Row refl (gathered (next v) (next (before (inside ++ closing ∷ []) v)) (made x ∷ s)) (mark build.Call refl (joined (next v) s) nothing))))))));
 }
 
 pub calls : {w u : List Tok} {s t : Pile} → Trace (right own (part_number Part.Postfix) 3) w s u t → Claim (part_number Part.Postfix) w s t u

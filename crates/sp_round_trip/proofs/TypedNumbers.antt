@@ -1,11 +1,14 @@
 -- A number with its integer type, as in `uint8(3)`.
 use Rattle.std.specs.Prelude.{option_map}
 use Rattle.std.proofs.Common.{◌≡◌, ℕ, List, [], ◌∷◌, Option, Some, None, refl, sym, ◌∙◌, ap, subst, arith}
+use Rattle.sp_parser.specs.declared.symbol.Symbol.{Symbol}
+use Rattle.sp_parser.specs.declared.symbol.Symbol.TheVariants as symbol
 use Rattle.sp_parser.specs.Grammar.{right, takes, All}
 use Rattle.sp_lex.specs.declared.kinds.TokenKind.{TokenKind}
 use Rattle.sp_lex.specs.declared.kinds.TokenKind.TheVariants as kind
 use Rattle.sp_grammar.specs.declared.marks.Mark.TheVariants as build
 use Rattle.sp_grammar.specs.declared.terminals.Terminal.TheVariants as token
+use Rattle.sp_grammar.specs.Marks.{mark_number}
 use Rattle.sp_grammar.specs.Terminals.{terminal_number}
 use Rattle.sp_grammar.specs.Written.{Part, part_number}
 use Rattle.sp_grammar.specs.Own.{own}
@@ -91,22 +94,26 @@ typed_spells w n closed = record {
   low = omega arith;
   high = omega arith;
   reads = λ last v s pass.
-  let word : Word = fixed (kind.Keyword (integer_keyword w)) in
-  primary_at 15 (omega arith) (omega arith)
-  (taken (part_number Part.Primary) 17 refl refl (mark build.Begin refl refl (whole (integer_read w) (whole refl (mark build.Number refl refl (whole refl (whole refl (mark build.TypedNumberExpr refl (closed (next v) (telling_of word) s (integer_told w)) nothing))))))))
+      let word : Word = fixed (kind.Keyword (integer_keyword w)) in
+      primary_at 15 (omega arith) (omega arith)
+      (taken (part_number Part.Primary) 17 refl refl (mark build.Begin refl refl (whole (integer_read w) (whole refl (mark build.Number refl refl (whole refl (whole refl (mark build.TypedNumberExpr refl (closed (next v) (telling_of word) s (integer_told w)) nothing))))))));
 }
+
+-- a number comes first
+number_first : {ss : List Symbol} {w v : List Tok} {s z : Pile} → Trace (symbol.Mark (mark_number build.Number) ∷ symbol.Terminal (terminal_number token.Number) ∷ ss) w s v z → (n : ℕ) × (u : List Tok) × Trace ss u (made (numeral n) ∷ s) v z
+number_first {ss} {w} {v} {s} {z} g =
+    let (t, d, g) = mark_does build.Number refl g in
+    let (n, is) = numeral_of (next w).kind (next w).word s t d in
+    let (_, u, _, _, g) = token_first refl g in (n, u, subst (λ r. Trace ss u r v z) is g)
 
 pub types_number : {w u : List Tok} {s t : Pile} → Trace (right own (part_number Part.Primary) 17) w s u t → Claim (part_number Part.Primary) w s t u
 unfolding own
 types_number {w} {u} {s} g =
     let g = mark_first build.Begin (started (next w) ∷ s) refl refl g in
     let (_, _, _, _, g) = token_first refl g in
-    let (_, v, _, _, g) = token_first refl g in
-    let (r, d, g) = mark_does build.Number refl g in
-    let (n, is) = numeral_of (next v).kind (next v).word (started (next w) ∷ s) r d in
     let (_, _, _, _, g) = token_first refl g in
+    let (n, _, g) = number_first g in
     let (_, v, _, _, g) = token_first refl g in
     let (t, d, g) = mark_does build.TypedNumberExpr refl g in
-    let d : does (closes_integer one_number typed) (next v) (made (numeral n) ∷ started (next w) ∷ s) ≡ Some t = subst (λ x. does (closes_integer one_number typed) (next v) x ≡ Some t) is d in
     let (word, is, again) = is_typed n (next v) (next w) s t d in
     (tree (typed word) nowhere (numeral n ∷ []), sym (at_end g).1 ∙ is, typed_spells word n again)
