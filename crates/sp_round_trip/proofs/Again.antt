@@ -1,5 +1,5 @@
 -- A production whose test holds: what it built can be read again.
-use Rattle.std.specs.Prelude.{length, nat_lt, ◌&&◌, ◌||◌, ◌⊎◌, ◌<◌, if◌then◌else◌}
+use Rattle.std.specs.Prelude.{nat_lt, ◌&&◌, ◌||◌, ◌<◌, if◌then◌else◌}
 use Rattle.std.specs.Int.{bit_at}
 use Rattle.std.proofs.Common.{◌≡◌, ℕ, List, [], ◌∷◌, ◌++◌, map, Bool, true, false, ◌==◌, Option, Some, None, refl, sym, ◌∙◌, ap, subst, inl, inr, arith}
 use Rattle.std.proofs.lemmas.Bool.{and_parts, or_cases, eqb-true, ltb-true}
@@ -7,26 +7,24 @@ use Rattle.std.proofs.lemmas.List.{append-nil}
 use Rattle.std.proofs.lemmas.Nat.Bits.{bit_at-zero}
 use Rattle.sp_parser.specs.declared.symbol.Symbol.{Symbol}
 use Rattle.sp_parser.specs.declared.symbol.Symbol.TheVariants as symbol
-use Rattle.sp_parser.specs.Grammar.{Applies, right, ahead, production_of, productions_of}
+use Rattle.sp_parser.specs.Grammar.{Applies, right, ahead, production_of}
 use Rattle.sp_lex.specs.declared.kinds.TokenKind.{TokenKind}
 use Rattle.sp_grammar.specs.declared.terminals.Terminal.TheVariants as token
 use Rattle.sp_grammar.specs.declared.terminals.Terminal.{Terminal}
 use Rattle.sp_grammar.specs.Terminals.{terminal_number}
 use Rattle.sp_grammar.specs.Own.{own}
 use Rattle.sp_grammar.specs.Written.{Part, part_number}
-use Rattle.sp_ast.specs.declared.forms.Form.{Form}
-use Rattle.sp_ast.specs.Trees.{Tree, node, none, trees}
-use Rattle.sp_print.specs.Canonical.{form_level, spelled}
-use Rattle.sp_print.specs.Words.{Word}
+use Rattle.sp_ast.specs.Trees.{Tree, node, trees}
+use Rattle.sp_print.specs.Canonical.{spelled}
 use Rattle.sp_round_trip.specs.Bare.{nowhere}
 use Rattle.sp_round_trip.proofs.Held.{Pile, made}
 use Rattle.sp_round_trip.proofs.Goes.{Tok, number, coming, before, pushed, Goes, nothing, part}
-use Rattle.sp_round_trip.proofs.Shown.{Yield, Manner, plain, expression, avoided, level_part, Avoids, MayPass, Spells, yielded, Fits, Claim, ClaimAs, Trace}
+use Rattle.sp_round_trip.proofs.Shown.{Yield, Manner, plain, expression, avoided, level_part, Avoids, MayPass, Spells, ClaimAs, Trace}
 use Rattle.sp_round_trip.proofs.Spelled.{spells_of}
-use Rattle.sp_round_trip.proofs.Chunks.{Chunk, built, chunk_words, is_expression, is_new, Split, no_chunk, a_chunk, wrote, ends_as}
+use Rattle.sp_round_trip.proofs.Chunks.{Chunk, built, chunk_words, Split, no_chunk, a_chunk, wrote, ends_as}
 use Rattle.sp_round_trip.proofs.Laid.{ends_again}
 use Rattle.sp_round_trip.proofs.Advance.{State, Guard, guard_of, unguarded, advance, is_yield, is_spelled, avoids_only, is_again}
-use Rattle.sp_round_trip.proofs.Piles.{Piled, bottom, above, said, Copies}
+use Rattle.sp_round_trip.proofs.Piles.{Piled, bottom, above}
 use Rattle.sp_round_trip.proofs.Sound.{Guarded, Onward, sound}
 
 -- a production that may be taken before anything

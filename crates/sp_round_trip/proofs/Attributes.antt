@@ -1,6 +1,6 @@
 -- Attributes of fields.
 use Rattle.std.specs.Prelude.{◌⊎◌}
-use Rattle.std.proofs.Common.{◌≡◌, ℕ, zero, suc, List, [], ◌∷◌, ◌++◌, Option, Some, refl, sym, ◌∙◌, arith, ap, subst, inl, inr, ◌==◌, false}
+use Rattle.std.proofs.Common.{◌≡◌, ℕ, zero, suc, List, [], ◌∷◌, ◌++◌, Option, Some, refl, sym, ◌∙◌, arith, ap, subst, inl, inr, ◌==◌}
 use Rattle.sp_parser.specs.declared.symbol.Symbol.TheVariants as symbol
 use Rattle.sp_parser.specs.Grammar.{right, takes, All}
 use Rattle.sp_lex.specs.declared.kinds.TokenKind.{TokenKind}
@@ -8,7 +8,6 @@ use Rattle.sp_lex.specs.declared.kinds.TokenKind.TheVariants as token
 use Rattle.sp_grammar.specs.declared.marks.Mark.TheVariants as build
 use Rattle.sp_grammar.specs.Own.{own}
 use Rattle.sp_ast.specs.Trees.{Tree, tree}
-use Rattle.sp_ast.specs.declared.forms.Form.{Form}
 use Rattle.sp_ast.specs.declared.forms.Form.TheVariants as form_is
 use Rattle.sp_ast.specs.declared.words.AttributeName.{AttributeName}
 use Rattle.sp_ast.specs.declared.words.AttributeName.TheVariants as attribute_name
@@ -25,7 +24,7 @@ use Rattle.sp_print.specs.Words.{Word, fixed}
 use Rattle.sp_round_trip.specs.Bare.{nowhere}
 use Rattle.sp_round_trip.proofs.Held.{Pile, started, made}
 use Rattle.sp_round_trip.proofs.Goes.{Tok, entire, telling_of, number, next, coming, before, pushed, Goes, nothing, whole, mark, part}
-use Rattle.sp_round_trip.proofs.Shown.{Claim, Trace, optional, listed, yielded, Shows, MayFollow, Avoids}
+use Rattle.sp_round_trip.proofs.Shown.{Claim, Trace, optional, listed, yielded, Shows, MayFollow}
 use Rattle.sp_round_trip.proofs.Leaves.{attribute_again}
 use Rattle.sp_round_trip.proofs.Steps.{CloseBy, passes_token, passes_begin, passes_trees, passes_attribute, passes_none, beside, reads_mark, reads_token, reads_nothing, anywhere, unavoided}
 use Rattle.sp_round_trip.proofs.Words.{before_both}

@@ -1,6 +1,6 @@
 -- Declarations, each a line, and the module of them.
-use Rattle.std.specs.Prelude.{nat_lt, ◌&&◌, ◌||◌, if◌then◌else◌, codes}
-use Rattle.std.proofs.Common.{◌≡◌, ℕ, List, [], ◌∷◌, ◌++◌, Bool, true, false, Option, Some, None, refl, sym, ◌∙◌, arith, ap, subst, inl}
+use Rattle.std.specs.Prelude.{nat_lt, ◌&&◌, ◌||◌, if◌then◌else◌}
+use Rattle.std.proofs.Common.{◌≡◌, ℕ, List, [], ◌∷◌, ◌++◌, Bool, true, false, None, refl, sym, ◌∙◌, arith, ap, subst, inl}
 use Rattle.sp_parser.specs.declared.symbol.Symbol.TheVariants as symbol
 use Rattle.sp_parser.specs.Grammar.{right, takes, All}
 use Rattle.sp_lex.specs.declared.kinds.TokenKind.TheVariants as token
@@ -20,7 +20,7 @@ use Rattle.sp_build.specs.declared.groups.Sort.TheVariants.{One as one_of, Rows 
 use Rattle.sp_build.specs.declared.groups.Slot.{Slot}
 use Rattle.sp_build.specs.declared.groups.Slot.TheVariants.{Part as slot}
 use Rattle.sp_print.specs.Canonical.{at_place, enclosed, form_level, is_bare, is_regex, level_of, spelled}
-use Rattle.sp_print.specs.Words.{Word, fixed, name}
+use Rattle.sp_print.specs.Words.{fixed, name}
 use Rattle.sp_printed_words.specs.Modules.{lines_of, module_lines}
 use Rattle.sp_round_trip.specs.Bare.{nowhere}
 use Rattle.sp_round_trip.proofs.Held.{Pile, started, made}

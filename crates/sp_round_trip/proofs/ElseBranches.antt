@@ -1,7 +1,7 @@
 -- The rest of an `if`: more branches, and an `else` or none.
 use Rattle.std.specs.Prelude.{◌⊎◌, ◌^◌}
 use Rattle.std.specs.Int.{bit_at}
-use Rattle.std.proofs.Common.{◌≡◌, ℕ, List, [], ◌∷◌, ◌++◌, map, Bool, true, false, Option, Some, refl, sym, ◌∙◌, arith, ap, subst, inl, inr, ◌==◌, eq-eqb}
+use Rattle.std.proofs.Common.{◌≡◌, ℕ, List, [], ◌∷◌, ◌++◌, map, true, false, Option, Some, refl, sym, ◌∙◌, arith, ap, subst, inl, inr, eq-eqb}
 use Rattle.std.proofs.lemmas.List.{append-nil, append_assoc}
 use Rattle.std.proofs.lemmas.Nat.Bits.{bit_at-pow_other, bit_at-pow_same}
 use Rattle.sp_parser.specs.declared.symbol.Symbol.TheVariants as symbol

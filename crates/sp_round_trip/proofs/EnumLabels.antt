@@ -1,18 +1,17 @@
 -- Labels of enums behind the first: a comma behind the last one is left out canonically.
-use Rattle.std.proofs.Common.{◌≡◌, ℕ, List, [], ◌∷◌, ◌++◌, Option, Some, refl, sym, arith, subst, inl, inr}
+use Rattle.std.proofs.Common.{◌≡◌, ℕ, List, [], ◌∷◌, Option, Some, refl, sym, arith, subst, inl}
 use Rattle.sp_parser.specs.declared.symbol.Symbol.TheVariants as symbol
 use Rattle.sp_parser.specs.Grammar.{right}
 use Rattle.sp_lex.specs.declared.kinds.TokenKind.{TokenKind}
 use Rattle.sp_lex.specs.declared.kinds.TokenKind.TheVariants as token
 use Rattle.sp_lex.specs.declared.kinds.Mark.TheVariants as sign
 use Rattle.sp_grammar.specs.Own.{own}
-use Rattle.sp_ast.specs.Trees.{Tree, trees}
+use Rattle.sp_ast.specs.Trees.{Tree}
 use Rattle.sp_print.specs.Canonical.{last_kind}
 use Rattle.sp_print.specs.declared.layouts.Separator.TheVariants as separator
-use Rattle.sp_print.specs.Words.{Word, fixed}
 use Rattle.sp_round_trip.proofs.Held.{Pile, made}
-use Rattle.sp_round_trip.proofs.Goes.{Tok, entire, coming, before, pushed, Goes, nothing, whole, part}
-use Rattle.sp_round_trip.proofs.Shown.{Claim, Trace, one, followed, yielded, Shows, Avoids, MayFollow}
+use Rattle.sp_round_trip.proofs.Goes.{Tok, coming, before, pushed, Goes, nothing, whole, part}
+use Rattle.sp_round_trip.proofs.Shown.{Claim, Trace, one, followed, yielded, Shows, MayFollow}
 use Rattle.sp_round_trip.proofs.Steps.{passes_token, passes_one, passes_trees, passes_none, beside, anywhere, unavoided}
 use Rattle.sp_round_trip.proofs.Words.{before_both}
 

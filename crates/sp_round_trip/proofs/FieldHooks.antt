@@ -1,5 +1,5 @@
 -- What ends a field: its hooks, or a semicolon. A semicolon behind hooks is left out canonically.
-use Rattle.std.proofs.Common.{◌≡◌, ℕ, List, [], ◌∷◌, ◌++◌, Option, Some, refl, sym, arith, subst, inl, ap, ◌∙◌}
+use Rattle.std.proofs.Common.{◌≡◌, ℕ, List, [], ◌∷◌, ◌++◌, Option, refl, sym, arith, subst, inl, ap, ◌∙◌}
 use Rattle.sp_parser.specs.declared.symbol.Symbol.TheVariants as symbol
 use Rattle.sp_parser.specs.Grammar.{right}
 use Rattle.sp_lex.specs.declared.kinds.TokenKind.{TokenKind}
@@ -11,7 +11,7 @@ use Rattle.sp_ast.specs.Trees.{Tree, trees, in_row}
 use Rattle.sp_print.specs.Canonical.{last_kind, parts_of}
 use Rattle.sp_print.specs.Canonical.{listed as written_listed, followed as written_followed}
 use Rattle.sp_print.specs.declared.layouts.Separator.TheVariants as separator
-use Rattle.sp_print.specs.Words.{Word, fixed}
+use Rattle.sp_print.specs.Words.{fixed}
 use Rattle.sp_round_trip.proofs.Held.{Pile, started, made}
 use Rattle.sp_round_trip.proofs.Goes.{Tok, entire, next, coming, before, pushed, Goes, nothing, whole, mark, part}
 use Rattle.sp_round_trip.proofs.Shown.{Claim, Trace, one, hooks, listed, silent, yielded, Shows}

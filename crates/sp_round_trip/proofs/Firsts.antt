@@ -1,18 +1,15 @@
 -- With what symbols can begin: a kind that can't come first of them comes behind them, where they read nothing, or not at all.
 use Rattle.std.specs.Prelude.{not, ◌&&◌, ◌||◌, ◌⊎◌}
-use Rattle.std.specs.Int.{bit_at}
-use Rattle.std.proofs.Common.{◌≡◌, ℕ, List, [], ◌∷◌, get_or, Bool, true, false, ◌==◌, refl, sym, ◌∙◌, ap, subst, inl, inr}
-use Rattle.std.proofs.lemmas.Bool.{and_parts, and_from, or_parts, or_cases, cases_Bool, eqb-true}
+use Rattle.std.proofs.Common.{◌≡◌, ℕ, List, Bool, true, false, ◌==◌, refl, sym, ◌∙◌, ap, subst, inl, inr}
+use Rattle.std.proofs.lemmas.Bool.{and_parts, and_from, or_parts, cases_Bool, eqb-true}
 use Rattle.sp_parser.specs.declared.symbol.Symbol.{Symbol}
-use Rattle.sp_parser.specs.Grammar.{Production, Take, First, All, takes, right, Applies}
+use Rattle.sp_parser.specs.Grammar.{Production, Take, First, All, takes, right}
 use Rattle.sp_grammar.specs.declared.terminals.Terminal.TheVariants as token
-use Rattle.sp_grammar.specs.Sets.{sets}
 use Rattle.sp_grammar.specs.Terminals.{terminal_number}
 use Rattle.sp_grammar.specs.Own.{own}
 use Rattle.sp_grammar.proofs.Spans.{every_production, one_production}
-use Rattle.sp_print.specs.Words.{Word}
 use Rattle.sp_round_trip.proofs.Held.{Pile}
-use Rattle.sp_round_trip.proofs.Goes.{Tok, entire, half, number, coming, Goes, nothing, whole, first_half, mark, part}
+use Rattle.sp_round_trip.proofs.Goes.{Tok, entire, number, coming, Goes, nothing, whole, first_half, mark, part}
 use Rattle.sp_round_trip.proofs.Advance.{may_be_empty, is_taken, comes_first, begins_with, is_nullable}
 
 -- the sets of the table hold for a production

@@ -1,5 +1,5 @@
 -- The path of a hook that is declared by itself, and the event behind it.
-use Rattle.std.proofs.Common.{◌≡◌, ℕ, List, [], ◌∷◌, ◌++◌, Option, Some, refl, sym, ◌∙◌, arith, ap, subst, inl}
+use Rattle.std.proofs.Common.{◌≡◌, ℕ, List, [], ◌∷◌, ◌++◌, Option, Some, refl, sym, ◌∙◌, arith, ap, subst}
 use Rattle.std.proofs.lemmas.List.{append-nil, append_assoc}
 use Rattle.sp_parser.specs.declared.symbol.Symbol.TheVariants as symbol
 use Rattle.sp_parser.specs.Grammar.{right, takes, All}
@@ -7,32 +7,28 @@ use Rattle.sp_lex.specs.declared.kinds.Hook.{Hook}
 use Rattle.sp_lex.specs.declared.kinds.TokenKind.{TokenKind}
 use Rattle.sp_lex.specs.declared.kinds.TokenKind.TheVariants as token
 use Rattle.sp_lex.specs.declared.kinds.Mark.TheVariants as sign
-use Rattle.sp_lex.specs.declared.kinds.Keyword.TheVariants as keyword
 use Rattle.sp_grammar.specs.declared.marks.Mark.TheVariants as build
 use Rattle.sp_grammar.specs.Own.{own}
 use Rattle.sp_ast.specs.Trees.{Tree, absent, tree, trees}
 use Rattle.sp_ast.specs.declared.forms.Form.TheVariants as form_is
-use Rattle.sp_ast.specs.declared.forms.DeclForm.TheVariants as decl_is
-use Rattle.sp_build.specs.declared.groups.Group.TheVariants.{Names as names, Paths as paths, Events as events, Hooks as hook_trees}
-use Rattle.sp_build.specs.declared.groups.Sort.TheVariants.{One as one_of, Optional as may_be}
+use Rattle.sp_build.specs.declared.groups.Group.TheVariants.{Names as names}
 use Rattle.sp_build.specs.declared.groups.Slot.{Slot}
-use Rattle.sp_build.specs.declared.groups.Slot.TheVariants.{Part as slot, Several as several}
+use Rattle.sp_build.specs.declared.groups.Slot.TheVariants.{Several as several}
 use Rattle.sp_build.specs.Tokens.{hook_name_of}
-use Rattle.sp_print.specs.Canonical.{last_kind, chain, framed, parts_of, part_of}
+use Rattle.sp_print.specs.Canonical.{chain, framed, parts_of, part_of}
 use Rattle.sp_print.specs.Canonical.{followed as written_followed}
 use Rattle.sp_print.specs.declared.layouts.Frame.TheVariants as frame
 use Rattle.sp_print.specs.declared.layouts.Separator.TheVariants as separator
 use Rattle.sp_print.specs.Own.{hook_token}
-use Rattle.sp_print.specs.Words.{Word, fixed, name}
+use Rattle.sp_print.specs.Words.{fixed, name}
 use Rattle.sp_round_trip.specs.Bare.{nowhere}
 use Rattle.sp_round_trip.specs.Told.{Telling}
 use Rattle.sp_round_trip.proofs.Held.{Pile, started, made}
-use Rattle.sp_round_trip.proofs.Goes.{Tok, entire, telling_of, number, next, coming, before, pushed, Goes, nothing, whole, mark, part}
-use Rattle.sp_round_trip.proofs.Shown.{Claim, OnPathClaim, Trace, one, yielded, Shows}
+use Rattle.sp_round_trip.proofs.Goes.{Tok, entire, telling_of, number, next, before, pushed, Goes, nothing, whole, mark, part}
+use Rattle.sp_round_trip.proofs.Shown.{Claim, Trace}
 use Rattle.sp_round_trip.proofs.Leaves.{hook_is}
-use Rattle.sp_round_trip.proofs.Steps.{Close, passes_token, passes_begin, passes_absent, passes_name, passes_event, passes_part, passes_one, passes_closes, passes_none, beside, anywhere}
+use Rattle.sp_round_trip.proofs.Steps.{Close, passes_token, passes_absent, passes_name, passes_event, passes_part, passes_closes, passes_none, beside, anywhere}
 use Rattle.sp_round_trip.proofs.Closing.{pushed_append}
-use Rattle.sp_round_trip.proofs.Words.{before_both}
 
 abbrev pub named : List ℕ → Tree
 named x = tree (form_is.Name x) nowhere []

@@ -1,5 +1,5 @@
 -- An `if` with its branches.
-use Rattle.std.proofs.Common.{◌≡◌, ℕ, List, [], ◌∷◌, ◌++◌, Option, Some, refl, sym, ◌∙◌, arith, ap, subst}
+use Rattle.std.proofs.Common.{ℕ, List, [], ◌∷◌, ◌++◌, Option, Some, refl, sym, ◌∙◌, arith, ap, subst}
 use Rattle.sp_parser.specs.declared.symbol.Symbol.TheVariants as symbol
 use Rattle.sp_parser.specs.Grammar.{right}
 use Rattle.sp_lex.specs.declared.kinds.TokenKind.{TokenKind}
@@ -12,7 +12,7 @@ use Rattle.sp_print.specs.Canonical.{last_kind, framed, parts_of, part_of}
 use Rattle.sp_print.specs.Canonical.{followed as written_followed}
 use Rattle.sp_print.specs.declared.layouts.Frame.TheVariants as frame
 use Rattle.sp_print.specs.declared.layouts.Separator.TheVariants as separator
-use Rattle.sp_print.specs.Words.{Word, fixed}
+use Rattle.sp_print.specs.Words.{fixed}
 use Rattle.sp_round_trip.proofs.Held.{Pile, started, made}
 use Rattle.sp_round_trip.proofs.Goes.{Tok, entire, next, coming, before, Goes, nothing, whole, mark, part}
 use Rattle.sp_round_trip.proofs.Shown.{Claim, OptElseClaim, Trace, one, yielded, Shows}

@@ -1,13 +1,11 @@
 -- The words of integer types as bases of fields: by themselves, and before a number.
-use Rattle.std.proofs.Common.{◌≡◌, ℕ, List, [], ◌∷◌, ◌++◌, Option, Some, refl, sym, arith, ap, subst, inl}
-use Rattle.sp_parser.specs.declared.symbol.Symbol.TheVariants as symbol
+use Rattle.std.proofs.Common.{◌≡◌, ℕ, List, [], ◌∷◌, refl, sym, arith}
 use Rattle.sp_parser.specs.Grammar.{right, takes, All}
-use Rattle.sp_lex.specs.declared.kinds.TokenKind.{TokenKind}
 use Rattle.sp_lex.specs.declared.kinds.TokenKind.TheVariants as token
 use Rattle.sp_lex.specs.declared.kinds.Mark.TheVariants as sign
 use Rattle.sp_grammar.specs.declared.marks.Mark.TheVariants as build
 use Rattle.sp_grammar.specs.Own.{own}
-use Rattle.sp_ast.specs.Trees.{Tree, tree}
+use Rattle.sp_ast.specs.Trees.{tree}
 use Rattle.sp_ast.specs.declared.forms.Form.{Form}
 use Rattle.sp_ast.specs.declared.forms.Form.TheVariants as form_is
 use Rattle.sp_ast.specs.declared.forms.BaseForm.TheVariants as base_is
@@ -22,9 +20,9 @@ use Rattle.sp_print.specs.Own.{integer_keyword}
 use Rattle.sp_print.specs.Words.{Word, fixed}
 use Rattle.sp_print.specs.Words.{number as numeral}
 use Rattle.sp_round_trip.specs.Bare.{nowhere}
-use Rattle.sp_round_trip.proofs.Held.{Pile, started, made}
-use Rattle.sp_round_trip.proofs.Goes.{Tok, entire, telling_of, number, next, coming, before, Goes, nothing, whole, mark, part}
-use Rattle.sp_round_trip.proofs.Shown.{Claim, Trace, one, yielded, Shows}
+use Rattle.sp_round_trip.proofs.Held.{Pile}
+use Rattle.sp_round_trip.proofs.Goes.{Tok, entire, telling_of, number, next, coming, nothing, whole, mark, part}
+use Rattle.sp_round_trip.proofs.Shown.{Claim, Trace, one, Shows}
 use Rattle.sp_round_trip.proofs.Leaves.{integer_again}
 use Rattle.sp_round_trip.proofs.Steps.{CloseBy, passes_token, passes_begin, passes_number, passes_integer, passes_wraps, passes_none, anywhere}
 

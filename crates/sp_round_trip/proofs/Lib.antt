@@ -37,3 +37,4 @@ pub mod Tells
 pub mod Traces
 pub mod TypedNumbers
 pub mod Words
+pub mod Produces

@@ -11,30 +11,29 @@ use Rattle.sp_grammar.specs.declared.marks.Mark.TheVariants as build
 use Rattle.sp_ast.specs.declared.forms.Form.{Form}
 use Rattle.sp_ast.specs.declared.words.IntWord.{IntWord}
 use Rattle.sp_ast.specs.declared.words.HookName.{HookName}
-use Rattle.sp_ast.specs.Trees.{Tree, absent, node, none, more, trees, in_row}
+use Rattle.sp_ast.specs.Trees.{Tree, absent, node, none, trees, in_row}
 use Rattle.sp_build.specs.declared.groups.Group.{Group}
 use Rattle.sp_build.specs.declared.groups.Slot.{Slot}
-use Rattle.sp_build.specs.Rules.{Leaf, always, by_name, by_string, by_bytes, by_regex, by_number, by_integer, by_event, Rule, begins, leaves_out, takes, gathers, closes, closes_integer, closes_attribute, encloses, joins, wraps, rule}
+use Rattle.sp_build.specs.Rules.{Leaf, always, by_name, by_string, by_bytes, by_regex, by_number, by_integer, by_event, Rule, begins, leaves_out, takes, gathers, closes, joins, wraps, rule}
 use Rattle.sp_build.specs.Tokens.{integer_of, hook_name_of}
 use Rattle.sp_lex.specs.declared.kinds.TokenKind.TheVariants as token
 use Rattle.sp_print.specs.declared.layouts.Piece.{Piece}
 use Rattle.sp_print.specs.declared.layouts.Piece.TheVariants as piece
-use Rattle.sp_print.specs.Canonical.{Writing, nothing, chain, kinds, last_kind, laid, spelled}
+use Rattle.sp_print.specs.Canonical.{Writing, nothing, chain, last_kind, laid, spelled}
 use Rattle.sp_print.specs.Layouts.{layout}
-use Rattle.sp_print.specs.Own.{own_words}
 use Rattle.sp_print.specs.Words.{Word, fixed, name, text, bytes, regex, number as numeral}
 use Rattle.sp_round_trip.specs.Bare.{nowhere}
 use Rattle.sp_round_trip.specs.Told.{Telling}
 use Rattle.sp_round_trip.proofs.Machine.{form_told}
 use Rattle.sp_round_trip.proofs.Held.{Pile, started, made, does, put_if}
-use Rattle.sp_round_trip.proofs.Goes.{Tok, entire, half, tells, telling_of, number, pushed}
+use Rattle.sp_round_trip.proofs.Goes.{Tok, entire, tells, telling_of, number, pushed}
 use Rattle.sp_round_trip.proofs.Closing.{pushed_append, closed_all, gathered_all, joined_all, wrapped, are_parts}
 use Rattle.sp_round_trip.proofs.Leaves.{LeafSays, is_always, leaf_again, mapped}
 use Rattle.sp_round_trip.proofs.Shown.{one, optional, left_out, listed, followed, in_row as a_row, arguments, hooks, silent}
 use Rattle.sp_round_trip.proofs.Chunks.{Chunk, word, tree, built, is_new, node_chunk, is_token, Owns, chunk_words, Split, no_chunk, a_chunk, wrote, laid_as, row_chunks}
 use Rattle.sp_round_trip.proofs.Laid.{laid_again, row_again, node_again}
-use Rattle.sp_round_trip.proofs.Advance.{State, put_on, add, Move, stays, eats, stuck, leaf_chunk, is_itself, is_taken, is_all, always_moved, is_one, one_each, is_laid, put_before, wrapped_last, moved, row_moved, move}
-use Rattle.sp_round_trip.proofs.Piles.{Same, chain_same, alone, joined, Piled, bottom, above, said, Copies, grown}
+use Rattle.sp_round_trip.proofs.Advance.{State, put_on, add, stays, eats, stuck, leaf_chunk, is_itself, is_taken, is_all, always_moved, is_one, one_each, is_laid, put_before, wrapped_last, moved, row_moved, move}
+use Rattle.sp_round_trip.proofs.Piles.{Same, chain_same, alone, Piled, bottom, above, said, Copies, grown}
 
 -- what tokens' trees are: written by their own word alone
 abbrev pub LeafPlain : Leaf → Type 0

@@ -1,22 +1,18 @@
 -- Parameters in parentheses: where there are none, canonically there are no parentheses.
-use Rattle.std.proofs.Common.{◌≡◌, List, [], ◌∷◌, Option, Some, refl, sym, arith, ap, subst, inl, ◌++◌}
+use Rattle.std.proofs.Common.{List, [], ◌∷◌, Some, refl, sym, arith, subst, inl, ◌++◌}
 use Rattle.sp_parser.specs.declared.symbol.Symbol.TheVariants as symbol
 use Rattle.sp_parser.specs.Grammar.{right}
-use Rattle.sp_lex.specs.declared.kinds.TokenKind.{TokenKind}
 use Rattle.sp_lex.specs.declared.kinds.TokenKind.TheVariants as token
 use Rattle.sp_lex.specs.declared.kinds.Mark.TheVariants as sign
 use Rattle.sp_grammar.specs.declared.marks.Mark.TheVariants as build
 use Rattle.sp_grammar.specs.Own.{own}
-use Rattle.sp_ast.specs.Trees.{Tree, row, none, trees, in_row}
+use Rattle.sp_ast.specs.Trees.{Tree, in_row}
 use Rattle.sp_print.specs.declared.layouts.Separator.TheVariants as separator
 use Rattle.sp_print.specs.Words.{Word, fixed}
-use Rattle.sp_round_trip.proofs.Held.{Pile, started, made, does}
-use Rattle.sp_round_trip.specs.Told.{Telling}
-use Rattle.sp_build.specs.Rules.{gathers}
-use Rattle.sp_round_trip.proofs.Goes.{Tok, entire, tells, next, coming, before, pushed, Goes, nothing, whole, mark, part}
-use Rattle.sp_round_trip.proofs.Shown.{Claim, Trace, Yield, arguments, listed, yielded, Shows}
+use Rattle.sp_round_trip.proofs.Held.{Pile, started, made}
+use Rattle.sp_round_trip.proofs.Goes.{Tok, entire, next, coming, before, Goes, nothing, whole, mark, part}
+use Rattle.sp_round_trip.proofs.Shown.{Claim, Trace, arguments, listed, yielded, Shows}
 use Rattle.sp_round_trip.proofs.Steps.{Gather, passes_token, passes_trees, passes_begin, passes_row, passes_none, beside, anywhere}
-use Rattle.sp_round_trip.proofs.Closing.{gathered_all}
 use Rattle.sp_round_trip.proofs.Words.{before_both}
 
 abbrev left_paren : Word

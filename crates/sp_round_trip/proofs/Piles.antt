@@ -1,9 +1,9 @@
 -- Piles by the chunks that stand on them, the words of these, and the same chunks on another pile.
-use Rattle.std.proofs.Common.{◌≡◌, ℕ, List, [], ◌∷◌, ◌++◌, Option, Some, refl, sym, ◌∙◌, ap, subst}
+use Rattle.std.proofs.Common.{◌≡◌, List, [], ◌∷◌, ◌++◌, Option, Some, refl, sym, ◌∙◌, ap, subst}
 use Rattle.std.proofs.lemmas.List.{append-nil, append_assoc}
 use Rattle.sp_lex.specs.declared.kinds.TokenKind.{TokenKind}
 use Rattle.sp_ast.specs.Trees.{Tree}
-use Rattle.sp_print.specs.Canonical.{Writing, nothing, chain, last_kind}
+use Rattle.sp_print.specs.Canonical.{Writing, chain, last_kind}
 use Rattle.sp_print.specs.Words.{Word, kind_of}
 use Rattle.sp_round_trip.specs.Told.{Telling}
 use Rattle.sp_round_trip.proofs.Held.{Pile, started}

@@ -1,11 +1,11 @@
 -- What the test of a production finds is so: its trees can be read again, from what the chunks on the pile are written as.
 use Rattle.std.specs.Prelude.{not, nat_lt, ◌&&◌, ◌||◌, ◌⊎◌, ◌≤◌, ◌<◌, if◌then◌else◌}
 use Rattle.std.proofs.Common.{◌≡◌, ℕ, List, [], ◌∷◌, ◌++◌, Bool, true, false, ◌==◌, Option, Some, None, cond, refl, sym, ◌∙◌, ap, subst, inl, inr, arith}
-use Rattle.std.proofs.lemmas.Bool.{and_parts, or_cases, cases_Bool, eqb-true, ltb-true}
+use Rattle.std.proofs.lemmas.Bool.{and_parts, cases_Bool, eqb-true, ltb-true}
 use Rattle.std.proofs.lemmas.List.{append-nil, append_assoc}
 use Rattle.sp_parser.specs.declared.symbol.Symbol.{Symbol}
 use Rattle.sp_parser.specs.declared.symbol.Symbol.TheVariants as symbol
-use Rattle.sp_parser.specs.Grammar.{Take, Nothing, First, All, takes, CLOSE, GREATER, SECOND}
+use Rattle.sp_parser.specs.Grammar.{Take, Nothing, First, All, takes, CLOSE, SECOND}
 use Rattle.sp_lex.specs.declared.kinds.TokenKind.{TokenKind}
 use Rattle.sp_grammar.specs.declared.marks.Mark.{Mark}
 use Rattle.sp_grammar.specs.declared.terminals.Terminal.{Terminal}
@@ -16,20 +16,20 @@ use Rattle.sp_runs.specs.Kinds.{number_of, terminal_of}
 use Rattle.sp_ast.specs.Trees.{Tree, node, absent, row}
 use Rattle.sp_build.specs.declared.groups.Group.TheVariants.{Expressions as expressions}
 use Rattle.sp_build.specs.Groups.{is_of, is_node}
-use Rattle.sp_build.specs.Rules.{Rule, rule}
+use Rattle.sp_build.specs.Rules.{rule}
 use Rattle.sp_print.specs.Canonical.{last_kind}
 use Rattle.sp_print.specs.Words.{Word, fixed}
-use Rattle.sp_round_trip.proofs.Held.{Pile, made, does}
-use Rattle.sp_round_trip.proofs.Goes.{Tok, entire, half, number, next, coming, before, pushed, Goes, nothing, whole, mark}
+use Rattle.sp_round_trip.proofs.Held.{Pile, does}
+use Rattle.sp_round_trip.proofs.Goes.{Tok, entire, number, next, coming, before, pushed, Goes, nothing, whole, mark}
 use Rattle.sp_round_trip.proofs.Words.{before_both}
 use Rattle.sp_round_trip.proofs.Levels.{and_more}
-use Rattle.sp_round_trip.proofs.Shown.{Yield, one, Manner, plain, expression, in_lines, path_rest, if_rest, new_rest, other, manner_of, avoided, is_kept, Avoids, MayFollow, Fits, Shows, yielded, Spells, ClaimAs, Claim, Trace, ended, token_passed, half_passed, mark_passed, part_passed}
+use Rattle.sp_round_trip.proofs.Shown.{Yield, one, Manner, plain, expression, in_lines, path_rest, if_rest, new_rest, other, manner_of, avoided, is_kept, Avoids, Fits, Shows, yielded, ClaimAs, Trace, ended, token_passed, half_passed, mark_passed, part_passed}
 use Rattle.sp_round_trip.proofs.Expressions.{expression_shows}
 use Rattle.sp_round_trip.proofs.Singles.{kind_for}
-use Rattle.sp_round_trip.proofs.Chunks.{Chunk, word, tree, Split, wrote}
-use Rattle.sp_round_trip.proofs.Advance.{State, add, Move, stays, eats, stuck, Guard, is_watched, is_itself, is_all, are_marks, is_avoided, may_be_empty, comes_first, next_fits, move, move_at, then_go, with_yield, yield_of, is_read, shown_number, advance}
+use Rattle.sp_round_trip.proofs.Chunks.{word, tree, wrote}
+use Rattle.sp_round_trip.proofs.Advance.{State, add, Move, stays, eats, stuck, Guard, is_watched, is_all, are_marks, is_avoided, may_be_empty, comes_first, next_fits, move, move_at, then_go, with_yield, yield_of, is_read, shown_number, advance}
 use Rattle.sp_round_trip.proofs.Firsts.{first_tested, paren_tested, else_tested, comes_behind}
-use Rattle.sp_round_trip.proofs.Piles.{Same, chain_same, alone, Piled, said, Copies, grown}
+use Rattle.sp_round_trip.proofs.Piles.{chain_same, alone, Piled, said, Copies, grown}
 use Rattle.sp_round_trip.proofs.Moves.{rule_plain, stayed, ate, eats_itself, not_second}
 
 some_is : {A : Type 0} {x y : A} → Some x ≡ Some y → x ≡ y
