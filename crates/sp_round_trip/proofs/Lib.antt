@@ -4,3 +4,4 @@ pub mod Tells
 pub mod Goes
 pub mod Held
 pub mod Shown
+pub mod Converted

@@ -19,7 +19,7 @@ use Rattle.sp_round_trip.specs.Told.{Telling, telling, told}
 use Rattle.sp_round_trip.proofs.Held.{made, does_all}
 use Rattle.sp_round_trip.proofs.Machine.{piled, tell_at, all_held, of_bare}
 
-get_map : {A B : Type 0} (f : A → B) (xs : List A) (n : ℕ) (d : A) → f (get_or xs n d) ≡ get_or (map f xs) n (f d)
+pub get_map : {A B : Type 0} (f : A → B) (xs : List A) (n : ℕ) (d : A) → f (get_or xs n d) ≡ get_or (map f xs) n (f d)
 get_map f [] n d = refl
 get_map f (x ∷ xs) zero d = refl
 get_map f (x ∷ xs) (suc n) d = get_map f xs n d
@@ -29,7 +29,7 @@ tell_same : (first second : Lexed) → told first ≡ told second → (n : ℕ) 
 tell_same first second e n =
     get_map (telling first.text) first.list n no_token ∙ ap (λ ts. get_or ts n (telling first.text no_token)) e ∙ sym (get_map (telling second.text) second.list n no_token)
 
-map_of : {A B C : Type 0} (f : A → B) (g : B → C) (xs : List A) → map (λ x. g (f x)) xs ≡ map g (map f xs)
+pub map_of : {A B C : Type 0} (f : A → B) (g : B → C) (xs : List A) → map (λ x. g (f x)) xs ≡ map g (map f xs)
 map_of f g [] = refl
 map_of f g (x ∷ xs) = ap (λ ys. g (f x) ∷ ys) (map_of f g xs)
 
