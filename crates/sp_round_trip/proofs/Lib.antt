@@ -4,4 +4,5 @@ pub mod Tells
 pub mod Goes
 pub mod Held
 pub mod Shown
+pub mod Worded
 pub mod Converted
