@@ -5,4 +5,5 @@ pub mod Goes
 pub mod Held
 pub mod Shown
 pub mod Worded
+pub mod Spelled
 pub mod Converted
