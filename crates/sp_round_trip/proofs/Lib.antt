@@ -7,3 +7,4 @@ pub mod Shown
 pub mod Worded
 pub mod Spelled
 pub mod Converted
+pub mod Again
