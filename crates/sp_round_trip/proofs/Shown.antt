@@ -249,7 +249,7 @@ OnPathClaim s t =
     (xs : List Tree) (p : Telling) (b : Pile) → s ≡ pushed xs (started p ∷ b)
     → (ys : List Tree) × (e : Tree) × (t ≡ made e ∷ made (tree form_is.Path nowhere (xs ++ ys)) ∷ b)
     × ((last : Option TokenKind) (v : List Tok) (q : Telling) (c : Pile)
-        → Goes (symbol.Nonterminal (part_number Part.OnPath) ∷ []) (before (chain (written_followed separator.Scope (parts_of (trees ys))) (framed frame.Scope (part_of e)) last) v) (pushed xs (started q ∷ c)) v (made e ∷ made (tree form_is.Path nowhere (xs ++ ys)) ∷ c))
+    → Goes (symbol.Nonterminal (part_number Part.OnPath) ∷ []) (before (chain (written_followed separator.Scope (parts_of (trees ys))) (framed frame.Scope (part_of e)) last) v) (pushed xs (started q ∷ c)) v (made e ∷ made (tree form_is.Path nowhere (xs ++ ys)) ∷ c))
 
 -- The rest of an `if`, behind the branches bs: more branches, and an `else` or none.
 abbrev pub OptElseClaim : List Tok → Pile → Pile → List Tok → Type 0
@@ -258,7 +258,7 @@ OptElseClaim w s t u =
     → (cs : List Tree) × (e : Tree) × (t ≡ made (tree (form_is.Stmt stmt_is.If) nowhere (row (trees (bs ++ cs)) ∷ e ∷ [])) ∷ b)
     × ((coming w ≡ terminal_number token.Else) ⊎ ((cs ≡ []) × (e ≡ absent) × (coming w ≡ coming u)))
     × ((last : Option TokenKind) (v : List Tok) (x y : Telling) (c : Pile) → MayFollow (part_number Part.Stmt) (coming u) v
-        → Goes (symbol.Nonterminal (part_number Part.OptElse) ∷ []) (before (chain (written_followed separator.ElseIf (parts_of (trees cs))) (framed frame.Else (part_of e)) last) v) (pushed bs (started x ∷ started y ∷ c)) v (made (tree (form_is.Stmt stmt_is.If) nowhere (row (trees (bs ++ cs)) ∷ e ∷ [])) ∷ c))
+    → Goes (symbol.Nonterminal (part_number Part.OptElse) ∷ []) (before (chain (written_followed separator.ElseIf (parts_of (trees cs))) (framed frame.Else (part_of e)) last) v) (pushed bs (started x ∷ started y ∷ c)) v (made (tree (form_is.Stmt stmt_is.If) nowhere (row (trees (bs ++ cs)) ∷ e ∷ [])) ∷ c))
 
 -- words of lines, one behind the other
 abbrev pub flat : List (List Word) → List Word
