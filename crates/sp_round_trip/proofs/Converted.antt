@@ -115,11 +115,13 @@ module _ (tell : ℕ → Telling) where
       record {
         place = a.place;
         stands = a.stands;
-        marks = λ τ. (let b = a.marks τ in
-          (event n i ∷ b.0, reads.mark b.1,
+        marks = λ τ. (let b = a.marks τ in (
+          event n i ∷ b.0,
+          reads.mark b.1,
           ap (λ o. on_pile (by_mark o (λ k. does (rule k) (tell i) s)) (λ next. does_all tell b.0 next)) is
-          ∙ ap (λ told. on_pile (does (rule m) told s) (λ next. does_all tell b.0 next)) (next_told i w stands)
-          ∙ ap (λ o. on_pile o (λ next. does_all tell b.0 next)) built ∙ b.2))
+              ∙ ap (λ told. on_pile (does (rule m) told s) (λ next. does_all tell b.0 next)) (next_told i w stands)
+              ∙ ap (λ o. on_pile o (λ next. does_all tell b.0 next)) built ∙ b.2,
+        ));
       }
   reads_of_goes (goes.part p applies r q) i stands =
       let a = reads_of_goes r i stands in
@@ -127,7 +129,7 @@ module _ (tell : ℕ → Telling) where
       record {
         place = b.place;
         stands = b.stands;
-        marks = λ τ. (let d = b.marks τ in let c = a.marks d.0 in (c.0, reads.part p applies c.1 d.1, c.2 ∙ d.2))
+        marks = λ τ. (let d = b.marks τ in let c = a.marks d.0 in (c.0, reads.part p applies c.1 d.1, c.2 ∙ d.2));
       }
 
 stand_if_told : (tell : ℕ → Telling) (ws : List Word) (i : ℕ) → ((n : ℕ) → tell (i + n) ≡ get_or (map telling_of ws) n ending) → Stands tell i (before ws [])

@@ -64,6 +64,7 @@ module _ (source : List ℕ) (tokens : List Token) (lexed : IsLexed source token
           let stands = of_each (StandsIn source) tokens n (token_at token.Id 0 0) inside (stands_all source tokens lexed.read) in
           let sound = told_sound source tokens lexed n inside (name (bytes_of source (here n))) (inl id, refl) in
           id_kind (drop (here n).span.from source) stands.0 ((here n).span.to - (here n).span.from) sound.0 (stands.1 ∙ ap (λ k. token_of k (Some ((here n).span.to - (here n).span.from))) id)
+
       as_skip : (here n).kind ≡ token.Absent absent.Skip → word_kind (bytes_of source (here n)) ≡ token.Absent absent.Skip
       as_skip skip =
           let its_text = of_each (HasItsText source) tokens n (token_at token.Id 0 0) inside lexed.texts in
