@@ -2,10 +2,10 @@
 -- build, and back.
 use Rattle.std.specs.Prelude.{option_map}
 use Rattle.std.proofs.Common.{◌≡◌, ℕ, suc, ◌+◌, get_or, arith, List, [], ◌∷◌, map, Bool, true, false, cond, ◌==◌, Option, Some, None, refl, ap, sym, ◌∙◌, subst}
+use Rattle.sp_lex.specs.Lexed.{Lexed}
 use Rattle.sp_parser.specs.declared.symbol.Symbol.{Symbol}
 use Rattle.sp_parser.specs.declared.symbol.Symbol.TheVariants as symbol
 use Rattle.sp_parser.specs.declared.symbol.Event.{Event}
-use Rattle.sp_lex.specs.Lexed.{Lexed}
 use Rattle.sp_parser.specs.Grammar.{Derives, takes, Nothing, First, All, Applies, SECOND, CLOSE, event}
 use Rattle.sp_grammar.specs.declared.marks.Mark.{Mark}
 use Rattle.sp_grammar.specs.Marks.{mark_with}
@@ -33,6 +33,7 @@ use Rattle.sp_round_trip.proofs.Goes as goes
 use Rattle.sp_round_trip.proofs.Machine.{piled, tell_at, all_held, of_bare}
 use Rattle.sp_round_trip.proofs.Telling.{get_map, map_of, one_left}
 
+-- equal lists begin and end alike
 parts_same : {A : Type 0} (x y : A) (xs ys : List A) → x ∷ xs ≡ y ∷ ys → (x ≡ y) × (xs ≡ ys)
 parts_same x y xs ys e = (cc, cc)
 
@@ -56,7 +57,7 @@ mark_passed (Some m) go on z h = by_pile (go m) refl h
 
 module _ (tell : ℕ → Telling) where
   -- from a place on, the tokens tell these words
-  abbrev pub Stands : ℕ → List Tok → Type 0
+  abbrev Stands : ℕ → List Tok → Type 0
   Stands i [] = tell i ≡ ending
   Stands i (x ∷ w) = (tell i ≡ tells x) × Stands (suc i) w
 
@@ -65,15 +66,15 @@ module _ (tell : ℕ → Telling) where
   next_told i (x ∷ w) h = h.0
 
   -- what a reading leaves: up to place j, where these kinds stand and these marks are still to pass
-  pub record Gone (ss : List Symbol) (w : List Tok) (s : Pile) (j : ℕ) (v : List ℕ) (τ : List Event) (z : Pile) : Type 0 where
-    pub rest : List Tok
-    pub pile : Pile
-    pub goes : Goes ss w s rest pile
-    pub kinds : map number rest ≡ v
-    pub stands : Stands j rest
-    pub does : does_all tell τ pile ≡ Some z
+  record Gone (ss : List Symbol) (w : List Tok) (s : Pile) (j : ℕ) (v : List ℕ) (τ : List Event) (z : Pile) : Type 0 where
+    rest : List Tok
+    pile : Pile
+    goes : Goes ss w s rest pile
+    kinds : map number rest ≡ v
+    stands : Stands j rest
+    does : does_all tell τ pile ≡ Some z
 
-  pub goes_of_reads : {ss : List Symbol} {i j : ℕ} {k l : List ℕ} {ρ τ : List Event} → Reads own ss i k ρ j l τ → (w : List Tok) (s z : Pile) → map number w ≡ k → Stands i w → does_all tell ρ s ≡ Some z → Gone ss w s j l τ z
+  goes_of_reads : {ss : List Symbol} {i j : ℕ} {k l : List ℕ} {ρ τ : List Event} → Reads own ss i k ρ j l τ → (w : List Tok) (s z : Pile) → map number w ≡ k → Stands i w → does_all tell ρ s ≡ Some z → Gone ss w s j l τ z
   goes_of_reads reads.nothing w s z kinds stands done = record { rest = w; pile = s; goes = goes.nothing; kinds = kinds; stands = stands; does = done }
   goes_of_reads (reads.whole t r) [] s z kinds stands done = absurd cc
   goes_of_reads (reads.whole {e = e} {k = k} {w = ks} t r) (x ∷ w) s z kinds stands done =
@@ -97,12 +98,12 @@ module _ (tell : ℕ → Telling) where
       record { rest = b.rest; pile = b.pile; goes = goes.part p (subst (λ k. Applies own n p k) (sym kinds) applies) a.goes b.goes; kinds = b.kinds; stands = b.stands; does = b.does }
 
   -- A reading of words from place i on ends at a place, and passes marks before any that are left, which do what it does.
-  pub record Read (ss : List Symbol) (i : ℕ) (w : List Tok) (s : Pile) (v : List Tok) (t : Pile) : Type 0 where
-    pub place : ℕ
-    pub stands : Stands place v
-    pub marks : (τ : List Event) → (ρ : List Event) × Reads own ss i (map number w) ρ place (map number v) τ × (does_all tell ρ s ≡ does_all tell τ t)
+  record Read (ss : List Symbol) (i : ℕ) (w : List Tok) (s : Pile) (v : List Tok) (t : Pile) : Type 0 where
+    place : ℕ
+    stands : Stands place v
+    marks : (τ : List Event) → (ρ : List Event) × Reads own ss i (map number w) ρ place (map number v) τ × (does_all tell ρ s ≡ does_all tell τ t)
 
-  pub reads_of_goes : {ss : List Symbol} {w v : List Tok} {s t : Pile} → Goes ss w s v t → (i : ℕ) → Stands i w → Read ss i w s v t
+  reads_of_goes : {ss : List Symbol} {w v : List Tok} {s t : Pile} → Goes ss w s v t → (i : ℕ) → Stands i w → Read ss i w s v t
   reads_of_goes goes.nothing i stands = record { place = i; stands = stands; marks = λ τ. (τ, reads.nothing, refl) }
   reads_of_goes (goes.whole t r) i stands =
       let a = reads_of_goes r (suc i) stands.1 in
@@ -132,6 +133,7 @@ module _ (tell : ℕ → Telling) where
         marks = λ τ. (let d = b.marks τ in let c = a.marks d.0 in (c.0, reads.part p applies c.1 d.1, c.2 ∙ d.2));
       }
 
+-- words stand there if the tokens tell them one for one, and nothing behind them
 stand_if_told : (tell : ℕ → Telling) (ws : List Word) (i : ℕ) → ((n : ℕ) → tell (i + n) ≡ get_or (map telling_of ws) n ending) → Stands tell i (before ws [])
 stand_if_told tell [] i h = ap tell (omega arith) ∙ h 0
 stand_if_told tell (w ∷ ws) i h = (ap tell (omega arith) ∙ h 0, stand_if_told tell ws (suc i) (λ n. ap tell (omega arith) ∙ h (suc n)))

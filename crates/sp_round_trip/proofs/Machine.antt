@@ -92,7 +92,7 @@ form_same (by_event form) (token.Hook h) b = refl
 form_same (by_event form) kind b = refl
 
 -- a stack apart from places, where `tell` says what each token tells
-abbrev pub held : (ℕ → Telling) → Item → Held
+abbrev held : (ℕ → Telling) → Item → Held
 held tell (begun n) = started (tell n)
 held tell (built t) = made (bare t)
 
@@ -168,7 +168,7 @@ module _ (source : List ℕ) (tokens : List Token) where
   abbrev tell : ℕ → Telling
   tell = tell_at source tokens
 
-  pub done_held : (r : Rule) (n : ℕ) (s : Stack) → option_map (piled tell) (done_by r source tokens n s) ≡ does r (tell n) (piled tell s)
+  done_held : (r : Rule) (n : ℕ) (s : Stack) → option_map (piled tell) (done_by r source tokens n s) ≡ does r (tell n) (piled tell s)
   done_held begins n s = refl
   done_held leaves_out n s = refl
   done_held (takes l) n s =
