@@ -14,6 +14,6 @@ pub mod Levels
 pub mod Firsts
 pub mod Piles
 pub mod Worded
-pub mod Spelled
+pub mod Nowhere
 pub mod Converted
-pub mod Again
+pub mod Canonical

@@ -26,7 +26,7 @@ use Rattle.sp_round_trip.proofs.Converted.{ReadsModule, goes_of_tree, tree_of_go
 use Rattle.sp_round_trip.proofs.Goes.{Tok, telling_of, before}
 use Rattle.sp_round_trip.proofs.Machine.{of_bare}
 use Rattle.sp_round_trip.proofs.Shown.{flat}
-use Rattle.sp_round_trip.proofs.Spelled.{lines_same}
+use Rattle.sp_round_trip.proofs.Nowhere.{lines_same}
 use Rattle.sp_round_trip.proofs.Tells.{module_tells}
 use Rattle.sp_round_trip.proofs.Worded.{told_words, lines_told}
 
