@@ -7,6 +7,7 @@ use Rattle.sp_parser.specs.declared.symbol.Symbol.{Symbol}
 use Rattle.sp_parser.specs.declared.symbol.Symbol.TheVariants as symbol
 use Rattle.sp_parser.specs.Grammar.{Take, Nothing, All, takes, CLOSE, GREATER, SECOND}
 use Rattle.sp_grammar.specs.declared.terminals.Terminal.{Terminal}
+use Rattle.sp_grammar.specs.declared.terminals.Terminal.TheVariants as token
 use Rattle.sp_grammar.specs.declared.marks.Mark.{Mark}
 use Rattle.sp_grammar.specs.Marks.{mark_with}
 use Rattle.sp_grammar.specs.Sets.{sets}
@@ -75,11 +76,17 @@ abbrev pub is_avoided : Option Terminal → Terminal → Bool
 is_avoided None e = false
 is_avoided (Some f) e = terminal_number f == terminal_number e
 
+-- the tokens that parts avoid
+abbrev pub is_watched : Terminal → Bool
+is_watched token.LeftParen = true
+is_watched token.Else = true
+is_watched _ = false
+
 -- whether the part may stand before these symbols
 abbrev pub next_fits : Option Terminal → Guard → ℕ → List Symbol → Bool
 next_fits None guard n rest = true
 next_fits (Some e) guard n rest =
-    not (comes_first (terminal_number e) rest)
+    is_watched e && not (comes_first (terminal_number e) rest)
     && (not (may_be_empty rest) || (is_avoided guard.avoid e && (not guard.kept || (is_kept n && are_marks rest))))
 
 -- chunks for each tree that has begun, the last one first
@@ -145,15 +152,15 @@ one_each _ _ = false
 abbrev pub is_laid : Form → List Chunk → Bool
 is_laid form cs = laid_as form (layout form) cs && not (is_new form)
 
+abbrev pub put_before : Chunk → Option (List Chunk) → Option (List Chunk)
+put_before c None = None
+put_before c (Some cs) = Some (c ∷ cs)
+
 -- the last tree of the chunks is wrapped
 abbrev pub wrapped_last : Form → List Chunk → Option (List Chunk)
 wrapped_last form [] = None
 wrapped_last form (c ∷ []) = if is_one c && is_laid form (c ∷ []) then Some (node_chunk form ∷ []) else None
 wrapped_last form (c ∷ d ∷ cs) = put_before c (wrapped_last form (d ∷ cs))
-  where
-  put_before : Chunk → Option (List Chunk) → Option (List Chunk)
-  put_before c None = None
-  put_before c (Some cs) = Some (c ∷ cs)
 
 abbrev pub moved : Option (List Chunk) → State → Move
 moved None σ = stuck
@@ -221,8 +228,13 @@ abbrev pub is_spelled : ℕ → Bool → Option State → Bool
 is_spelled n passes (Some ((built level ∷ []) ∷ [])) = (if passes then level == 15 else nat_lt level 15) && ((n == part_number Part.Primary) || (n == part_number (level_part level)))
 is_spelled n passes _ = false
 
+-- whether nothing else is avoided than this token
+abbrev pub avoids_only : Terminal → Option Terminal → Bool
+avoids_only e None = true
+avoids_only e (Some f) = terminal_number e == terminal_number f
+
 -- a production of a part is written as the part's trees are
 abbrev pub is_again : Manner → ℕ → List Symbol → Bool
 is_again (plain y) n ss = is_yield y (advance (guard_of n) ss ([] ∷ []))
-is_again (expression level) n ss = is_spelled n true (advance unguarded ss ([] ∷ [])) || is_spelled n false (advance (guard_of n) ss ([] ∷ []))
+is_again (expression level) n ss = is_spelled n true (advance unguarded ss ([] ∷ [])) || (avoids_only token.LeftParen (avoided n) && is_spelled n false (advance (guard_of n) ss ([] ∷ [])))
 is_again _ n ss = false

@@ -99,7 +99,7 @@ attribute_is (token.Attribute attribute.Try) attribute_name.Try e = refl
 attribute_is (token.Attribute attribute.Synchronize) attribute_name.Synchronize e = refl
 attribute_is kind a e = absurd cc
 
-hook_is : (h : Hook) → hook_token (hook_name_of h) ≡ h
+pub hook_is : (h : Hook) → hook_token (hook_name_of h) ≡ h
 hook_is hook.Init = refl
 hook_is hook.Done = refl
 hook_is hook.Error = refl
@@ -139,7 +139,7 @@ attribute_again attribute_name.ParseAt = refl
 attribute_again attribute_name.Try = refl
 attribute_again attribute_name.Synchronize = refl
 
-some_is : {A : Type 0} {x y : A} → Some x ≡ Some y → x ≡ y
+pub some_is : {A : Type 0} {x y : A} → Some x ≡ Some y → x ≡ y
 some_is e = cc
 
 -- the word that the tree of a token tells, which tells the same, and is of the same kind
@@ -150,7 +150,7 @@ pub mapped : {A B : Type 0} (f : A → B) (o : Option A) (y : B) → option_map 
 mapped f None y e = absurd cc
 mapped f (Some x) y e = (x, refl, some_is e)
 
-event_told : (kind : TokenKind) (its : HookName → Form) (x : Word) (form : Form) → form_told (by_event its) kind x ≡ Some form → (h : Hook) × (kind ≡ token.Hook h) × (its (hook_name_of h) ≡ form)
+pub event_told : (kind : TokenKind) (its : HookName → Form) (x : Word) (form : Form) → form_told (by_event its) kind x ≡ Some form → (h : Hook) × (kind ≡ token.Hook h) × (its (hook_name_of h) ≡ form)
 event_told (token.Hook h) its x form e = (h, refl, some_is e)
 event_told kind its x form e = absurd cc
 
