@@ -2,8 +2,10 @@ pub mod Advance
 pub mod Again
 pub mod Alternatives
 pub mod Attributes
+pub mod Canonical
 pub mod Chunks
 pub mod Closing
+pub mod Converted
 pub mod Declarations
 pub mod ElseBranches
 pub mod EnumLabels
@@ -23,6 +25,7 @@ pub mod Levels
 pub mod Machine
 pub mod Moves
 pub mod News
+pub mod Nowhere
 pub mod Operands
 pub mod Parameters
 pub mod Piles
@@ -36,5 +39,6 @@ pub mod Telling
 pub mod Tells
 pub mod Traces
 pub mod TypedNumbers
+pub mod Worded
 pub mod Words
 pub mod Produces

@@ -17,7 +17,7 @@ use Rattle.sp_lex.specs.declared.kinds.TokenKind.{TokenKind}
 use Rattle.sp_print.specs.Words.{Word, name}
 use Rattle.sp_print.specs.Words.{number as numeral}
 use Rattle.sp_printed_words.specs.Sound.{read_as}
-use Rattle.sp_round_trip.proofs.Machine.{form_told}
+use Rattle.sp_round_trip.proofs.Held.{form_told}
 use Rattle.sp_ast.specs.Trees.{Tree, absent, tree, in_row}
 use Rattle.sp_ast.specs.declared.words.IntWord.{IntWord}
 use Rattle.sp_ast.specs.declared.words.AttributeName.{AttributeName}
