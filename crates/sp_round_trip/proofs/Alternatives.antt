@@ -1,21 +1,33 @@
--- The alternatives of expressions that are proved one by one, to be found by their part and their place in it.
+-- The alternatives of parts of which it is proved one by one that they can be read again, to be found by their part and
+-- their place in it.
 use Rattle.std.specs.Prelude.{◌&&◌, ◌||◌}
-use Rattle.std.proofs.Common.{◌≡◌, ℕ, List, [], ◌∷◌, Bool, true, false, ◌==◌, subst, inl, inr}
+use Rattle.std.proofs.Common.{◌≡◌, ℕ, List, [], ◌∷◌, map, Bool, true, false, ◌==◌, subst, inl, inr}
 use Rattle.std.proofs.lemmas.Bool.{and_parts, cases_Bool, eqb-true}
-use Rattle.sp_parser.specs.Grammar.{right}
+use Rattle.sp_parser.specs.Grammar.{Applies, right}
 use Rattle.sp_grammar.specs.Written.{Part, part_number}
 use Rattle.sp_grammar.specs.Own.{own}
 use Rattle.sp_round_trip.proofs.Held.{Pile}
-use Rattle.sp_round_trip.proofs.Goes.{Tok}
+use Rattle.sp_round_trip.proofs.Goes.{Tok, number}
 use Rattle.sp_round_trip.proofs.Shown.{Claim, Trace}
+use Rattle.sp_round_trip.proofs.Attributes.{attributes_shown}
+use Rattle.sp_round_trip.proofs.Declarations.{declarations_shown, no_declarations_shown}
+use Rattle.sp_round_trip.proofs.ElseBranches.{else_if_shown, else_shown, no_else_shown}
+use Rattle.sp_round_trip.proofs.EnumLabels.{last_comma_shown}
+use Rattle.sp_round_trip.proofs.FieldHooks.{no_hooks_shown, hooks_shown}
+use Rattle.sp_round_trip.proofs.HookDeclarations.{on_shown}
+use Rattle.sp_round_trip.proofs.HookPaths.{more_path_shown, path_event_shown, path_end_shown}
+use Rattle.sp_round_trip.proofs.IfStatements.{if_shown}
+use Rattle.sp_round_trip.proofs.IntegerBases.{number_base_shown, integer_base_shown}
 use Rattle.sp_round_trip.proofs.Keeping.{keeps_expr, keeps_or, keeps_and, keeps_membership, keeps_equality, keeps_order, keeps_bit_or, keeps_bit_xor, keeps_bit_and, keeps_shift, keeps_sum, keeps_product, keeps_prefix, keeps_postfix, keeps_parentheses}
+use Rattle.sp_round_trip.proofs.News.{makes_new, has_arguments, has_no_arguments}
 use Rattle.sp_round_trip.proofs.Operands.{divides, calls}
-use Rattle.sp_round_trip.proofs.News.{has_arguments, has_no_arguments, makes_new}
+use Rattle.sp_round_trip.proofs.Parameters.{parameters_shown, no_parameters_shown}
+use Rattle.sp_round_trip.proofs.Semicolons.{semicolon_shown, no_semicolon_shown}
 use Rattle.sp_round_trip.proofs.TypedNumbers.{types_number}
 
 -- what is claimed of a part, where this alternative of it was read
 abbrev pub Claimed : ℕ → ℕ → Type 0
-Claimed n p = (w u : List Tok) (s t : Pile) → Trace (right own n p) w s u t → Claim n w s t u
+Claimed n p = (w u : List Tok) (s t : Pile) → Applies own n p (map number w) → Trace (right own n p) w s u t → Claim n w s t u
 
 -- an alternative of a part of which it is proved
 pub record Alternative : Type 0 where
@@ -26,29 +38,49 @@ pub record Alternative : Type 0 where
 abbrev alternative : (n p : ℕ) → Claimed n p → Alternative
 alternative n p c = record { of = n; place = p; claimed = c }
 
-abbrev pub of_expressions : List Alternative
-of_expressions =
-    alternative (part_number Part.Expr) 1 (λ w u s t g. keeps_expr g)
-    ∷ alternative (part_number Part.Or) 1 (λ w u s t g. keeps_or g)
-    ∷ alternative (part_number Part.And) 1 (λ w u s t g. keeps_and g)
-    ∷ alternative (part_number Part.Membership) 2 (λ w u s t g. keeps_membership g)
-    ∷ alternative (part_number Part.Equality) 2 (λ w u s t g. keeps_equality g)
-    ∷ alternative (part_number Part.Order) 4 (λ w u s t g. keeps_order g)
-    ∷ alternative (part_number Part.BitOr) 1 (λ w u s t g. keeps_bit_or g)
-    ∷ alternative (part_number Part.BitXor) 1 (λ w u s t g. keeps_bit_xor g)
-    ∷ alternative (part_number Part.BitAnd) 1 (λ w u s t g. keeps_bit_and g)
-    ∷ alternative (part_number Part.Shift) 2 (λ w u s t g. keeps_shift g)
-    ∷ alternative (part_number Part.Sum) 2 (λ w u s t g. keeps_sum g)
-    ∷ alternative (part_number Part.Product) 1 (λ w u s t g. divides g)
-    ∷ alternative (part_number Part.Product) 3 (λ w u s t g. keeps_product g)
-    ∷ alternative (part_number Part.Prefix) 3 (λ w u s t g. keeps_prefix g)
-    ∷ alternative (part_number Part.Postfix) 3 (λ w u s t g. calls g)
-    ∷ alternative (part_number Part.Postfix) 4 (λ w u s t g. keeps_postfix g)
-    ∷ alternative (part_number Part.Primary) 9 (λ w u s t g. keeps_parentheses g)
-    ∷ alternative (part_number Part.Primary) 17 (λ w u s t g. types_number g)
-    ∷ alternative (part_number Part.Primary) 19 (λ w u s t g. makes_new g)
-    ∷ alternative (part_number Part.NewArgs) 0 (λ w u s t g. has_arguments g)
-    ∷ alternative (part_number Part.NewArgs) 1 (λ w u s t g. has_no_arguments g)
+abbrev pub alternatives : List Alternative
+alternatives =
+    alternative (part_number Part.Decls) 0 (λ w u s t a g. declarations_shown w u s t g)
+    ∷ alternative (part_number Part.Decls) 1 (λ w u s t a g. no_declarations_shown w u s t g)
+    ∷ alternative (part_number Part.Decl) 9 (λ w u s t a g. on_shown w u s t g)
+    ∷ alternative (part_number Part.OnPath) 0 (λ w u s t a g. more_path_shown w u s t g)
+    ∷ alternative (part_number Part.OnPath) 1 (λ w u s t a g. path_event_shown w u s t g)
+    ∷ alternative (part_number Part.OnPath) 2 (λ w u s t a g. path_end_shown w u s t g)
+    ∷ alternative (part_number Part.OptParen) 0 (λ w u s t a g. parameters_shown w u s t g)
+    ∷ alternative (part_number Part.OptParen) 1 (λ w u s t a g. no_parameters_shown w u s t g)
+    ∷ alternative (part_number Part.Labels) 1 (λ w u s t a g. last_comma_shown w u s t g)
+    ∷ alternative (part_number Part.OptSemi) 0 (λ w u s t a g. semicolon_shown w u s t g)
+    ∷ alternative (part_number Part.OptSemi) 1 (λ w u s t a g. no_semicolon_shown w u s t g)
+    ∷ alternative (part_number Part.Attrs) 0 (λ w u s t a g. attributes_shown w u s t g)
+    ∷ alternative (part_number Part.FieldEnd) 0 (λ w u s t a g. no_hooks_shown w u s t g)
+    ∷ alternative (part_number Part.FieldEnd) 1 (λ w u s t a g. hooks_shown w u s t g)
+    ∷ alternative (part_number Part.Base) 2 (λ w u s t a g. number_base_shown w u s t g)
+    ∷ alternative (part_number Part.Base) 3 (λ w u s t a g. integer_base_shown w u s t g)
+    ∷ alternative (part_number Part.Stmt) 0 (λ w u s t a g. if_shown w u s t g)
+    ∷ alternative (part_number Part.OptElse) 0 (λ w u s t a g. else_if_shown w u s t g)
+    ∷ alternative (part_number Part.OptElse) 1 (λ w u s t a g. else_shown w u s t g)
+    ∷ alternative (part_number Part.OptElse) 2 (λ w u s t a g. no_else_shown w u s t a g)
+    ∷ alternative (part_number Part.Expr) 1 (λ w u s t a g. keeps_expr g)
+    ∷ alternative (part_number Part.Or) 1 (λ w u s t a g. keeps_or g)
+    ∷ alternative (part_number Part.And) 1 (λ w u s t a g. keeps_and g)
+    ∷ alternative (part_number Part.Membership) 2 (λ w u s t a g. keeps_membership g)
+    ∷ alternative (part_number Part.Equality) 2 (λ w u s t a g. keeps_equality g)
+    ∷ alternative (part_number Part.Order) 4 (λ w u s t a g. keeps_order g)
+    ∷ alternative (part_number Part.BitOr) 1 (λ w u s t a g. keeps_bit_or g)
+    ∷ alternative (part_number Part.BitXor) 1 (λ w u s t a g. keeps_bit_xor g)
+    ∷ alternative (part_number Part.BitAnd) 1 (λ w u s t a g. keeps_bit_and g)
+    ∷ alternative (part_number Part.Shift) 2 (λ w u s t a g. keeps_shift g)
+    ∷ alternative (part_number Part.Sum) 2 (λ w u s t a g. keeps_sum g)
+    ∷ alternative (part_number Part.Product) 1 (λ w u s t a g. divides g)
+    ∷ alternative (part_number Part.Product) 3 (λ w u s t a g. keeps_product g)
+    ∷ alternative (part_number Part.Prefix) 3 (λ w u s t a g. keeps_prefix g)
+    ∷ alternative (part_number Part.Postfix) 3 (λ w u s t a g. calls g)
+    ∷ alternative (part_number Part.Postfix) 4 (λ w u s t a g. keeps_postfix g)
+    ∷ alternative (part_number Part.Primary) 9 (λ w u s t a g. keeps_parentheses g)
+    ∷ alternative (part_number Part.Primary) 17 (λ w u s t a g. types_number g)
+    ∷ alternative (part_number Part.Primary) 19 (λ w u s t a g. makes_new g)
+    ∷ alternative (part_number Part.NewArgs) 0 (λ w u s t a g. has_arguments g)
+    ∷ alternative (part_number Part.NewArgs) 1 (λ w u s t a g. has_no_arguments g)
     ∷ []
 
 abbrev pub is_among : ℕ → ℕ → List Alternative → Bool

@@ -29,6 +29,7 @@ pub mod Nowhere
 pub mod Operands
 pub mod Parameters
 pub mod Piles
+pub mod Produces
 pub mod Semicolons
 pub mod Shown
 pub mod Singles
@@ -41,4 +42,3 @@ pub mod Traces
 pub mod TypedNumbers
 pub mod Worded
 pub mod Words
-pub mod Produces
