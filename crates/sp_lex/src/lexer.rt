@@ -52,6 +52,7 @@ fn valid_len(text: &[u8]) -> usize
 fn zero_free_len(text: &[u8]) -> usize
     ensures value { result ≡ position_or_len (λ byte. byte == 0) text.now }
     ensures within { result ≤ length text.now }
+    ensures no_zero { length text.now ≤ result → AllByRecursion (λ byte. 0 < byte) text.now }
 {
     text.iter().take_while(|byte| **byte != 0).count()
 }
@@ -61,6 +62,7 @@ fn first_bad(text: &[u8]) -> usize
     ensures value { result ≡ first_bad text.now }
     ensures within { result ≤ length text.now }
     ensures utf8 { length text.now ≤ result → IsUtf8 text.now }
+    ensures no_zero { length text.now ≤ result → AllByRecursion (λ byte. 0 < byte) text.now }
 {
     valid_len(text).min(zero_free_len(text))
 }
@@ -71,6 +73,7 @@ fn text_fault(source: &[u8], seen: &[u8]) -> Option<Fault>
     requires small { length seen.now ≤ most_bytes + 1 }
     ensures right { IfNone result ((span : Span) (m : MKind) → ¬ IsTextFault source.now span m) }
     ensures utf8 { IfNone result (IsUtf8 seen.now) }
+    ensures no_zero { IfNone result (AllByRecursion (λ byte. 0 < byte) seen.now) }
     ensures inside { IfSome result (λ f. f.span.from ≤ length seen.now) }
     ensures fault { IfSome result (λ f. IsTextFault source.now f.span f.kind) }
     ensures least { IfSome result (λ f. (other : Span) (k : MKind) → IsTextFault source.now other k → GoesBefore f.span f.kind other k) }
@@ -131,6 +134,7 @@ fn refused(alloc: Global, seen: &[u8], fault: Fault) -> ReadFault
 fn lexed(alloc: Global, text: &[u8]) -> Result<Tokens, ReadFault>
     requires small { length text.now ≤ most_bytes }
     requires utf8 { IsUtf8 text.now }
+    requires no_zero { AllByRecursion (λ byte. 0 < byte) text.now }
     ensures text { IfOk result (λ tokens. tokens.text ≡ text.now) }
     ensures lexed { IfOk result (λ tokens. IsLexed text.now tokens.list) }
     ensures right { IfOk result (λ _. (span : Span) (m : MKind) → ¬ IsReadingFault text.now outermost (reading text.now) span m) }

@@ -1,4 +1,4 @@
--- A word that a token of a text tells can be read again.
+-- A word that a token of a text tells can be read again, and has no byte 0.
 use Rattle.std.proofs.Common.{◌≡◌, ℕ, zero, suc, ◌+◌, ◌-◌, ◌*◌, ◌/◌, ◌%◌, ◌<◌, ◌≤◌, ◌^◌, inl, inr, List, [], ◌∷◌, ◌++◌, length, get_or, take, drop, Bool, true, false, ◌&&◌, ◌==◌, cond, nat_lt, Option, Some, None, option_map, sym, refl, ap, subst, ◌∙◌, arith, rules, tests, length-drop}
 use Rattle.std.specs.Prelude.{codes, encode_utf8_all}
 use Rattle.std.proofs.Math.Utf8.{encode}
@@ -29,7 +29,7 @@ use Rattle.sp_literals.specs.Values.{IsName, char_value, char_size, escaped, dec
 use Rattle.sp_literals.specs.Values.{hex_digit as digit_worth}
 use Rattle.sp_literals.proofs.Utf8.{decoded_utf8}
 use Rattle.sp_print.specs.Words.{Word, fixed, name, number, text, bytes, regex, written}
-use Rattle.sp_printed_words.specs.Sound.{IsNameText, IsRegexWord, IsSound}
+use Rattle.sp_printed_words.specs.Sound.{IsNameText, IsRegexWord, IsSound, HasNoZero}
 use Rattle.sp_printed_words.specs.Told.{IsTold}
 use Rattle.sp_printed_words.proofs.Literal.{slashed_len, some_bytes}
 use Rattle.sp_printed_words.proofs.Letters.{letter_at, digit_at}
@@ -114,15 +114,22 @@ small_encodes (c ∷ cs) h = let parts = both _ (all_scalars cs) h in all_append
 utf8_small : (x : List ℕ) → IsUtf8 x → AllByRecursion (λ b. b < 256) x
 utf8_small x utf8 = subst (AllByRecursion (λ b. b < 256)) utf8.1.1 (small_encodes utf8.0 utf8.1.0)
 
-small_drop : (n : ℕ) (x : List ℕ) → AllByRecursion (λ b. b < 256) x → AllByRecursion (λ b. b < 256) (drop n x)
-small_drop zero x all = all
-small_drop (suc n) [] all = tt
-small_drop (suc n) (b ∷ x) all = small_drop n x all.1
+-- what holds of all bytes holds of those of a part
+part_drop : (P : ℕ → Type 0) (n : ℕ) (x : List ℕ) → AllByRecursion P x → AllByRecursion P (drop n x)
+part_drop P zero x all = all
+part_drop P (suc n) [] all = tt
+part_drop P (suc n) (b ∷ x) all = part_drop P n x all.1
 
-small_take : (n : ℕ) (x : List ℕ) → AllByRecursion (λ b. b < 256) x → AllByRecursion (λ b. b < 256) (take n x)
-small_take zero x all = tt
-small_take (suc n) [] all = tt
-small_take (suc n) (b ∷ x) all = (all.0, small_take n x all.1)
+part_take : (P : ℕ → Type 0) (n : ℕ) (x : List ℕ) → AllByRecursion P x → AllByRecursion P (take n x)
+part_take P zero x all = tt
+part_take P (suc n) [] all = tt
+part_take P (suc n) (b ∷ x) all = (all.0, part_take P n x all.1)
+
+part_token : (P : ℕ → Type 0) (x : List ℕ) (t : Token) → AllByRecursion P x → AllByRecursion P (bytes_of x t)
+part_token P x t all = part_take P (t.span.to - t.span.from) (drop t.span.from x) (part_drop P t.span.from x all)
+
+part_between : (P : ℕ → Type 0) (x : List ℕ) → AllByRecursion P x → AllByRecursion P (between x)
+part_between P x all = part_take P (length x - 2) (drop 1 x) (part_drop P 1 x all)
 
 small_first : (x : List ℕ) → AllByRecursion (λ b. b < 256) x → get_or x 0 0 < 256
 small_first [] all = omega arith
@@ -287,8 +294,8 @@ module _ (all : List ℕ) (tokens : List Token) (lexed : IsLexed all tokens) (at
 
   bytes_sound : AllByRecursion (λ b. b < 256) (bytes_value its)
   bytes_sound =
-      let small = small_take (here.span.to - here.span.from) (drop here.span.from all) (small_drop here.span.from all (utf8_small all lexed.utf8)) in
-      decoded_small (between (drop 1 its)) 0 (small_take (length (drop 1 its) - 2) (drop 1 (drop 1 its)) (small_drop 1 (drop 1 its) (small_drop 1 its small)))
+      let small = part_token (λ b. b < 256) all here (utf8_small all lexed.utf8) in
+      decoded_small (between (drop 1 its)) 0 (part_between (λ b. b < 256) (drop 1 its) (part_drop (λ b. b < 256) 1 its small))
 
   regex_sound : here.kind ≡ token.Regex → IsRegexWord (between its)
   regex_sound is =
@@ -305,3 +312,7 @@ module _ (all : List ℕ) (tokens : List Token) (lexed : IsLexed all tokens) (at
   told_sound (text x) told = subst IsUtf8 told.1 (string_sound told.0)
   told_sound (bytes x) told = subst (AllByRecursion (λ b. b < 256)) told.1 bytes_sound
   told_sound (regex x) told = subst IsRegexWord told.1 (regex_sound told.0)
+
+  pub told_no_zero : (w : Word) → IsTold w here.kind its → HasNoZero w
+  told_no_zero (regex x) told = subst (AllByRecursion (λ b. 0 < b)) told.1 (part_between (λ b. 0 < b) its (part_token (λ b. 0 < b) all here lexed.no_zero))
+  told_no_zero w told = tt

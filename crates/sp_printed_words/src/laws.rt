@@ -33,9 +33,10 @@ pub fn words_have_no_other_fault()
     ensures { (lines : List (List Word)) → AreSound lines → HaveNoZero lines → length (text_of lines) ≤ most_bytes → (span : Span) (kind : MKind) → IsFault (text_of lines) span kind → kind ≡ module_kind.TooDeep }
 {}
 
-/// A word that a token of a text tells can be read again.
+/// A word that a token of a text tells can be read again, and has no byte 0.
 pub fn words_of_a_text_are_sound()
-    ensures { (text : List ℕ) (tokens : List Token) → IsLexed text tokens → (at : ℕ) → at < length tokens → (w : Word) → IsTold w (numbered tokens at).kind (bytes_of text (numbered tokens at)) → IsSound w }
+    ensures sound { (text : List ℕ) (tokens : List Token) → IsLexed text tokens → (at : ℕ) → at < length tokens → (w : Word) → IsTold w (numbered tokens at).kind (bytes_of text (numbered tokens at)) → IsSound w }
+    ensures no_zero { (text : List ℕ) (tokens : List Token) → IsLexed text tokens → (at : ℕ) → at < length tokens → (w : Word) → IsTold w (numbered tokens at).kind (bytes_of text (numbered tokens at)) → HasNoZero w }
 {}
 
 /// The canonical text of a module is the text of its words.

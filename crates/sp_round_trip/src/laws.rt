@@ -5,7 +5,7 @@ ghost use Rattle.sp_lex.specs.Lexed.{Lexed, IsLexed};
 ghost use Rattle.sp_ast.specs.Trees.{Tree};
 ghost use Rattle.sp_read_unit.specs.Modules.{IsModuleTree};
 ghost use Rattle.sp_printed_words.specs.Modules.{module_lines};
-ghost use Rattle.sp_printed_words.specs.Sound.{IsSound};
+ghost use Rattle.sp_printed_words.specs.Sound.{HaveNoZero, IsSound};
 ghost use Rattle.sp_round_trip.specs.Bare.{bare};
 ghost use Rattle.sp_round_trip.specs.Told.{told};
 
@@ -15,7 +15,8 @@ pub fn trees_are_of_words()
     ensures { (first second : Lexed) (t : Tree) → told first ≡ told second → IsModuleTree first t → (u : Tree) × IsModuleTree second u × (bare t ≡ bare u) }
 {}
 
-/// Each word of the canonical text of a module that was read can be read again.
+/// Each word of the canonical text of a module that was read can be read again, and has no byte 0.
 pub fn words_of_a_read_module_are_sound()
-    ensures { (lexed : Lexed) (m : Tree) → IsLexed lexed.text lexed.list → IsModuleTree lexed m → AllByRecursion (AllByRecursion IsSound) (module_lines m) }
+    ensures sound { (lexed : Lexed) (m : Tree) → IsLexed lexed.text lexed.list → IsModuleTree lexed m → AllByRecursion (AllByRecursion IsSound) (module_lines m) }
+    ensures no_zero { (lexed : Lexed) (m : Tree) → IsLexed lexed.text lexed.list → IsModuleTree lexed m → HaveNoZero (module_lines m) }
 {}

@@ -15,4 +15,5 @@ new-requires c =
       order = scanned.order;
       small = c.requires.small;
       utf8 = c.requires.utf8;
+      no_zero = c.requires.no_zero;
     })
