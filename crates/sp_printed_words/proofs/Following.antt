@@ -220,8 +220,8 @@ framed_goes around t e ready base =
     (chain_goes Any Any Any (kinds (opening around)) (chain (anywhere (part_of t)) (kinds (closing around))) (kinds_goes Any (opening around) h.0)
     (chain_goes Any Any Any (anywhere (part_of t)) (kinds (closing around)) (anywhere_goes t ready base) (kinds_goes Any (closing around) h.1)))
 
-pub arguments_goes : (P : Option TokenKind → Type 0) (form : Form) (t : Tree) → ((r : Option TokenKind) → P r → Any r) → P (Some (token.Mark mark.RightParen)) → IsReady t → Goes P (part form layout_is.Arguments (part_of t)) P
-arguments_goes P form t any last ready =
+pub arguments_goes : (P : Option TokenKind → Type 0) (form : Form) (t : Tree) → P (Some (token.Mark mark.RightParen)) → IsReady t → Goes P (part form layout_is.Arguments (part_of t)) P
+arguments_goes P form t last ready =
     by_test P P (is_empty_row t) nothing (enclosed (rowed t separator.Comma)) (nothing_goes P)
     (λ k r agree p. enclosed_goes Any Any P (rowed t separator.Comma) tt last (ready.1 separator.Comma refl) k r agree tt)
 
@@ -243,7 +243,7 @@ part_goes form (layout_is.One at) t e ready base =
     place_goes (least form at) (is_dividend form at) t Any Any ready (λ k r agree p bare. any_place (least form at) (is_dividend form at) t base k r agree bare) (λ k bare s after. tt) tt
 part_goes form (layout_is.Optional around) t e ready base = framed_goes around t e ready base
 part_goes form (layout_is.Row by) t e ready base = ready.1 by e
-part_goes form layout_is.Arguments t e ready base = arguments_goes Any form t (λ r p. tt) tt ready
+part_goes form layout_is.Arguments t e ready base = arguments_goes Any form t tt ready
 part_goes form layout_is.Hooks t e ready base = by_test Any Any (is_empty_row t) (kinds (token.Mark mark.Semicolon ∷ [])) (rowed t separator.Nothing) (kinds_goes Any (token.Mark mark.Semicolon ∷ []) refl) (ready.1 separator.Nothing refl)
 
 pub laid_goes : (form : Form) (ps : List Piece) (ts : Trees) → plain_pieces ps ≡ true → Goes Any (these (own_words form)) Any → AreReady ts → HaveNoRegexBase ts → Goes Any (laid form ps (parts_of ts)) Any

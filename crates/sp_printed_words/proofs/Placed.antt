@@ -42,6 +42,7 @@ use Rattle.sp_print.specs.declared.layouts.Place.TheVariants as place
 use Rattle.sp_print.specs.declared.layouts.Frame.TheVariants as frame
 use Rattle.sp_printed_words.proofs.Following.{Agree, Goes, Any, Ends, Free, chain_goes, plain_kind, some_may, nothing_goes, kind_goes, both, ends, Before, After, IsReady, AreReady, neither, any_place, anywhere_goes, base_goes, listed_goes, by_test, framed_goes, arguments_goes, plain_pieces, part_goes, laid_goes, ends_from, laid_ends, plain_words, name_plain, own_goes, place_goes}
 
+-- a name that is read as no ID is `skip`
 found_by : {A : Type 0} (p : A → Bool) (passes : Bool) (x y : A) (rest : Option A) → p x ≡ passes → (rest ≡ Some y → p y ≡ true) → cond passes (Some x) rest ≡ Some y → p y ≡ true
 found_by p true x y rest e later is = cc
 found_by p false x y rest e later is = later is
@@ -133,6 +134,7 @@ dividend_goes t is ready base =
     ending_goes (form_is.Expr (expr_is.Binary binary.Divide)) place.Left t ready base
     (λ k bare. let h = neither (nat_lt (level_of t) 12) (true && not (divides_behind t)) (is_regex t && divides k) bare in bound_ends t 12 refl is h.0 (true_of (divides_behind t) h.1))
 
+-- where a / and a regular expression may stand
 slash_may : (k r : Option TokenKind) → Agree k r → Ends r → may_follow r (token.Mark mark.Slash) ≡ true
 slash_may (Some k) (Some r) agree end = end
 slash_may None r agree end = absurd agree
@@ -186,6 +188,7 @@ any_stands form ts special silent bases p = silent_stands form ts silent (unspec
 closed_stands : (form : Form) (ts : Trees) → is_special form ≡ false → ends_from false (layout form) ≡ true → HaveNoRegexBase ts → Parts form ts → Stands form ts
 closed_stands form ts special last bases p span k r agree before = ((unspecial form ts special bases p k r agree tt).0, λ end. laid_ends form (layout form) (parts_of ts) false last k r (λ f. cc))
 
+-- paths, and what ends with a path or a name
 path_stands : (ts : Trees) → Parts form_is.Path ts → Stands form_is.Path ts
 path_stands ts p span k r agree before =
     let h = chain_goes Any Ends Ends (listed separator.Scope (parts_of ts)) nothing (listed_ids ts p.wanted.0 p.wanted.1) (nothing_goes Ends) k r agree tt in (h.0, λ end. h.1)
@@ -200,7 +203,7 @@ new_ends : (ts : Trees) → AreReady ts → HaveNoRegexBase ts → Goes Ends (la
 new_ends none ready bases = nothing_goes Ends
 new_ends (more t ts) ready bases =
     let form = form_is.Expr expr_is.New in
-    chain_goes Ends Ends Ends (part form layout_is.Arguments (part_of t)) nothing (arguments_goes Ends form t (λ r end. tt) refl ready.0) (nothing_goes Ends)
+    chain_goes Ends Ends Ends (part form layout_is.Arguments (part_of t)) nothing (arguments_goes Ends form t refl ready.0) (nothing_goes Ends)
 
 new_stands : (ts : Trees) → Parts (form_is.Expr expr_is.New) ts → Stands (form_is.Expr expr_is.New) ts
 new_stands none p span k r agree before = let is : false ≡ true = p.wanted in absurd cc
@@ -239,10 +242,11 @@ unary_stands op (more t ts) p span k r agree before =
     chain_goes Any Any last (these (own_words form)) (chain (part form (layout_is.One place.Operand) (part_of t)) nothing) (own_goes form (both (plain_pieces (layout form)) (plain_words (own_words form)) (plain_forms form)).1 p.own)
     (chain_goes Any last last (part form (layout_is.One place.Operand) (part_of t)) nothing (operand_goes form place.Operand t refl refl p.wanted p.ready.0 p.bases.0) (nothing_goes last)) k r agree tt
 
+-- operations
 right_divides : (op : BinaryOp) → is_dividend (form_is.Expr (expr_is.Binary op)) place.Right ≡ false
 right_divides op = search (rules, tests)
 
--- an operation, by what its operator wants of the left operand
+-- by what its operator wants of the left operand
 operation_stands : (op : BinaryOp) (P : Option TokenKind → Type 0) (t u : Tree) (ts : Trees) (span : Span) → Goes Any (part (form_is.Expr (expr_is.Binary op)) (layout_is.One place.Left) (part_of t)) P → Goes P (these (own_words (form_is.Expr (expr_is.Binary op)))) Any
     → is_expression u ≡ true → IsReady u → is_regex_base u ≡ false → nat_lt 1 (level op + 1) ≡ true
     → Goes Any (spelled (node (form_is.Expr (expr_is.Binary op)) span (more t (more u ts)))) (After (node (form_is.Expr (expr_is.Binary op)) span (more t (more u ts))))
@@ -287,8 +291,8 @@ expression_stands (expr_is.Binary op) ts p = binary_stands op ts p
 expression_stands form ts p = closed_stands (form_is.Expr form) ts refl refl p.bases p
 
 -- a base behind a : or a (
-based : (form : Form) (kind : TokenKind) (t : Tree) (x : Writing) → plain_kind kind ≡ true → ends_operand kind ≡ false → IsReady t → Goes Any x Any → Goes Any (chain (kinds (kind ∷ [])) (chain (anywhere (part_of t)) x)) Any
-based form kind t x plain free ready go =
+based : (kind : TokenKind) (t : Tree) (x : Writing) → plain_kind kind ≡ true → ends_operand kind ≡ false → IsReady t → Goes Any x Any → Goes Any (chain (kinds (kind ∷ [])) (chain (anywhere (part_of t)) x)) Any
+based kind t x plain free ready go =
     chain_goes Any Free Any (kinds (kind ∷ [])) (chain (anywhere (part_of t)) x) (kind_goes Any Free kind plain free)
     (chain_goes Free Any Any (anywhere (part_of t)) x (base_goes t ready) go)
 
@@ -302,14 +306,14 @@ field_goes (more label (more base ts)) p =
     let rest = piece.Part (layout_is.Row separator.Nothing) ∷ piece.Part (layout_is.Row separator.Nothing) ∷ piece.Part (layout_is.Optional frame.If) ∷ piece.Part (layout_is.Optional frame.Arrow) ∷ piece.Part layout_is.Hooks ∷ [] in
     let behind = laid form_is.Field rest (parts_of ts) in
     chain_goes Any Any Any (framed frame.Bare (part_of label)) (chain (kinds (token.Mark mark.Colon ∷ [])) (chain (anywhere (part_of base)) behind)) (framed_goes frame.Bare label refl p.ready.0 p.bases.0)
-    (based form_is.Field (token.Mark mark.Colon) base behind refl refl p.ready.1.0 (laid_goes form_is.Field rest ts refl (no_own form_is.Field refl) p.ready.1.1 p.bases.1))
+    (based (token.Mark mark.Colon) base behind refl refl p.ready.1.0 (laid_goes form_is.Field rest ts refl (no_own form_is.Field refl) p.ready.1.1 p.bases.1))
 
 group_goes : (ts : Trees) → Parts (form_is.Base base_is.Group) ts → Goes Any (laid (form_is.Base base_is.Group) (layout (form_is.Base base_is.Group)) (parts_of ts)) Any
 group_goes none p = plain_stands (form_is.Base base_is.Group) none refl tt p
 group_goes (more base ts) p =
     let form = form_is.Base base_is.Group in
     let rest = piece.Part (layout_is.Row separator.Nothing) ∷ piece.Part (layout_is.Row separator.Nothing) ∷ piece.Word (token.Mark mark.RightParen) ∷ [] in
-    based form (token.Mark mark.LeftParen) base (laid form rest (parts_of ts)) refl refl p.ready.0 (laid_goes form rest ts refl (no_own form refl) p.ready.1 p.bases)
+    based (token.Mark mark.LeftParen) base (laid form rest (parts_of ts)) refl refl p.ready.0 (laid_goes form rest ts refl (no_own form refl) p.ready.1 p.bases)
 
 -- the hook of a path, with or without an event
 event_goes : (t : Tree) → IsReady t → is_regex_base t ≡ false → Goes Ends (framed frame.Scope (part_of t)) Any
@@ -333,6 +337,7 @@ on_goes (more t ts) p =
     chain_goes Any Any Any (kinds (token.Keyword keyword.On ∷ [])) (chain (part form (layout_is.One place.Anywhere) (part_of t)) rest) (kind_goes Any Any (token.Keyword keyword.On) refl tt)
     (chain_goes Any Ends Any (part form (layout_is.One place.Anywhere) (part_of t)) rest (path_goes form t p.wanted p.ready.0 p.bases.0) (hook_goes ts p.ready.1 p.bases.1))
 
+-- trees of all alternatives
 node_stands : (form : Form) (ts : Trees) → Parts form ts → Stands form ts
 node_stands form_is.Path ts p = path_stands ts p
 node_stands (form_is.Expr form) ts p = expression_stands form ts p

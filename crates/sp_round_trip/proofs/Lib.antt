@@ -13,3 +13,5 @@ pub mod Words
 pub mod Levels
 pub mod Firsts
 pub mod Piles
+pub mod Formed
+pub mod Placed
