@@ -24,7 +24,7 @@ use Rattle.sp_print.specs.Words.{Word, fixed, name, text, bytes, regex}
 use Rattle.sp_print.specs.Words.{number as numeral}
 use Rattle.sp_printed_words.specs.Sound.{read_as}
 use Rattle.sp_runs.specs.Kinds.{number_of, terminal_of}
-use Rattle.sp_round_trip.proofs.Machine.{form_told}
+use Rattle.sp_round_trip.proofs.Held.{form_told}
 use Rattle.sp_round_trip.proofs.Goes.{Tok, entire, half, tells, number}
 
 -- the word that an alternative tells which is of a token

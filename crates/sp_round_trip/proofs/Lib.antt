@@ -15,3 +15,7 @@ pub mod Firsts
 pub mod Piles
 pub mod Formed
 pub mod Placed
+pub mod Worded
+pub mod Spelled
+pub mod Converted
+pub mod Again
