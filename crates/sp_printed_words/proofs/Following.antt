@@ -33,7 +33,7 @@ Agree (Some k) (Some r) = ends_operand k ≡ false → ends_operand r ≡ false
 Agree k r = ⊥
 
 -- the kind as which the last word is read
-abbrev pub last_read : Option TokenKind → List Word → Option TokenKind
+abbrev last_read : Option TokenKind → List Word → Option TokenKind
 last_read before [] = before
 last_read before (w ∷ ws) = last_read (Some (read_as w)) ws
 
@@ -51,7 +51,7 @@ Ends r = divides r ≡ true
 abbrev pub Free : Option TokenKind → Type 0
 Free r = divides r ≡ false
 
-pub word_agrees : (w : Word) → Agree (Some (kind_of w)) (Some (read_as w))
+word_agrees : (w : Word) → Agree (Some (kind_of w)) (Some (read_as w))
 word_agrees (fixed kind) e = e
 word_agrees (name x) e = cc
 word_agrees (number n) e = e
@@ -59,20 +59,20 @@ word_agrees (text x) e = e
 word_agrees (bytes x) e = e
 word_agrees (regex x) e = e
 
-pub agree_last : (ws : List Word) (k r : Option TokenKind) → Agree k r → Agree (last_kind k ws) (last_read r ws)
+agree_last : (ws : List Word) (k r : Option TokenKind) → Agree k r → Agree (last_kind k ws) (last_read r ws)
 agree_last [] k r agree = agree
 agree_last (w ∷ ws) k r agree = agree_last ws (Some (kind_of w)) (Some (read_as w)) (word_agrees w)
 
-pub free_before : (k r : Option TokenKind) → Agree k r → divides k ≡ false → divides r ≡ false
+free_before : (k r : Option TokenKind) → Agree k r → divides k ≡ false → divides r ≡ false
 free_before (Some k) (Some r) agree e = agree e
 free_before None r agree e = absurd agree
 free_before (Some k) None agree e = absurd agree
 
-pub last_append : (xs ys : List Word) (r : Option TokenKind) → last_read r (xs ++ ys) ≡ last_read (last_read r xs) ys
+last_append : (xs ys : List Word) (r : Option TokenKind) → last_read r (xs ++ ys) ≡ last_read (last_read r xs) ys
 last_append [] ys r = refl
 last_append (x ∷ xs) ys r = last_append xs ys (Some (read_as x))
 
-pub placed_append : (xs ys : List Word) (r : Option TokenKind) → ArePlaced r xs → ArePlaced (last_read r xs) ys → ArePlaced r (xs ++ ys)
+placed_append : (xs ys : List Word) (r : Option TokenKind) → ArePlaced r xs → ArePlaced (last_read r xs) ys → ArePlaced r (xs ++ ys)
 placed_append [] ys r one two = two
 placed_append (x ∷ xs) ys r one two = (one.0, placed_append xs ys (Some (read_as x)) one.1 two)
 
@@ -89,7 +89,7 @@ plain_kind (token.Mark mark.ColonColon) = false
 plain_kind token.Regex = false
 plain_kind _ = true
 
-pub plain_may : (r kind : TokenKind) → plain_kind kind ≡ true → may_follow (Some r) kind ≡ true
+plain_may : (r kind : TokenKind) → plain_kind kind ≡ true → may_follow (Some r) kind ≡ true
 plain_may r (token.Mark mark.Slash) e = cc
 plain_may r (token.Mark mark.ColonColon) e = cc
 plain_may r token.Regex e = cc
@@ -106,7 +106,7 @@ nothing_goes P k r agree p = (tt, p)
 pub kind_goes : (P Q : Option TokenKind → Type 0) (kind : TokenKind) → plain_kind kind ≡ true → Q (Some kind) → Goes P (kinds (kind ∷ [])) Q
 kind_goes P Q kind e q k r agree p = ((some_may k r kind agree e, tt), q)
 
-abbrev pub plain_kinds : List TokenKind → Bool
+abbrev plain_kinds : List TokenKind → Bool
 plain_kinds [] = true
 plain_kinds (k ∷ ks) = plain_kind k && plain_kinds ks
 
@@ -114,23 +114,23 @@ pub both : (a b : Bool) → (a && b) ≡ true → (a ≡ true) × (b ≡ true)
 both true b h = (refl, h)
 both false b h = cc
 
-pub plain_placed : (ks : List TokenKind) (k r : Option TokenKind) → plain_kinds ks ≡ true → Agree k r → ArePlaced r (map fixed ks)
+plain_placed : (ks : List TokenKind) (k r : Option TokenKind) → plain_kinds ks ≡ true → Agree k r → ArePlaced r (map fixed ks)
 plain_placed [] k r e agree = tt
 plain_placed (kind ∷ ks) k r e agree =
     let h = both (plain_kind kind) (plain_kinds ks) e in
     (some_may k r kind agree h.0, plain_placed ks (Some kind) (Some kind) h.1 (λ free. free))
 
-pub kinds_goes : (P : Option TokenKind → Type 0) (ks : List TokenKind) → plain_kinds ks ≡ true → Goes P (kinds ks) Any
+kinds_goes : (P : Option TokenKind → Type 0) (ks : List TokenKind) → plain_kinds ks ≡ true → Goes P (kinds ks) Any
 kinds_goes P ks e k r agree p = (plain_placed ks k r e agree, tt)
 
 -- in parentheses anything may stand that may stand behind a (
-pub enclosed_goes : (P Q R : Option TokenKind → Type 0) (x : Writing) → P (Some (token.Mark mark.LeftParen)) → R (Some (token.Mark mark.RightParen)) → Goes P x Q → Goes Any (enclosed x) R
+enclosed_goes : (P Q R : Option TokenKind → Type 0) (x : Writing) → P (Some (token.Mark mark.LeftParen)) → R (Some (token.Mark mark.RightParen)) → Goes P x Q → Goes Any (enclosed x) R
 enclosed_goes P Q R x p last go =
     chain_goes Any P R (kinds (token.Mark mark.LeftParen ∷ [])) (chain x (kinds (token.Mark mark.RightParen ∷ []))) (kind_goes Any P (token.Mark mark.LeftParen) refl p)
     (chain_goes P Q R x (kinds (token.Mark mark.RightParen ∷ [])) go (kind_goes Q R (token.Mark mark.RightParen) refl last))
 
 -- a regular expression
-abbrev pub is_slashed : Tree → Bool
+abbrev is_slashed : Tree → Bool
 is_slashed (node (form_is.Expr (expr_is.Regex x)) span ts) = true
 is_slashed (node (form_is.Base (base_is.Regex x)) span ts) = true
 is_slashed t = false
@@ -163,11 +163,11 @@ neither true b c e = cc
 neither false true c e = cc
 neither false false true e = cc
 
-pub left_true : (a b : Bool) → a ≡ true → (a && b) ≡ false → b ≡ false
+left_true : (a b : Bool) → a ≡ true → (a && b) ≡ false → b ≡ false
 left_true true b e f = f
 left_true false b e f = cc
 
-pub regex_or_base : (t : Tree) → is_slashed t ≡ true → is_regex_base t ≡ false → is_regex t ≡ true
+regex_or_base : (t : Tree) → is_slashed t ≡ true → is_regex_base t ≡ false → is_regex t ≡ true
 regex_or_base (node (form_is.Expr (expr_is.Regex x)) span ts) e f = refl
 regex_or_base (node (form_is.Base (base_is.Regex x)) span ts) e f = cc
 regex_or_base t e f = cc
@@ -199,7 +199,7 @@ pub base_goes : (t : Tree) → IsReady t → Goes Free (anywhere (part_of t)) An
 base_goes t ready = place_goes 1 false t Free Any ready (λ k r agree p bare slashed. p) (λ k bare s after. tt) tt
 
 -- rows
-pub followed_goes : (by : Separator) (ts : Trees) → plain_kinds (between by) ≡ true → AreReady ts → HaveNoRegexBase ts → Goes Any (followed by (parts_of ts)) Any
+followed_goes : (by : Separator) (ts : Trees) → plain_kinds (between by) ≡ true → AreReady ts → HaveNoRegexBase ts → Goes Any (followed by (parts_of ts)) Any
 followed_goes by none e ready bases = nothing_goes Any
 followed_goes by (more t ts) e ready bases =
     chain_goes Any Any Any (kinds (between by)) (chain (anywhere (part_of t)) (followed by (parts_of ts))) (kinds_goes Any (between by) e)
@@ -226,7 +226,7 @@ arguments_goes P form t last ready =
     (λ k r agree p. enclosed_goes Any Any P (rowed t separator.Comma) tt last (ready.1 separator.Comma refl) k r agree tt)
 
 -- a layout in which all may stand behind anything
-abbrev pub plain_part : PartLayout → Bool
+abbrev plain_part : PartLayout → Bool
 plain_part (layout_is.Optional around) = plain_kinds (opening around) && plain_kinds (closing around)
 plain_part (layout_is.Row by) = plain_kinds (between by)
 plain_part p = true
@@ -266,7 +266,7 @@ ends_from ending [] = ending
 ends_from ending (piece.Word kind ∷ ps) = ends_from (ends_operand kind) ps
 ends_from ending (p ∷ ps) = ends_from false ps
 
-pub chain_last : (x y : Writing) (k r : Option TokenKind) → Ends (last_read (last_read r (x k)) (y (last_kind k (x k)))) → Ends (last_read r (chain x y k))
+chain_last : (x y : Writing) (k r : Option TokenKind) → Ends (last_read (last_read r (x k)) (y (last_kind k (x k)))) → Ends (last_read r (chain x y k))
 chain_last x y k r last = subst Ends (sym (last_append (x k) (y (last_kind k (x k))) r)) last
 
 pub laid_ends : (form : Form) (ps : List Piece) (xs : List Part) (ending : Bool) → ends_from ending ps ≡ true → (k r : Option TokenKind) → (ending ≡ true → Ends r) → Ends (last_read r (laid form ps xs k))
@@ -291,7 +291,7 @@ pub name_plain : (kind : TokenKind) → IsName kind → plain_kind kind ≡ true
 name_plain kind (inl e) = ap plain_kind e
 name_plain kind (inr e) = ap plain_kind e
 
-pub words_placed : (ws : List Word) → plain_words ws ≡ true → AllByRecursion IsSound ws → (k r : Option TokenKind) → Agree k r → ArePlaced r ws
+words_placed : (ws : List Word) → plain_words ws ≡ true → AllByRecursion IsSound ws → (k r : Option TokenKind) → Agree k r → ArePlaced r ws
 words_placed [] e sound k r agree = tt
 words_placed (fixed kind ∷ ws) e sound k r agree =
     let h = both (plain_kind kind) (plain_words ws) e in (some_may k r kind agree h.0, words_placed ws h.1 sound.1 (Some kind) (Some kind) (λ free. free))

@@ -29,8 +29,7 @@ use Rattle.sp_print.specs.Words.{Word, name, text, bytes, regex, number}
 use Rattle.sp_printed_words.specs.Formed.{is_expression, is_path, is_declaration, is_name, IsId, is_regex_base, AreDeclarations, HaveNoRegexBase, first, second, but_base, HasParts, IsFormed, AreFormed}
 use Rattle.sp_round_trip.specs.Bare.{nowhere}
 use Rattle.sp_round_trip.specs.Told.{Telling}
-use Rattle.sp_round_trip.proofs.Held.{started, made, Pile, After, after, after_do, top, front, start, filled, put, put_if, closed, does}
-use Rattle.sp_round_trip.proofs.Machine.{form_told}
+use Rattle.sp_round_trip.proofs.Held.{started, made, Pile, After, after, after_do, top, front, start, filled, put, put_if, closed, does, form_told}
 
 -- What is known of a tree on a pile. A row may still have bases in it, and a name is no `skip`.
 abbrev pub Nearly : Tree → Type 0
@@ -67,7 +66,7 @@ Fill (part sort ∷ slots) (t ∷ ts) = (fits sort t ≡ true) × Good t × Fill
 Fill (several g ∷ slots) ts = (us : List Tree) × (vs : List Tree) × (ts ≡ us ++ vs) × AllOf g us × Fill slots vs
 
 -- slots in the other order, before others
-abbrev pub onto : List Slot → List Slot → List Slot
+abbrev onto : List Slot → List Slot → List Slot
 onto [] slots = slots
 onto (x ∷ xs) slots = onto xs (x ∷ slots)
 
@@ -109,7 +108,7 @@ start_on [] on = tt
 start_on (started p ∷ s) on = (tt, on)
 start_on (made t ∷ s) on = tt
 
-abbrev pub Found : Group → List Tree → After (List Tree) → Type 0
+abbrev Found : Group → List Tree → After (List Tree) → Type 0
 Found g ts x = (us : List Tree) × (x.value ≡ us ++ ts) × AllOf g us × On x.rest
 
 found_if : (g : Group) (ts : List Tree) (b : Bool) (x y : After (List Tree)) → (b ≡ true → Found g ts x) → Found g ts y → Found g ts (if b then x else y)
@@ -130,44 +129,44 @@ filled_on (several g ∷ xs) slots ts s on fill =
     let found = front_on g s [] ts on tt in
     filled_on xs (several g ∷ slots) (front (is_of g) s ts).value (front (is_of g) s ts).rest found.3 (found.0, ts, found.1, found.2, fill)
 
-pub parts_on : (slots : List Slot) (s : Pile) → On s → OnAfter (Fill slots) (filled (reverse slots) [] s)
+parts_on : (slots : List Slot) (s : Pile) → On s → OnAfter (Fill slots) (filled (reverse slots) [] s)
 parts_on slots s on = subst (λ xs. OnAfter (Fill xs) (filled (reverse slots) [] s)) (onto_reverse slots [] ∙ append_none slots) (filled_on (reverse slots) [] [] s on tt)
 
 -- What slots want: the group of the first part, and of the second one.
-abbrev pub group_first : List Slot → Option Group
+abbrev group_first : List Slot → Option Group
 group_first (part (one g) ∷ slots) = Some g
 group_first slots = None
 
-abbrev pub group_second : List Slot → Option Group
+abbrev group_second : List Slot → Option Group
 group_second (part sort ∷ slots) = group_first slots
 group_second slots = None
 
-abbrev pub row_second : List Slot → Option Group
+abbrev row_second : List Slot → Option Group
 row_second (part sort ∷ part (rows g) ∷ slots) = Some g
 row_second slots = None
 
 -- no base may stand there; no base may be in a row there
-abbrev pub is_free : Sort → Bool
+abbrev is_free : Sort → Bool
 is_free (one g) = not (same_group g bases)
 is_free (optional g) = not (same_group g bases)
 is_free (rows g) = not (same_group g bases)
 
-abbrev pub is_row_free : Sort → Bool
+abbrev is_row_free : Sort → Bool
 is_row_free (rows g) = not (same_group g bases)
 is_row_free sort = true
 
-abbrev pub are_free : List Slot → Bool
+abbrev are_free : List Slot → Bool
 are_free [] = true
 are_free (part sort ∷ slots) = is_free sort && are_free slots
 are_free (several g ∷ slots) = not (same_group g bases) && are_free slots
 
-abbrev pub rows_free : List Slot → Bool
+abbrev rows_free : List Slot → Bool
 rows_free [] = true
 rows_free (part sort ∷ slots) = is_row_free sort && rows_free slots
 rows_free (several g ∷ slots) = rows_free slots
 
 -- the slots but that of the base behind a : or a (
-abbrev pub but_slot : Form → List Slot → List Slot
+abbrev but_slot : Form → List Slot → List Slot
 but_slot form_is.Field (part a ∷ part b ∷ slots) = part a ∷ slots
 but_slot (form_is.Base base_is.Group) (part b ∷ slots) = slots
 but_slot form slots = slots
@@ -186,7 +185,7 @@ wants (form_is.Decl decl_is.On) slots = is_in paths (group_first slots)
 wants form_is.Module slots = is_in declarations (row_second slots)
 wants form slots = true
 
-abbrev pub suits : Form → List Slot → Bool
+abbrev suits : Form → List Slot → Bool
 suits form slots = wants form slots && are_free (but_slot form slots) && rows_free slots
 
 pub both : (a b : Bool) → (a && b) ≡ true → (a ≡ true) × (b ≡ true)
@@ -196,7 +195,7 @@ both false b h = cc
 number_like : (g h : Group) (n : ℕ) → same_group g h ≡ true → (group_number h == n) ≡ true → (group_number g == n) ≡ true
 number_like g h n e f = eq-eqb (group_number g) n (eqb-true (group_number g) (group_number h) e ∙ eqb-true (group_number h) n f)
 
-pub of_like : (g h : Group) (t : Tree) → same_group g h ≡ true → is_of h t ≡ true → is_of g t ≡ true
+of_like : (g h : Group) (t : Tree) → same_group g h ≡ true → is_of h t ≡ true → is_of g t ≡ true
 of_like g h (node form span ts) e f = number_like g h (group_number (group form)) e f
 of_like g h (row ts) e f = cc
 of_like g h absent e f = cc
@@ -347,14 +346,14 @@ no_name : (form : Form) (slots : List Slot) (ts : List Tree) → wants form slot
 no_name (form_is.Name x) slots ts e f = cc
 no_name form slots ts e f = cc
 
-pub good_tree : (form : Form) (slots : List Slot) (ts : List Tree) → suits form slots ≡ true → Fill slots ts → Good (tree form nowhere ts)
+good_tree : (form : Form) (slots : List Slot) (ts : List Tree) → suits form slots ≡ true → Fill slots ts → Good (tree form nowhere ts)
 good_tree form slots ts e fill =
     let g = both (wants form slots && are_free (but_slot form slots)) (rows_free slots) e in
     let h = both (wants form slots) (are_free (but_slot form slots)) g.0 in
     ((wanted form slots ts h.0 fill, free_but form slots ts h.1 fill, formed_parts slots ts g.1 fill), no_name form slots ts h.0)
 
 -- what rules build is what its alternative wants
-abbrev pub LeafSuits : Leaf → Type 0
+abbrev LeafSuits : Leaf → Type 0
 LeafSuits (always form) = suits form [] ≡ true
 LeafSuits (by_name form) = (x : List ℕ) → suits (form x) [] ≡ true
 LeafSuits (by_string form) = (x : List ℕ) → suits (form x) [] ≡ true
@@ -374,7 +373,7 @@ RuleSuits (wraps g form) = suits form (part (one g) ∷ []) ≡ true
 RuleSuits r = Unit {0}
 
 -- all rules but those of names and paths
-abbrev pub MarkSuits : Mark → Type 0
+abbrev MarkSuits : Mark → Type 0
 MarkSuits build.Name = Unit {0}
 MarkSuits build.Path = Unit {0}
 MarkSuits m = RuleSuits (rule m)
@@ -436,7 +435,7 @@ nodes_if : (b : Bool) (x y : After (List Tree)) → (b ≡ true → AreFormed (t
 nodes_if true x y h k = h refl
 nodes_if false x y h k = k
 
-pub node_formed : (t : Tree) → is_node t ≡ true → Nearly t → IsFormed t
+node_formed : (t : Tree) → is_node t ≡ true → Nearly t → IsFormed t
 node_formed (node form span ts) e near = near
 node_formed (row ts) e near = cc
 node_formed absent e near = cc

@@ -14,6 +14,7 @@ pub mod Levels
 pub mod Firsts
 pub mod Piles
 pub mod Formed
+pub mod Tops
 pub mod Placed
 pub mod Worded
 pub mod Spelled
