@@ -145,15 +145,15 @@ one_each _ _ = false
 abbrev pub is_laid : Form → List Chunk → Bool
 is_laid form cs = laid_as form (layout form) cs && not (is_new form)
 
+abbrev pub put_before : Chunk → Option (List Chunk) → Option (List Chunk)
+put_before c None = None
+put_before c (Some cs) = Some (c ∷ cs)
+
 -- the last tree of the chunks is wrapped
 abbrev pub wrapped_last : Form → List Chunk → Option (List Chunk)
 wrapped_last form [] = None
 wrapped_last form (c ∷ []) = if is_one c && is_laid form (c ∷ []) then Some (node_chunk form ∷ []) else None
 wrapped_last form (c ∷ d ∷ cs) = put_before c (wrapped_last form (d ∷ cs))
-  where
-  put_before : Chunk → Option (List Chunk) → Option (List Chunk)
-  put_before c None = None
-  put_before c (Some cs) = Some (c ∷ cs)
 
 abbrev pub moved : Option (List Chunk) → State → Move
 moved None σ = stuck

@@ -71,7 +71,7 @@ pub and_more : {n : ℕ} {ss : List Symbol} {w u v : List Tok} {s t z : Pile} �
 and_more (part p a g nothing) h = part p a g h
 
 -- what stands in parentheses is taken for what it is without them
-enclosed_does : (p q : Telling) (t : Tree) (s : Pile) → is_of expressions t ≡ true → does encloses q (made t ∷ started p ∷ s) ≡ Some (made t ∷ s)
+pub enclosed_does : (p q : Telling) (t : Tree) (s : Pile) → is_of expressions t ≡ true → does encloses q (made t ∷ started p ∷ s) ≡ Some (made t ∷ s)
 enclosed_does p q t s is = ap (λ b. after_do (if b then Some (after t (started p ∷ s)) else None) (λ u rest. after_do (start rest) (λ q below. put u below))) is
 
 -- an expression in parentheses is read at each level, before anything

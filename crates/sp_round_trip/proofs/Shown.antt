@@ -84,8 +84,9 @@ Fits silent ts = ts ≡ []
 pub data Manner : Type 0 where
   plain : Yield → Manner
   expression : ℕ → Manner
-  -- declarations, each a line; the rest of a path of a hook; the rest of an `if`; the module, and pieces of the table
-  in_lines path_rest if_rest other : Manner
+  -- declarations, each a line; the rest of a path of a hook; the rest of an `if`; the arguments of a `new`; the module, and
+  -- pieces of the table
+  in_lines path_rest if_rest new_rest other : Manner
 
 abbrev pub manner : Part → Manner
 manner Part.Decl = plain (one 1)
@@ -158,7 +159,7 @@ manner Part.Member = plain (one 1)
 manner Part.Primary = expression 15
 manner Part.Pairs = plain (followed separator.Comma)
 manner Part.Pair = plain (one 1)
-manner Part.NewArgs = plain arguments
+manner Part.NewArgs = new_rest
 manner _ = other
 
 -- The token that may not come behind a part: a `(` behind what can end with a `new` without arguments, an `else` behind
@@ -197,7 +198,6 @@ avoids Part.Postfix = Some token.LeftParen
 avoids Part.Primary = Some token.LeftParen
 avoids Part.Pairs = Some token.LeftParen
 avoids Part.Pair = Some token.LeftParen
-avoids Part.NewArgs = Some token.LeftParen
 avoids _ = None
 
 abbrev pub manner_of : ℕ → Manner
@@ -260,6 +260,13 @@ OptElseClaim w s t u =
     × ((last : Option TokenKind) (v : List Tok) (x y : Telling) (c : Pile) → MayFollow (part_number Part.Stmt) (coming u) v
     → Goes (symbol.Nonterminal (part_number Part.OptElse) ∷ []) (before (chain (written_followed separator.ElseIf (parts_of (trees cs))) (framed frame.Else (part_of e)) last) v) (pushed bs (started x ∷ started y ∷ c)) v (made (tree (form_is.Stmt stmt_is.If) nowhere (row (trees (bs ++ cs)) ∷ e ∷ [])) ∷ c))
 
+-- The arguments of a `new`: a row of trees. Where it is empty nothing stands there, and then no `(` may come behind.
+abbrev pub NewArgsClaim : Pile → Pile → Type 0
+NewArgsClaim s t =
+    (us : List Tree) × (t ≡ made (row (trees us)) ∷ s)
+    × ((last : Option TokenKind) (v : List Tok) (b : Pile) → (us ≡ [] → Avoids (Some token.LeftParen) v)
+    → Goes (symbol.Nonterminal (part_number Part.NewArgs) ∷ []) (before (yielded arguments (row (trees us) ∷ []) last) v) b v (made (row (trees us)) ∷ b))
+
 -- words of lines, one behind the other
 abbrev pub flat : List (List Word) → List Word
 flat [] = []
@@ -278,6 +285,7 @@ ClaimAs (expression level) n w s t u = (x : Tree) × (t ≡ made x ∷ s) × Spe
 ClaimAs in_lines n w s t u = DeclsClaim s t
 ClaimAs path_rest n w s t u = OnPathClaim s t
 ClaimAs if_rest n w s t u = OptElseClaim w s t u
+ClaimAs new_rest n w s t u = NewArgsClaim s t
 ClaimAs other n w s t u = Unit {0}
 
 abbrev pub Claim : ℕ → List Tok → Pile → Pile → List Tok → Type 0
