@@ -25,8 +25,7 @@ use Rattle.sp_print.specs.Own.{own_words}
 use Rattle.sp_print.specs.Words.{Word, fixed, name, text, bytes, regex, number as numeral}
 use Rattle.sp_round_trip.specs.Bare.{nowhere}
 use Rattle.sp_round_trip.specs.Told.{Telling}
-use Rattle.sp_round_trip.proofs.Machine.{form_told}
-use Rattle.sp_round_trip.proofs.Held.{Pile, started, made, does, put_if}
+use Rattle.sp_round_trip.proofs.Held.{Pile, started, made, does, form_told, put_if}
 use Rattle.sp_round_trip.proofs.Goes.{Tok, entire, half, tells, telling_of, number, pushed}
 use Rattle.sp_round_trip.proofs.Closing.{pushed_append, closed_all, gathered_all, joined_all, wrapped, are_parts}
 use Rattle.sp_round_trip.proofs.Leaves.{LeafSays, is_always, leaf_again, mapped}
