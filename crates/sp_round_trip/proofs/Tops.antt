@@ -16,7 +16,7 @@ use Rattle.sp_grammar.specs.Written.{part as part_symbol}
 use Rattle.sp_runs.specs.Kinds.{number_of, terminal_of}
 use Rattle.sp_ast.specs.declared.forms.Form.TheVariants as form_is
 use Rattle.sp_ast.specs.declared.forms.ExprForm.TheVariants as expr_is
-use Rattle.sp_ast.specs.Trees.{Tree, Trees, absent, row, node, none, more, trees, tree}
+use Rattle.sp_ast.specs.Trees.{Tree, node, none, trees, tree}
 use Rattle.sp_build.specs.declared.groups.Group.TheVariants.{Names as names, Expressions as expressions, Declarations as declarations}
 use Rattle.sp_build.specs.declared.groups.Sort.TheVariants.{One as one, Rows as rows}
 use Rattle.sp_build.specs.declared.groups.Slot.TheVariants.{Part as part, Several as several}
