@@ -1,4 +1,4 @@
--- What stands on top of the pile, from symbol to symbol of the grammar: a module that was read is formed.
+-- A module that was read is formed, by what stands on top of the pile from symbol to symbol of the grammar.
 use Rattle.std.specs.Prelude.{if◌then◌else◌, ◌==◌, ◌&&◌, ◌||◌}
 use Rattle.std.proofs.Common.{append-nil, ◌≡◌, ℕ, zero, suc, ◌<◌, length, get_or, cond, eqb-true, arith, List, [], ◌∷◌, ◌++◌, reverse, Bool, true, false, Option, Some, None, refl, sym, subst, ap, ◌∙◌, rules, tests}
 use Rattle.sp_parser.specs.declared.symbol.Symbol.{Symbol}
@@ -9,7 +9,9 @@ use Rattle.sp_lex.specs.declared.kinds.TokenKind.{TokenKind}
 use Rattle.sp_lex.specs.declared.kinds.TokenKind.TheVariants as token
 use Rattle.sp_grammar.specs.declared.marks.Mark.{Mark}
 use Rattle.sp_grammar.specs.declared.marks.Mark.TheVariants as build
+use Rattle.sp_grammar.specs.declared.terminals.Terminal.TheVariants as terminal
 use Rattle.sp_grammar.specs.Marks.{mark_with}
+use Rattle.sp_grammar.specs.Terminals.{terminal_number}
 use Rattle.sp_grammar.specs.Own.{own}
 use Rattle.sp_grammar.specs.Written.{Part, part_number}
 use Rattle.sp_grammar.specs.Written.{part as part_symbol}
@@ -194,12 +196,16 @@ mark_means m loose st' w s r e is d = mark_loose m st' w s r e is d
 mark_means m pending st' w s r e is d = not_some e
 mark_means m modular st' w s r e is d = not_some e
 
-id_read : (kind : TokenKind) → takes 1 (number_of (terminal_of kind)) ≡ All → kind ≡ token.Id
+-- where the grammar wants an ID, only an ID is taken
+abbrev an_id : ℕ
+an_id = terminal_number terminal.Id
+
+id_read : (kind : TokenKind) → takes an_id (number_of (terminal_of kind)) ≡ All → kind ≡ token.Id
 id_read kind e = search (rules, tests)
 
 -- what a symbol makes of what stands on top of the pile; a part of the grammar wants something there, and leaves something
 abbrev after_token : State → ℕ → State
-after_token pending e = if e == 1 then named else loose
+after_token pending e = if e == an_id then named else loose
 after_token st e = st
 
 abbrev is_part : Part → ℕ → Bool
@@ -294,11 +300,11 @@ cover_means modular any w s e is = is.0
 cover_means st st' w s e is = cc
 
 -- a token behind a name that was made of it
-id_word : (k : ℕ) (x : Tok) (y : List ℕ) → (k == 1) ≡ true → takes k (number x) ≡ All → (tells x).word ≡ name y → word_kind y ≡ token.Id
-id_word k (entire w) y id take is = let kind = id_read (read_as w) (subst (λ n. takes n (number (entire w)) ≡ All) (eqb-true k 1 id) take) in sym (ap read_as is) ∙ kind
-id_word k (half w) y id take is = let none : takes 1 SECOND ≡ All = subst (λ n. takes n SECOND ≡ All) (eqb-true k 1 id) take in cc
+id_word : (k : ℕ) (x : Tok) (y : List ℕ) → (k == an_id) ≡ true → takes k (number x) ≡ All → (tells x).word ≡ name y → word_kind y ≡ token.Id
+id_word k (entire w) y id take is = let kind = id_read (read_as w) (subst (λ n. takes n (number (entire w)) ≡ All) (eqb-true k an_id id) take) in sym (ap read_as is) ∙ kind
+id_word k (half w) y id take is = let none : takes an_id SECOND ≡ All = subst (λ n. takes n SECOND ≡ All) (eqb-true k an_id id) take in cc
 
-pending_named : (k : ℕ) (x : Tok) (s : Pile) → (k == 1) ≡ true → takes k (number x) ≡ All → IsPending (tells x).word s → On s × HasName s
+pending_named : (k : ℕ) (x : Tok) (s : Pile) → (k == an_id) ≡ true → takes k (number x) ≡ All → IsPending (tells x).word s → On s × HasName s
 pending_named k x (made (node (form_is.Name y) span none) ∷ s) id take is = ((((tt, tt, tt), λ e. id_word k x y id take is.0), is.1), refl)
 pending_named k x s id take is = absurd is
 
@@ -306,12 +312,12 @@ pending_loose : (w : Word) (s : Pile) → IsPending w s → IsLoose s
 pending_loose w (made (node (form_is.Name y) span none) ∷ s) is = ((tt, tt, tt), is.1)
 pending_loose w s is = absurd is
 
-pending_by : (b : Bool) (k : ℕ) (x : Tok) (w : List Tok) (s : Pile) → (k == 1) ≡ b → takes k (number x) ≡ All → IsPending (tells x).word s → Means (if b then named else loose) w s
+pending_by : (b : Bool) (k : ℕ) (x : Tok) (w : List Tok) (s : Pile) → (k == an_id) ≡ b → takes k (number x) ≡ All → IsPending (tells x).word s → Means (if b then named else loose) w s
 pending_by true k x w s e take is = pending_named k x s e take is
 pending_by false k x w s e take is = pending_loose (tells x).word s is
 
 token_means : (st : State) (k : ℕ) (x : Tok) (w : List Tok) (s : Pile) → takes k (number x) ≡ All → Means st (x ∷ w) s → Means (after_token st k) w s
-token_means pending k x w s take is = pending_by (k == 1) k x w s refl take is
+token_means pending k x w s take is = pending_by (k == an_id) k x w s refl take is
 token_means any k x w s take is = is
 token_means named k x w s take is = is
 token_means loose k x w s take is = is
@@ -321,12 +327,12 @@ no_half : (b : Bool) → cond b All Nothing ≡ First → ⊥
 no_half true e = cc
 no_half false e = cc
 
-half_by : (b : Bool) (k : ℕ) (x : Word) (w : List Tok) (s : Pile) → (k == 1) ≡ b → takes k (number (entire x)) ≡ First → IsPending x s → Means (if b then named else loose) w s
-half_by true k x w s e take is = absurd (no_half (1 == number (entire x)) (subst (λ n. takes n (number (entire x)) ≡ First) (eqb-true k 1 e) take))
+half_by : (b : Bool) (k : ℕ) (x : Word) (w : List Tok) (s : Pile) → (k == an_id) ≡ b → takes k (number (entire x)) ≡ First → IsPending x s → Means (if b then named else loose) w s
+half_by true k x w s e take is = absurd (no_half (an_id == number (entire x)) (subst (λ n. takes n (number (entire x)) ≡ First) (eqb-true k an_id e) take))
 half_by false k x w s e take is = pending_loose x s is
 
 half_means : (st : State) (k : ℕ) (x : Word) (w : List Tok) (s : Pile) → takes k (number (entire x)) ≡ First → Means st (entire x ∷ w) s → Means (after_token st k) (half x ∷ w) s
-half_means pending k x w s take is = half_by (k == 1) k x (half x ∷ w) s refl take is
+half_means pending k x w s take is = half_by (k == an_id) k x (half x ∷ w) s refl take is
 half_means any k x w s take is = is
 half_means named k x w s take is = is
 half_means loose k x w s take is = is
