@@ -10,3 +10,5 @@ pub mod Worth
 pub mod Told
 pub mod Modules
 pub mod Trees
+pub mod Following
+pub mod Placed

@@ -3,3 +3,4 @@ pub mod Read
 pub mod Told
 pub mod Modules
 pub mod Trees
+pub mod Formed

@@ -1,5 +1,5 @@
 // What is read from words that are written one behind the other.
-ghost use Rattle.std.specs.Prelude.{◌≡◌, ◌<◌, ◌≤◌, ℕ, List, length};
+ghost use Rattle.std.specs.Prelude.{◌≡◌, ◌<◌, ◌≤◌, ℕ, List, None, length};
 ghost use Rattle.std.specs.List.{AllByRecursion};
 ghost use Rattle.sp_base.specs.declared.kinds.MKind.{MKind};
 ghost use Rattle.sp_base.specs.declared.kinds.MKind.TheVariants as module_kind;
@@ -12,9 +12,10 @@ ghost use Rattle.sp_literals.specs.Values.{numbered};
 ghost use Rattle.sp_ast.specs.Trees.{Tree};
 ghost use Rattle.sp_print.specs.Canonical.{canonical};
 ghost use Rattle.sp_print.specs.Words.{Word, written};
+ghost use Rattle.sp_printed_words.specs.Formed.{IsFormedModule};
 ghost use Rattle.sp_printed_words.specs.Modules.{module_lines};
 ghost use Rattle.sp_printed_words.specs.Read.{text_of, AreRead, IsWorth};
-ghost use Rattle.sp_printed_words.specs.Sound.{AreSound, HasNoZero, HaveNoZero, IsSound};
+ghost use Rattle.sp_printed_words.specs.Sound.{ArePlaced, AreSound, HasNoZero, HaveNoZero, IsSound};
 ghost use Rattle.sp_printed_words.specs.Told.{IsTold};
 ghost use Rattle.sp_printed_words.specs.Trees.{TellsOnly};
 
@@ -48,4 +49,9 @@ pub fn canonical_text_is_of_words()
 pub fn words_of_a_module_are_sound()
     ensures sound { (m : Tree) → TellsOnly IsSound m → AllByRecursion (AllByRecursion IsSound) (module_lines m) }
     ensures no_zero { (m : Tree) → TellsOnly HasNoZero m → HaveNoZero (module_lines m) }
+{}
+
+/// Each word of a module stands where it may, if the parts of its trees are those that the grammar wants.
+pub fn words_of_a_module_are_placed()
+    ensures { (m : Tree) → TellsOnly IsSound m → IsFormedModule m → AllByRecursion (ArePlaced None) (module_lines m) }
 {}

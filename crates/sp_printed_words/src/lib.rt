@@ -5,5 +5,5 @@ mod laws;
 
 pub use laws::{
     canonical_text_is_of_words, words_are_read, words_have_no_other_fault, words_keep_their_worth,
-    words_of_a_module_are_sound, words_of_a_text_are_sound,
+    words_of_a_module_are_placed, words_of_a_module_are_sound, words_of_a_text_are_sound,
 };

@@ -42,9 +42,14 @@ Left guard ss u cs s t =
 
 left_of : (guard : Guard) (ss : List Symbol) (u : List Tok) {cs : List Chunk} {s t : Pile} → (now : Piled (cs ∷ []) s t) → Onward guard ss u (bottom {cs = []} {b = s} {s = s} [] no_chunk refl) now → Left guard ss u cs s t
 left_of guard ss u (above ts p r none_below sp e) on = elim none_below [ ]
-left_of guard ss u (bottom ts sp e) on = (ts, sp, e, λ last v c may.
-    let (ws, words, goes) = on last in let (y, read, copied) = goes c c v refl may in
-    subst (λ z. Goes ss (before (wrote sp last) v) c v z) copied (subst (λ q. Goes ss (before q v) c v y) (sym words) read))
+left_of guard ss u (bottom ts sp e) on = (
+  ts,
+  sp,
+  e,
+  λ last v c may.
+      let (ws, words, goes) = on last in let (y, read, copied) = goes c c v refl may in
+      subst (λ z. Goes ss (before (wrote sp last) v) c v z) copied (subst (λ q. Goes ss (before q v) c v y) (sym words) read),
+)
 
 left_by : (guard : Guard) (ss : List Symbol) (cs : List Chunk) {w u : List Tok} {s t : Pile} → advance guard ss ([] ∷ []) ≡ Some (cs ∷ []) → Trace ss w s u t → Left guard ss u cs s t
 left_by guard ss cs {u = u} ok tr = let (now, on) = sound guard ss ([] ∷ []) (cs ∷ []) ok tr (bottom [] no_chunk refl) in left_of guard ss u now on
@@ -73,11 +78,13 @@ expression_again : (n p level : ℕ) (guard : Guard) (w u : List Tok) → IsFree
 expression_again n p level guard w u free fits {s = s} a may (ts, a_chunk us (form, parts, is, expression_is, not_new, level_is) no_chunk, e, goes) =
     let x : Tree = node form nowhere (trees parts) in
     let all : us ++ [] ≡ x ∷ [] = append-nil us ∙ is in
-    let words : (last : Option TokenKind) → chunk_words (built level) us last ++ [] ≡ spelled x last = λ last. append-nil (chunk_words (built level) us last) ∙ ap (λ zs. chunk_words (built level) zs last) is in
-    (x, e ∙ ap (λ zs. pushed zs s) all,
-    spells_of n form parts expression_is not_new (subst (λ l. ((n == part_number Part.Primary) || (n == part_number (level_part l))) ≡ true) (sym level_is) fits) (λ last v c pass.
-    taken_again n p free w a (subst (λ zs. Goes (right own n p) (before (spelled x last) v) c v (pushed zs c)) all
-    (subst (λ q. Goes (right own n p) (before q v) c v (pushed (us ++ []) c)) (words last) (goes last v c (may v (subst (λ l. MayPass l v) level_is pass)))))))
+    let words : (last : Option TokenKind) → chunk_words (built level) us last ++ [] ≡ spelled x last = λ last. append-nil (chunk_words (built level) us last) ∙ ap (λ zs. chunk_words (built level) zs last) is in (
+      x,
+      e ∙ ap (λ zs. pushed zs s) all,
+      spells_of n form parts expression_is not_new (subst (λ l. ((n == part_number Part.Primary) || (n == part_number (level_part l))) ≡ true) (sym level_is) fits) (λ last v c pass.
+          taken_again n p free w a (subst (λ zs. Goes (right own n p) (before (spelled x last) v) c v (pushed zs c)) all
+          (subst (λ q. Goes (right own n p) (before q v) c v (pushed (us ++ []) c)) (words last) (goes last v c (may v (subst (λ l. MayPass l v) level_is pass)))))),
+    )
 
 avoids_it : (o : Option Terminal) (v : List Tok) → avoids_only token.LeftParen o ≡ true → Avoids (Some token.LeftParen) v → Avoids o v
 avoids_it None v ok avoids = tt
@@ -86,16 +93,16 @@ avoids_it (Some f) v ok avoids = subst (λ n. (coming v == n) ≡ false) (eqb-tr
 spelled_again : (n p level : ℕ) → IsFree n p → is_again (expression level) n (right own n p) ≡ true → {w u : List Tok} {s t : Pile} → Applies own n p (map number w) → Trace (right own n p) w s u t → ClaimAs (expression level) n w s t u
 spelled_again n p level free ok {w = w} {u = u} a tr =
     elim (or_cases (is_spelled n true (advance unguarded (right own n p) ([] ∷ []))) (avoids_only token.LeftParen (avoided n) && is_spelled n false (advance (guard_of n) (right own n p) ([] ∷ []))) ok) [
-    | inl passes ↦
-        let (l, found, is, fits) = spelled_some n true (advance unguarded (right own n p) ([] ∷ [])) passes in
-        expression_again n p l unguarded w u free fits a (λ v pass. inl tt) (left_by unguarded (right own n p) (built l ∷ []) found tr)
-    | inr avoids ↦
-        let b = and_parts (avoids_only token.LeftParen (avoided n)) (is_spelled n false (advance (guard_of n) (right own n p) ([] ∷ []))) avoids in
-        let (l, found, is, fits) = spelled_some n false (advance (guard_of n) (right own n p) ([] ∷ [])) b.1 in
-        expression_again n p l (guard_of n) w u free fits a (λ v pass. elim pass [
-        | inl all ↦ absurd (let below : l < 15 = ltb-true l 15 is in omega (arith, below, all))
-        | inr paren ↦ inl (avoids_it (avoided n) v b.0 paren)
-        ]) (left_by (guard_of n) (right own n p) (built l ∷ []) found tr)
+      | inl passes ↦
+          let (l, found, is, fits) = spelled_some n true (advance unguarded (right own n p) ([] ∷ [])) passes in
+          expression_again n p l unguarded w u free fits a (λ v pass. inl tt) (left_by unguarded (right own n p) (built l ∷ []) found tr)
+      | inr avoids ↦
+          let b = and_parts (avoids_only token.LeftParen (avoided n)) (is_spelled n false (advance (guard_of n) (right own n p) ([] ∷ []))) avoids in
+          let (l, found, is, fits) = spelled_some n false (advance (guard_of n) (right own n p) ([] ∷ [])) b.1 in
+          expression_again n p l (guard_of n) w u free fits a (λ v pass. elim pass [
+            | inl all ↦ absurd (let below : l < 15 = ltb-true l 15 is in omega (arith, below, all))
+            | inr paren ↦ inl (avoids_it (avoided n) v b.0 paren)
+          ]) (left_by (guard_of n) (right own n p) (built l ∷ []) found tr)
     ]
 
 -- what a production that passes the test built can be read again

@@ -1,7 +1,5 @@
--- The canonical text of a module that was read reads as the same module, apart from places. What is claimed of all modules
--- that are read from words, and of the words of a module that was read, are premises here.
-use Rattle.std.specs.List.{AllByRecursion}
-use Rattle.std.proofs.Common.{◌≡◌, ◌≤◌, List, [], length, map, true, None, ap, ◌∙◌, subst}
+-- The canonical text of a module that was read reads as the same module, apart from places.
+use Rattle.std.proofs.Common.{◌≡◌, ◌≤◌, List, [], length, map, true, ap, ◌∙◌, subst}
 use Rattle.sp_base.specs.declared.kinds.MKind.{MKind}
 use Rattle.sp_base.specs.declared.kinds.MKind.TheVariants as module_kind
 use Rattle.sp_base.specs.declared.places.Span.{Span}
@@ -15,35 +13,28 @@ use Rattle.sp_build.specs.Starting.{group_of}
 use Rattle.sp_print.specs.Canonical.{canonical}
 use Rattle.sp_read_unit.specs.Modules.{IsModuleTree}
 use Rattle.sp_printed_words.specs.Modules.{module_lines}
-use Rattle.sp_printed_words.specs.Sound.{AreSound, ArePlaced, HaveNoZero, IsSound}
+use Rattle.sp_printed_words.specs.Sound.{AreSound, HasNoZero, IsSound}
 use Rattle.sp_printed_words.proofs.Faultless.{no_other_fault}
 use Rattle.sp_printed_words.proofs.Lines.{tokens_in, lines_read}
 use Rattle.sp_printed_words.proofs.Modules.{module_same}
+use Rattle.sp_printed_words.proofs.Told.{told_no_zero, told_sound}
 use Rattle.sp_printed_words.proofs.Trees.{module_holds}
 use Rattle.sp_round_trip.specs.Bare.{bare}
 use Rattle.sp_round_trip.specs.Told.{told}
 use Rattle.sp_round_trip.proofs.Converted.{ReadsModule, goes_of_tree, tree_of_goes}
-use Rattle.sp_round_trip.proofs.Goes.{Tok, telling_of, before}
+use Rattle.sp_round_trip.proofs.Goes.{telling_of, before}
 use Rattle.sp_round_trip.proofs.Machine.{of_bare}
 use Rattle.sp_round_trip.proofs.Shown.{flat}
 use Rattle.sp_round_trip.proofs.Nowhere.{lines_same}
 use Rattle.sp_round_trip.proofs.Tells.{module_tells}
+use Rattle.sp_round_trip.proofs.Placed.{words_placed}
+use Rattle.sp_round_trip.proofs.Produces.{again}
 use Rattle.sp_round_trip.proofs.Worded.{told_words, lines_told}
 
--- a module that is read from words is read from its own
-abbrev pub Again : Type 0
-Again = (w : List Tok) (m : Tree) → ReadsModule w m → is_of (group_of Module) m ≡ true → ReadsModule (before (flat (module_lines m)) []) m
-
--- each word of a module that was read may stand where it does
-abbrev pub Placed : Type 0
-Placed = (lexed : Lexed) (m : Tree) → IsLexed lexed.text lexed.list → IsModuleTree lexed m → AllByRecursion (ArePlaced None) (module_lines m)
-
--- no regular expression of it has a byte 0
-abbrev pub NoZero : Type 0
-NoZero = (lexed : Lexed) (m : Tree) → IsLexed lexed.text lexed.list → IsModuleTree lexed m → HaveNoZero (module_lines m)
-
-lines_sound : Placed → (lexed : Lexed) (m : Tree) → IsLexed lexed.text lexed.list → IsModuleTree lexed m → AreSound (module_lines m)
-lines_sound placed lexed m is read = record { words = module_holds IsSound (λ kind fixed. fixed) m (module_tells lexed m is read); places = placed lexed m is read }
+-- each word of a module that was read can be read again, where it stands
+lines_sound : (lexed : Lexed) (m : Tree) → IsLexed lexed.text lexed.list → IsModuleTree lexed m → AreSound (module_lines m)
+lines_sound lexed m is read =
+    record { words = module_holds IsSound (λ kind fixed. fixed) m (module_tells IsSound (λ kind fixed. fixed) lexed m (told_sound lexed.text lexed.list is) read); places = words_placed lexed m is read }
 
 -- the tokens of the canonical text tell the words of the module
 canonical_told : (m : Tree) → AreSound (module_lines m) → (tokens : List Token) → IsLexed (canonical m) tokens → told (record { text = canonical m; list = tokens }) ≡ map telling_of (flat (module_lines m))
@@ -52,18 +43,20 @@ canonical_told m sound tokens lexed =
     ap (λ bytes. told (record { text = bytes; list = tokens })) (module_same m)
     ∙ lines_told lines (tokens_in 0 lines) tokens sound.words (lines_read lines sound) (subst (λ bytes. IsLexed bytes tokens) (module_same m) lexed)
 
-pub reads_back : Again → Placed → (lexed : Lexed) (m : Tree) → IsLexed lexed.text lexed.list → IsModuleTree lexed m
+-- The canonical text of a module that was read reads as the same module, apart from places.
+pub reads_back : (lexed : Lexed) (m : Tree) → IsLexed lexed.text lexed.list → IsModuleTree lexed m
     → (tokens : List Token) → IsLexed (canonical m) tokens → (u : Tree) × IsModuleTree (record { text = canonical m; list = tokens }) u × (bare u ≡ bare m)
-reads_back again placed lexed m is read tokens lexed_again =
+reads_back lexed m is read tokens lexed_again =
     let (ws, tell) = told_words lexed is in
     let (marks, derived, built, kind) = read in
     let kind_bare : is_of (group_of Module) (bare m) ≡ true = of_bare (group_of Module) m ∙ kind in
-    let anew = again (before ws []) (bare m) (goes_of_tree lexed m ws tell read) kind_bare in
-    tree_of_goes (record { text = canonical m; list = tokens }) (flat (module_lines m)) (bare m) (canonical_told m (lines_sound placed lexed m is read) tokens lexed_again)
+    let anew = again (before ws []) (bare m) (goes_of_tree lexed m ws tell read) in
+    tree_of_goes (record { text = canonical m; list = tokens }) (flat (module_lines m)) (bare m) (canonical_told m (lines_sound lexed m is read) tokens lexed_again)
     (subst (λ lines. ReadsModule (before (flat lines) []) (bare m)) (lines_same m) anew) kind_bare
 
-pub only_too_deep : Placed → NoZero → (lexed : Lexed) (m : Tree) → IsLexed lexed.text lexed.list → IsModuleTree lexed m
+-- Nothing is wrong with it but that it may be nested too deep.
+pub only_too_deep : (lexed : Lexed) (m : Tree) → IsLexed lexed.text lexed.list → IsModuleTree lexed m
     → length (canonical m) ≤ most_bytes → (span : Span) (kind : MKind) → IsFault (canonical m) span kind → kind ≡ module_kind.TooDeep
-only_too_deep placed no_zero lexed m is read small span kind fault =
+only_too_deep lexed m is read small span kind fault =
     let lines = module_lines m in
-    no_other_fault lines (lines_sound placed lexed m is read) (no_zero lexed m is read) (subst (λ bytes. length bytes ≤ most_bytes) (module_same m) small) span kind (subst (λ bytes. IsFault bytes span kind) (module_same m) fault)
+    no_other_fault lines (lines_sound lexed m is read) (module_holds HasNoZero (λ kind fixed. tt) m (module_tells HasNoZero (λ kind fixed. tt) lexed m (told_no_zero lexed.text lexed.list is) read)) (subst (λ bytes. length bytes ≤ most_bytes) (module_same m) small) span kind (subst (λ bytes. IsFault bytes span kind) (module_same m) fault)

@@ -58,11 +58,11 @@ comes_behind e tested (part {n = n} {ss = ss} {w = w} {v = v} p a g h) none =
     let here = and_parts (not (comes_first e (right own n p)) || begins_with e n) (not (may_be_empty (right own n p)) || is_nullable n) (one_production own (first_holds e) n p tested a.below) in
     let neither = or_parts (begins_with e n) (is_nullable n && comes_first e ss) none in
     elim (comes_behind e tested g (stays_false (comes_first e (right own n p)) (begins_with e n) here.0 neither.0)) [
-    | inl other ↦ inl other
-    | inr empty ↦
-        let may = follows (may_be_empty (right own n p)) (is_nullable n) here.1 empty.1 in
-        elim (comes_behind e tested h (past (is_nullable n) (comes_first e ss) may neither.1)) [
-        | inl other ↦ inl (subst (λ z. (coming z == e) ≡ false) (sym empty.0) other)
-        | inr rest ↦ inr (empty.0 ∙ rest.0, and_from (is_nullable n) (may_be_empty ss) may rest.1)
-        ]
+      | inl other ↦ inl other
+      | inr empty ↦
+          let may = follows (may_be_empty (right own n p)) (is_nullable n) here.1 empty.1 in
+          elim (comes_behind e tested h (past (is_nullable n) (comes_first e ss) may neither.1)) [
+            | inl other ↦ inl (subst (λ z. (coming z == e) ≡ false) (sym empty.0) other)
+            | inr rest ↦ inr (empty.0 ∙ rest.0, and_from (is_nullable n) (may_be_empty ss) may rest.1)
+          ]
     ]

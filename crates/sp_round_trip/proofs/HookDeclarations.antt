@@ -47,7 +47,7 @@ on_again x ys e hook came k is_name rest show_hook closes last v s may =
     let event = framed frame.Scope (part_of e) (last_kind (Some token.Id) names) in
     let body = yielded (one 1) (hook ∷ []) (last_kind (last_kind (Some token.Id) names) event) in
     let words : before (behind_name e hook (names ++ [])) v ≡ before (names ++ event) (before body v) =
-        ap (λ z. before (behind_name e hook z) v) (append-nil names) ∙ before_both names (event ++ (body ++ [])) v ∙ ap (before names) (before_both event (body ++ []) v ∙ ap (before event) (before_both body [] v)) ∙ sym (before_both names event (before body v)) in
+    ap (λ z. before (behind_name e hook z) v) (append-nil names) ∙ before_both names (event ++ (body ++ [])) v ∙ ap (before names) (before_both event (body ++ []) v ∙ ap (before event) (before_both body [] v)) ∙ sym (before_both names event (before body v)) in
     let outer : Pile = started (telling_of (fixed (token.Keyword keyword.On))) ∷ s in
     let inner : Pile = started (telling_of (name x)) ∷ outer in
     let built : Pile = made (path_of (named x ∷ ys)) ∷ outer in

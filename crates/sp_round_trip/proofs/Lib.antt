@@ -12,6 +12,7 @@ pub mod EnumLabels
 pub mod Expressions
 pub mod FieldHooks
 pub mod Firsts
+pub mod Formed
 pub mod Goes
 pub mod Held
 pub mod HookDeclarations
@@ -29,6 +30,7 @@ pub mod Nowhere
 pub mod Operands
 pub mod Parameters
 pub mod Piles
+pub mod Placed
 pub mod Produces
 pub mod Semicolons
 pub mod Shown
@@ -38,6 +40,7 @@ pub mod Spelled
 pub mod Steps
 pub mod Telling
 pub mod Tells
+pub mod Tops
 pub mod Traces
 pub mod TypedNumbers
 pub mod Worded

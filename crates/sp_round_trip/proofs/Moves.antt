@@ -24,8 +24,7 @@ use Rattle.sp_print.specs.Layouts.{layout}
 use Rattle.sp_print.specs.Words.{Word, fixed, name, text, bytes, regex, number as numeral}
 use Rattle.sp_round_trip.specs.Bare.{nowhere}
 use Rattle.sp_round_trip.specs.Told.{Telling}
-use Rattle.sp_round_trip.proofs.Held.{form_told}
-use Rattle.sp_round_trip.proofs.Held.{Pile, started, made, does, put_if}
+use Rattle.sp_round_trip.proofs.Held.{Pile, started, made, does, form_told, put_if}
 use Rattle.sp_round_trip.proofs.Goes.{Tok, entire, tells, telling_of, number, pushed}
 use Rattle.sp_round_trip.proofs.Closing.{pushed_append, closed_all, gathered_all, joined_all, wrapped, are_parts}
 use Rattle.sp_round_trip.proofs.Leaves.{LeafSays, is_always, leaf_again, mapped}
@@ -123,18 +122,20 @@ built_one form cs ts ok sp =
     let lone = alone (node_chunk form) (node_of form ts ∷ []) again.0 in
     (lone.0, λ last. lone.1 last ∙ again.1 last ∙ sym (laid_again form cs ts b.0 sp last))
   where
-  not_true : {x : Bool} → not x ≡ true → x ≡ false
-  not_true {x = true} e = cc
-  not_true {x = false} e = refl
+    not_true : {x : Bool} → not x ≡ true → x ≡ false
+    not_true {x = true} e = cc
+    not_true {x = false} e = refl
 
 -- a tree in place of the trees since it began, written as they are
 in_place : (r : Rule) {ds cs : List Chunk} {σ : State} {b s : Pile} (u : Tree) (ts : List Tree) (p : Telling) (rest : Pile) (below : Piled (ds ∷ σ) b rest) (sp : Split cs ts) (e : s ≡ pushed ts (started p ∷ rest)) (it : (es : List Chunk) × (new : Split es (u ∷ [])) × Same (wrote new) (wrote sp))
     → ((x q : Telling) (c : Pile) → does r x (pushed ts (started q ∷ c)) ≡ Some (made u ∷ c)) → {t : Pile} → t ≡ made u ∷ rest → Stays r (put_on it.0 (ds ∷ σ)) (above ts p rest below sp e) t
 in_place r {ds = ds} {σ = σ} u ts p rest below sp e it done {t = t} is =
     let (now, same, copies) = grown it.1 below in
-    subst (λ z. Stays r (put_on it.0 (ds ∷ σ)) (above ts p rest below sp e) z) (sym is)
-    (now, λ last. same last ∙ chain_same (said below) (wrote it.1) (wrote sp) it.2 last,
-    λ c z x copy. (made u ∷ copy.1, ap (λ y. does r x y) copy.2 ∙ done x copy.0 copy.1, copies c copy.1 copy.3))
+    subst (λ z. Stays r (put_on it.0 (ds ∷ σ)) (above ts p rest below sp e) z) (sym is) (
+      now,
+      λ last. same last ∙ chain_same (said below) (wrote it.1) (wrote sp) it.2 last,
+      λ c z x copy. (made u ∷ copy.1, ap (λ y. does r x y) copy.2 ∙ done x copy.0 copy.1, copies c copy.1 copy.3),
+    )
 
 gathered : (cs ds es : List Chunk) (σ : State) {b s t : Pile} (x : Telling) → row_chunks cs ≡ Some es → does gathers x s ≡ Some t → (g : Piled (cs ∷ ds ∷ σ) b s) → Stays gathers (put_on es (ds ∷ σ)) g t
 gathered cs ds es σ {t = t} x ok e (above ts p rest below sp is) =
@@ -187,9 +188,11 @@ joined_here slots form cs σ {b = b} {t = t} x ok e (bottom ts sp is) =
 joined_here slots form cs σ {t = t} x ok e (above ts p rest below sp is) =
     let c = and_parts (are_parts slots && one_each cs slots) (is_laid form cs) ok in let d = and_parts (are_parts slots) (one_each cs slots) c.0 in
     let all = joined_all slots form ts (started p ∷ rest) t x d.0 (as_many cs slots d.1 sp) (ap (λ z. does (joins slots form) x z) (sym is) ∙ e) in
-    let it = built_one form cs ts c.1 sp in
-    (above (node_of form ts ∷ []) p rest below it.0 all.0, chain_same (said below) (wrote it.0) (wrote sp) it.1,
-    λ d z y copy. (made (node_of form ts) ∷ started copy.0 ∷ copy.1, ap (λ q. does (joins slots form) y q) copy.2 ∙ all.1 y (started copy.0 ∷ copy.1), (copy.0, copy.1, refl, copy.3)))
+    let it = built_one form cs ts c.1 sp in (
+      above (node_of form ts ∷ []) p rest below it.0 all.0,
+      chain_same (said below) (wrote it.0) (wrote sp) it.1,
+      λ d z y copy. (made (node_of form ts) ∷ started copy.0 ∷ copy.1, ap (λ q. does (joins slots form) y q) copy.2 ∙ all.1 y (started copy.0 ∷ copy.1), (copy.0, copy.1, refl, copy.3)),
+    )
 
 -- the chunks with the last tree wrapped
 abbrev Wraps : Form → List Chunk → {cs : List Chunk} {ts : List Tree} → Split cs ts → Type 0
@@ -212,14 +215,14 @@ wrapped_split form (c ∷ []) es e (a_chunk us owns no_chunk) =
     let i = if_some (is_one c && is_laid form (c ∷ [])) (node_chunk form ∷ []) es e in let b = and_parts (is_one c) (is_laid form (c ∷ [])) i.0 in
     let t = one_tree c us b.0 owns in
     let make : (vs : List Tree) → vs ≡ t.0 ∷ [] → (o : Owns c vs) → Wraps form (node_chunk form ∷ []) (a_chunk vs o no_chunk) =
-        λ vs is. subst (λ xs. (o : Owns c xs) → Wraps form (node_chunk form ∷ []) (a_chunk xs o no_chunk)) (sym is) (λ o. last_wrapped form c t.0 b.1 o) in
+    λ vs is. subst (λ xs. (o : Owns c xs) → Wraps form (node_chunk form ∷ []) (a_chunk xs o no_chunk)) (sym is) (λ o. last_wrapped form c t.0 b.1 o) in
     subst (λ ds. Wraps form ds (a_chunk us owns no_chunk)) i.1 (make us t.1 owns)
 wrapped_split form (c ∷ d ∷ cs) es e (a_chunk {ts = ts} us owns rest) =
     let o = before_some c (wrapped_last form (d ∷ cs)) es e in
     let more = wrapped_split form (d ∷ cs) o.0 o.1 rest in
     let new : Split (c ∷ o.0) (us ++ (more.0 ++ node_of form (more.1 ∷ []) ∷ [])) = a_chunk us owns more.3 in
     let both = subst (λ zs. (it : Split (c ∷ o.0) zs) × Same (wrote it) (wrote (a_chunk us owns rest))) (sym (append_assoc us more.0 (node_of form (more.1 ∷ []) ∷ [])))
-        (new, chain_same (chunk_words c us) (wrote more.3) (wrote rest) more.4) in
+    (new, chain_same (chunk_words c us) (wrote more.3) (wrote rest) more.4) in
     subst (λ ds. Wraps form ds (a_chunk us owns rest)) o.2 (us ++ more.0, more.1, ap (λ zs. us ++ zs) more.2 ∙ sym (append_assoc us more.0 (more.1 ∷ [])), both.0, both.1)
 
 -- the last tree of a pile
@@ -229,16 +232,22 @@ last_of us ts u b s is all = is ∙ ap (λ zs. pushed zs b) all ∙ pushed_appen
 wrapped_here : (g : Group) (form : Form) (cs es : List Chunk) (σ : State) {b s t : Pile} (x : Telling) → wrapped_last form cs ≡ Some es → does (wraps g form) x s ≡ Some t → (h : Piled (cs ∷ σ) b s) → Stays (wraps g form) (es ∷ σ) h t
 wrapped_here g form cs es σ {b = b} {s = s} {t = t} x ok e (bottom ts sp is) =
     let w = wrapped_split form cs es ok sp in let node_here = node_of form (w.1 ∷ []) in
-    let all = wrapped g form w.1 (pushed w.0 b) t x (ap (λ z. does (wraps g form) x z) (sym (last_of w.0 ts w.1 b s is w.2)) ∙ e) in
-    (bottom (w.0 ++ node_here ∷ []) w.3 (all.0 ∙ sym (pushed_append w.0 (node_here ∷ []) b)), w.4,
-    λ d z y copy. (made node_here ∷ pushed w.0 d, ap (λ q. does (wraps g form) y q) (last_of w.0 ts w.1 d z copy w.2) ∙ all.1 y (pushed w.0 d), sym (pushed_append w.0 (node_here ∷ []) d)))
+    let all = wrapped g form w.1 (pushed w.0 b) t x (ap (λ z. does (wraps g form) x z) (sym (last_of w.0 ts w.1 b s is w.2)) ∙ e) in (
+      bottom (w.0 ++ node_here ∷ []) w.3 (all.0 ∙ sym (pushed_append w.0 (node_here ∷ []) b)),
+      w.4,
+      λ d z y copy. (made node_here ∷ pushed w.0 d, ap (λ q. does (wraps g form) y q) (last_of w.0 ts w.1 d z copy w.2) ∙ all.1 y (pushed w.0 d), sym (pushed_append w.0 (node_here ∷ []) d)),
+    )
 wrapped_here g form cs es σ {s = s} {t = t} x ok e (above ts p rest below sp is) =
     let w = wrapped_split form cs es ok sp in let node_here = node_of form (w.1 ∷ []) in
-    let all = wrapped g form w.1 (pushed w.0 (started p ∷ rest)) t x (ap (λ z. does (wraps g form) x z) (sym (last_of w.0 ts w.1 (started p ∷ rest) s is w.2)) ∙ e) in
-    (above (w.0 ++ node_here ∷ []) p rest below w.3 (all.0 ∙ sym (pushed_append w.0 (node_here ∷ []) (started p ∷ rest))), chain_same (said below) (wrote w.3) (wrote sp) w.4,
-    λ d z y copy. (made node_here ∷ pushed w.0 (started copy.0 ∷ copy.1),
-    ap (λ q. does (wraps g form) y q) (last_of w.0 ts w.1 (started copy.0 ∷ copy.1) z copy.2 w.2) ∙ all.1 y (pushed w.0 (started copy.0 ∷ copy.1)),
-    (copy.0, copy.1, sym (pushed_append w.0 (node_here ∷ []) (started copy.0 ∷ copy.1)), copy.3)))
+    let all = wrapped g form w.1 (pushed w.0 (started p ∷ rest)) t x (ap (λ z. does (wraps g form) x z) (sym (last_of w.0 ts w.1 (started p ∷ rest) s is w.2)) ∙ e) in (
+      above (w.0 ++ node_here ∷ []) p rest below w.3 (all.0 ∙ sym (pushed_append w.0 (node_here ∷ []) (started p ∷ rest))),
+      chain_same (said below) (wrote w.3) (wrote sp) w.4,
+      λ d z y copy. (
+        made node_here ∷ pushed w.0 (started copy.0 ∷ copy.1),
+        ap (λ q. does (wraps g form) y q) (last_of w.0 ts w.1 (started copy.0 ∷ copy.1) z copy.2 w.2) ∙ all.1 y (pushed w.0 (started copy.0 ∷ copy.1)),
+        (copy.0, copy.1, sym (pushed_append w.0 (node_here ∷ []) (started copy.0 ∷ copy.1)), copy.3),
+      ),
+    )
 
 not_true : {x : Bool} → not x ≡ true → x ≡ false
 not_true {x = true} e = cc
@@ -278,18 +287,18 @@ always_stays form σ old none_laid e g =
 takes_itself : (e : ℕ) → is_itself e ≡ true → parser_takes e e ≡ All
 takes_itself e ok = all_taken (parser_takes e e) (and_parts (is_all (parser_takes e e)) (not (is_taken (parser_takes e SECOND))) ok).0
   where
-  all_taken : (t : Take) → is_all t ≡ true → t ≡ All
-  all_taken All h = refl
-  all_taken First h = absurd (let q : false ≡ true = h in cc)
-  all_taken Nothing h = absurd (let q : false ≡ true = h in cc)
+    all_taken : (t : Take) → is_all t ≡ true → t ≡ All
+    all_taken All h = refl
+    all_taken First h = absurd (let q : false ≡ true = h in cc)
+    all_taken Nothing h = absurd (let q : false ≡ true = h in cc)
 
 pub not_second : (e : ℕ) → is_itself e ≡ true → parser_takes e SECOND ≡ Nothing
 not_second e ok = none_taken (parser_takes e SECOND) (and_parts (is_all (parser_takes e e)) (not (is_taken (parser_takes e SECOND))) ok).1
   where
-  none_taken : (t : Take) → not (is_taken t) ≡ true → t ≡ Nothing
-  none_taken Nothing h = refl
-  none_taken First h = absurd (let q : false ≡ true = h in cc)
-  none_taken All h = absurd (let q : false ≡ true = h in cc)
+    none_taken : (t : Take) → not (is_taken t) ≡ true → t ≡ Nothing
+    none_taken Nothing h = refl
+    none_taken First h = absurd (let q : false ≡ true = h in cc)
+    none_taken All h = absurd (let q : false ≡ true = h in cc)
 
 always_eats : (form : Form) (k : TokenKind) (n : ℕ) (σ : State) {b s t : Pile} → is_token k n && is_itself n && not (is_new form) ≡ true → layout form ≡ piece.Word k ∷ [] → Some (made (node form nowhere none) ∷ s) ≡ Some t → (g : Piled σ b s) → Eats (takes (always form)) n (add (node_chunk form) σ) g t
 always_eats form k n σ ok it_is e g =
@@ -297,10 +306,13 @@ always_eats form k n σ ok it_is e g =
     let number_is : number_of (terminal_of k) ≡ n = eqb-true (number_of (terminal_of k)) n (and_parts _ (number_of (terminal_of k) == n) c.0).1 in
     let lone = single form (not_true a.1) in
     let (now, same, copies) = grown lone.0 g in
-    subst (λ t. Eats (takes (always form)) n (add (node_chunk form) σ) g t) (some_is e)
-    (now, fixed k, λ last. same last ∙ chain_same (said g) (wrote lone.0) (λ l. fixed k ∷ []) (λ l. lone.1 l ∙ ap (λ ps. laid form ps [] l) it_is) last,
-    ap (λ m. parser_takes n m) number_is ∙ takes_itself n c.1,
-    λ d z copy. (made (node form nowhere none) ∷ z, refl, copies d z copy))
+    subst (λ t. Eats (takes (always form)) n (add (node_chunk form) σ) g t) (some_is e) (
+      now,
+      fixed k,
+      λ last. same last ∙ chain_same (said g) (wrote lone.0) (λ l. fixed k ∷ []) (λ l. lone.1 l ∙ ap (λ ps. laid form ps [] l) it_is) last,
+      ap (λ m. parser_takes n m) number_is ∙ takes_itself n c.1,
+      λ d z copy. (made (node form nowhere none) ∷ z, refl, copies d z copy),
+    )
 
 -- the facts of a token's tree
 abbrev Plainly : Leaf → Form → Type 0
@@ -326,22 +338,26 @@ leaf_eats l n σ {s = s} x other plain says ok passed e g =
     let lone = single f.0 facts.2 in
     let (now, same, copies) = grown lone.0 g in
     let words : Same (wrote lone.0) (λ last. again.0 ∷ []) = λ last. lone.1 last ∙ ap (λ ps. laid f.0 ps [] last) facts.1 ∙ ap (λ ws. ws ++ []) again.1 in
-    let all : Eats (takes l) n (add (node_chunk f.0) σ) g (made (node f.0 nowhere none) ∷ s) =
-        (now, again.0, λ last. same last ∙ chain_same (said g) (wrote lone.0) (λ last. again.0 ∷ []) words last, ap (λ m. parser_takes n m) again.2 ∙ passed,
-        λ d z copy. (made (node f.0 nowhere none) ∷ z, ap (λ o. put_if o z) again.3, copies d z copy)) in
+    let all : Eats (takes l) n (add (node_chunk f.0) σ) g (made (node f.0 nowhere none) ∷ s) = (
+      now,
+      again.0,
+      λ last. same last ∙ chain_same (said g) (wrote lone.0) (λ last. again.0 ∷ []) words last,
+      ap (λ m. parser_takes n m) again.2 ∙ passed,
+      λ d z copy. (made (node f.0 nowhere none) ∷ z, ap (λ o. put_if o z) again.3, copies d z copy),
+    ) in
     subst (λ t. Eats (takes l) n (add (leaf_chunk l) σ) g t) (sym f.2) (subst (λ c. Eats (takes l) n (add c σ) g (made (node f.0 nowhere none) ∷ s)) (sym facts.0) all)
   where
-  formed : (o : Option Form) (s : Pile) {t : Pile} → put_if o s ≡ Some t → (form : Form) × (o ≡ Some form) × (t ≡ made (node form nowhere none) ∷ s)
-  formed None s e = absurd (let q : None ≡ Some _ = e in cc)
-  formed (Some form) s e = (form, refl, sym (some_is e))
+    formed : (o : Option Form) (s : Pile) {t : Pile} → put_if o s ≡ Some t → (form : Form) × (o ≡ Some form) × (t ≡ made (node form nowhere none) ∷ s)
+    formed None s e = absurd (let q : None ≡ Some _ = e in cc)
+    formed (Some form) s e = (form, refl, sym (some_is e))
 
 always_moves : (form : Form) (ps : List Piece) (coming : Option ℕ) (σ τ : State) {b s t : Pile} → layout form ≡ ps → always_moved form ps coming σ ≡ stays τ → Some (made (node form nowhere none) ∷ s) ≡ Some t → (g : Piled σ b s) → Stays (takes (always form)) τ g t
 always_moves form [] coming σ τ {t = t} laid_so ok e g =
     let i = not_new (is_new form) ok in subst (λ z. Stays (takes (always form)) z g t) i.1 (always_stays form σ i.0 laid_so e g)
   where
-  not_new : (c : Bool) → (if c then stuck else stays (add (node_chunk form) σ)) ≡ stays τ → (c ≡ false) × (add (node_chunk form) σ ≡ τ)
-  not_new true e = no_stay e
-  not_new false e = (refl, cc)
+    not_new : (c : Bool) → (if c then stuck else stays (add (node_chunk form) σ)) ≡ stays τ → (c ≡ false) × (add (node_chunk form) σ ≡ τ)
+    not_new true e = no_stay e
+    not_new false e = (refl, cc)
 always_moves form (piece.Word k ∷ []) (Some n) σ τ laid_so ok e g = not_stays (is_token k n && is_itself n && not (is_new form)) (add (node_chunk form) σ) τ ok
 always_moves form (piece.Word k ∷ []) None σ τ laid_so ok e g = no_stay ok
 always_moves form (piece.Word k ∷ p ∷ ps) coming σ τ laid_so ok e g = no_stay ok
@@ -354,9 +370,9 @@ always_takes form (piece.Word k ∷ []) n σ τ {t = t} laid_so ok e g =
     let i = if_eats (is_token k n && is_itself n && not (is_new form)) (add (node_chunk form) σ) τ ok in subst (λ z. Eats (takes (always form)) n z g t) i.1 (always_eats form k n σ i.0 laid_so e g)
 always_takes form [] n σ τ laid_so ok e g = new_eats (is_new form) ok
   where
-  new_eats : {A : Type 0} (c : Bool) → (if c then stuck else stays (add (node_chunk form) σ)) ≡ eats τ → A
-  new_eats true e = no_eat e
-  new_eats false e = absurd (let q : stays _ ≡ eats _ = e in cc)
+    new_eats : {A : Type 0} (c : Bool) → (if c then stuck else stays (add (node_chunk form) σ)) ≡ eats τ → A
+    new_eats true e = no_eat e
+    new_eats false e = absurd (let q : stays _ ≡ eats _ = e in cc)
 always_takes form (piece.Word k ∷ p ∷ ps) n σ τ laid_so ok e g = no_eat ok
 always_takes form (piece.Own ∷ ps) n σ τ laid_so ok e g = no_eat ok
 always_takes form (piece.All by ∷ ps) n σ τ laid_so ok e g = no_eat ok
@@ -421,9 +437,9 @@ always_itself form (piece.Word k ∷ []) n σ τ ok =
     (and_parts (is_token k n) (is_itself n) (and_parts (is_token k n && is_itself n) (not (is_new form)) (if_eats (is_token k n && is_itself n && not (is_new form)) (add (node_chunk form) σ) τ ok).0).0).1
 always_itself form [] n σ τ ok = new_eats (is_new form) ok
   where
-  new_eats : {A : Type 0} (c : Bool) → (if c then stuck else stays (add (node_chunk form) σ)) ≡ eats τ → A
-  new_eats true e = no_eat e
-  new_eats false e = absurd (let q : stays _ ≡ eats _ = e in cc)
+    new_eats : {A : Type 0} (c : Bool) → (if c then stuck else stays (add (node_chunk form) σ)) ≡ eats τ → A
+    new_eats true e = no_eat e
+    new_eats false e = absurd (let q : stays _ ≡ eats _ = e in cc)
 always_itself form (piece.Word k ∷ p ∷ ps) n σ τ ok = no_eat ok
 always_itself form (piece.Own ∷ ps) n σ τ ok = no_eat ok
 always_itself form (piece.All by ∷ ps) n σ τ ok = no_eat ok

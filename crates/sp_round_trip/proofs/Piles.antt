@@ -36,7 +36,7 @@ joined {cs = c ∷ cs} {ds = ds} {us = us} (a_chunk {ts = ts} vs owns rest) y =
     let more = joined rest y in
     let this : Split (c ∷ cs ++ ds) (vs ++ (ts ++ us)) = a_chunk vs owns more.0 in
     let words : Same (wrote this) (chain (chain (chunk_words c vs) (wrote rest)) (wrote y)) =
-        λ last. chain_same (chunk_words c vs) (wrote more.0) (chain (wrote rest) (wrote y)) more.1 last ∙ sym (chain_both (chunk_words c vs) (wrote rest) (wrote y) last) in
+    λ last. chain_same (chunk_words c vs) (wrote more.0) (chain (wrote rest) (wrote y)) more.1 last ∙ sym (chain_both (chunk_words c vs) (wrote rest) (wrote y) last) in
     subst (λ zs. (both : Split (c ∷ cs ++ ds) zs) × Same (wrote both) (chain (chain (chunk_words c vs) (wrote rest)) (wrote y))) (sym (append_assoc vs ts us)) (this, words)
 
 -- one chunk
@@ -71,7 +71,8 @@ grown {b = b} {s = s} {us = us} sp (bottom ts old e) =
     let both = joined old sp in
     (bottom (ts ++ us) both.0 (on_top ts us s b e), both.1, λ c z copy. on_top ts us z c copy)
 grown {s = s} {us = us} sp (above ts p r g old e) =
-    let both = joined old sp in
-    (above (ts ++ us) p r g both.0 (on_top ts us s (started p ∷ r) e),
-    λ last. chain_same (said g) (wrote both.0) (chain (wrote old) (wrote sp)) both.1 last ∙ sym (chain_both (said g) (wrote old) (wrote sp) last),
-    λ c z copy. (copy.0, copy.1, on_top ts us z (started copy.0 ∷ copy.1) copy.2, copy.3))
+    let both = joined old sp in (
+      above (ts ++ us) p r g both.0 (on_top ts us s (started p ∷ r) e),
+      λ last. chain_same (said g) (wrote both.0) (chain (wrote old) (wrote sp)) both.1 last ∙ sym (chain_both (said g) (wrote old) (wrote sp) last),
+      λ c z copy. (copy.0, copy.1, on_top ts us z (started copy.0 ∷ copy.1) copy.2, copy.3),
+    )

@@ -7,12 +7,14 @@ use Rattle.sp_parser.specs.declared.symbol.Symbol.{Symbol}
 use Rattle.sp_parser.specs.Grammar.{Applies, right, production_of, productions_of}
 use Rattle.sp_grammar.specs.Own.{own}
 use Rattle.sp_grammar.specs.Written.{Part, part_number}
+use Rattle.sp_ast.specs.Trees.{Tree}
 use Rattle.sp_round_trip.proofs.Held.{Pile}
-use Rattle.sp_round_trip.proofs.Goes.{Tok, number, Goes, nothing, whole, first_half, mark, part}
-use Rattle.sp_round_trip.proofs.Shown.{Manner, plain, expression, in_lines, path_rest, if_rest, new_rest, other, manner_of, Claim, ClaimAs, Trace, ended, token_passed, half_passed, mark_passed, part_passed}
+use Rattle.sp_round_trip.proofs.Goes.{Tok, number, before, Goes, nothing, whole, first_half, mark, part}
+use Rattle.sp_round_trip.proofs.Shown.{flat, Manner, plain, expression, in_lines, path_rest, if_rest, new_rest, other, manner_of, Claim, ClaimAs, Trace, ended, token_passed, half_passed, mark_passed, part_passed}
 use Rattle.sp_round_trip.proofs.Advance.{is_again}
 use Rattle.sp_round_trip.proofs.Declarations.{module_shown}
-use Rattle.sp_round_trip.proofs.Canonical.{Again}
+use Rattle.sp_printed_words.specs.Modules.{module_lines}
+use Rattle.sp_round_trip.proofs.Converted.{ReadsModule}
 use Rattle.sp_round_trip.proofs.Again.{test_again}
 use Rattle.sp_round_trip.proofs.Alternatives.{alternatives, is_among, claimed_among}
 use Rattle.sp_grammar.proofs.Spans.{below, below_all}
@@ -51,13 +53,13 @@ produced : (n p : ℕ) (w u : List Tok) (s t : Pile) → Applies own n p (map nu
 produced n p w u s t a trace =
     let tested = is_again (manner_of n) n (right own n p) && ((production_of own n p).avoid == 0) in
     elim (or_cases (is_other (manner_of n) || tested) (is_among n p alternatives) (test_at (λ n p. is_shown n p) n p shown_all a.below)) [
-    | inl one ↦ elim (or_cases (is_other (manner_of n)) tested one) [
+      | inl one ↦ elim (or_cases (is_other (manner_of n)) tested one) [
         | inl none ↦ nothing_claimed (manner_of n) n w u s t none
         | inr again ↦
             let b = and_parts (is_again (manner_of n) n (right own n p)) ((production_of own n p).avoid == 0) again in
             test_again (manner_of n) n p (eqb-true (production_of own n p).avoid 0 b.1) b.0 a trace
-        ]
-    | inr by_hand ↦ claimed_among alternatives n p by_hand w u s t a trace
+      ]
+      | inr by_hand ↦ claimed_among alternatives n p by_hand w u s t a trace
     ]
 
 -- a reading, with the claim of each part
@@ -73,6 +75,6 @@ unfolding own
 one_alternative p h = omega (arith, h)
 
 -- A module that is read from words, places aside, is read from its own.
-pub again : Again
-again w m (part zero a g nothing) kind = module_shown w [] m (traced g)
-again w m (part (suc p) a g nothing) kind = absurd (one_alternative p a.below)
+pub again : (w : List Tok) (m : Tree) → ReadsModule w m → ReadsModule (before (flat (module_lines m)) []) m
+again w m (part zero a g nothing) = module_shown w [] m (traced g)
+again w m (part (suc p) a g nothing) = absurd (one_alternative p a.below)

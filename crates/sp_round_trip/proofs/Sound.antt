@@ -66,10 +66,15 @@ stay_on : (guard : Guard) (ss : List Symbol) (n : ℕ) (m : Mark) (follow : Opti
     → ((h : Piled next_state b t) → Sound guard ss u τ h z) → Sound guard (symbol.Mark n ∷ ss) u τ g z
 stay_on guard ss n m follow {σ = σ} next_state τ w u is moves done g more =
     let (h, same, copies) = stayed (rule m) (rule_plain m) follow σ next_state (next w) moves done g in
-    let (now, on) = more h in
-    (now, λ last. let (ws, words, goes) = on last in
-    (ws, words ∙ ap (λ q. q ++ ws) (same last), λ c z v copy may.
-    let (y, does_so, copied) = copies c z (next (before ws v)) copy in let (last_pile, read, copied_on) = goes c y v copied may in (last_pile, mark m is does_so read, copied_on)))
+    let (now, on) = more h in (
+      now,
+      λ last. let (ws, words, goes) = on last in (
+        ws,
+        words ∙ ap (λ q. q ++ ws) (same last),
+        λ c z v copy may.
+            let (y, does_so, copied) = copies c z (next (before ws v)) copy in let (last_pile, read, copied_on) = goes c y v copied may in (last_pile, mark m is does_so read, copied_on),
+      ),
+    )
 
 first_half_closes : (e k : ℕ) → takes e k ≡ First → takes e SECOND ≡ Nothing → {A : Type 0} → A
 first_half_closes e k passed none = elim (cases_Bool (e == CLOSE)) [
@@ -77,19 +82,24 @@ first_half_closes e k passed none = elim (cases_Bool (e == CLOSE)) [
   | inr n ↦ absurd (half_or_all (e == k) (sym (ap (λ c. cond c (takes CLOSE k) (cond (e == k) All Nothing)) n) ∙ passed))
 ]
   where
-  half_or_all : (c : Bool) → cond c All Nothing ≡ First → ⊥
-  half_or_all true h = cc
-  half_or_all false h = cc
+    half_or_all : (c : Bool) → cond c All Nothing ≡ First → ⊥
+    half_or_all true h = cc
+    half_or_all false h = cc
 
 -- a mark that eats the token that comes, and what comes behind that
 eat_on : (guard : Guard) (ss : List Symbol) (n e : ℕ) (m : Mark) {σ : State} (next_state τ : State) (x : Tok) (w u : List Tok) {b s t z : Pile} → mark_with n ≡ Some m → move (rule m) (Some e) σ ≡ eats next_state → takes e (number x) ≡ All → does (rule m) (next (x ∷ w)) s ≡ Some t → (g : Piled σ b s)
     → ((h : Piled next_state b t) → Sound guard ss u τ h z) → Sound guard (symbol.Mark n ∷ symbol.Terminal e ∷ ss) u τ g z
 eat_on guard ss n e m {σ = σ} next_state τ x w u is moves passed done g more =
     let (h, it, same, passes, copies) = ate (rule m) (rule_plain m) e σ next_state x moves passed done g in
-    let (now, on) = more h in
-    (now, λ last. let (ws, words, goes) = on last in
-    (it ∷ ws, words_on (said g last) (said h last) (said now last) (it ∷ []) ws (same last) words, λ c z v copy may.
-    let (y, does_so, copied) = copies c z copy in let (last_pile, read, copied_on) = goes c y v copied may in (last_pile, mark m is does_so (whole passes read), copied_on)))
+    let (now, on) = more h in (
+      now,
+      λ last. let (ws, words, goes) = on last in (
+        it ∷ ws,
+        words_on (said g last) (said h last) (said now last) (it ∷ []) ws (same last) words,
+        λ c z v copy may.
+            let (y, does_so, copied) = copies c z copy in let (last_pile, read, copied_on) = goes c y v copied may in (last_pile, mark m is does_so (whole passes read), copied_on),
+      ),
+    )
 
 is_all_taken : (t : Take) → is_all t ≡ true → t ≡ All
 is_all_taken All h = refl
@@ -103,10 +113,15 @@ token_on guard ss e τ u ok g more =
     let k = kind_for (shown_number e) in
     let lone = alone (word (shown_number e)) [] refl in
     let (h, same, copies) = grown lone.0 g in
-    let (now, on) = more h in
-    (now, λ last. let (ws, words, goes) = on last in
-    (fixed k ∷ ws, words_on (said g last) (said h last) (said now last) (fixed k ∷ []) ws (same last ∙ chain_same (said g) (wrote lone.0) (λ l. fixed k ∷ []) lone.1 last) words, λ c z v copy may.
-    let (y, read, copied) = goes c z v (copies c z copy) may in (y, whole (is_all_taken (takes e (number_of (terminal_of k))) ok) read, copied)))
+    let (now, on) = more h in (
+      now,
+      λ last. let (ws, words, goes) = on last in (
+        fixed k ∷ ws,
+        words_on (said g last) (said h last) (said now last) (fixed k ∷ []) ws (same last ∙ chain_same (said g) (wrote lone.0) (λ l. fixed k ∷ []) lone.1 last) words,
+        λ c z v copy may.
+            let (y, read, copied) = goes c z v (copies c z copy) may in (y, whole (is_all_taken (takes e (number_of (terminal_of k))) ok) read, copied),
+      ),
+    )
 
 watched_tested : (e : Terminal) → is_watched e ≡ true → first_tested (terminal_number e) ≡ true
 watched_tested token.LeftParen ok = paren_tested
@@ -139,15 +154,15 @@ may_come (Some e) guard n ss {r = r} {v = v} ok goes tr may =
     let all = and_parts (is_watched e && not (comes_first (terminal_number e) ss)) (not (may_be_empty ss) || (is_avoided guard.avoid e && (not guard.kept || (is_kept n && are_marks ss)))) ok in
     let first = and_parts (is_watched e) (not (comes_first (terminal_number e) ss)) all.0 in
     elim (comes_behind (terminal_number e) (watched_tested e first.0) goes (not_true first.1)) [
-    | inl differs ↦ inl differs
-    | inr empty ↦
-        let here = and_parts (is_avoided guard.avoid e) (not guard.kept || (is_kept n && are_marks ss)) (holds_then (may_be_empty ss) (is_avoided guard.avoid e && (not guard.kept || (is_kept n && are_marks ss))) all.1 empty.1) in
-        elim may [
-        | inl avoids ↦ inl (subst (λ q. Avoids (Some e) q) (sym empty.0) (avoided_there guard.avoid e v here.0 avoids))
-        | inr kept ↦
-            let marks = and_parts (is_kept n) (are_marks ss) (holds_then guard.kept (is_kept n && are_marks ss) here.1 kept.0) in
-            inr (marks.0, ap coming (marks_only ss marks.1 tr) ∙ kept.1)
-        ]
+      | inl differs ↦ inl differs
+      | inr empty ↦
+          let here = and_parts (is_avoided guard.avoid e) (not guard.kept || (is_kept n && are_marks ss)) (holds_then (may_be_empty ss) (is_avoided guard.avoid e && (not guard.kept || (is_kept n && are_marks ss))) all.1 empty.1) in
+          elim may [
+            | inl avoids ↦ inl (subst (λ q. Avoids (Some e) q) (sym empty.0) (avoided_there guard.avoid e v here.0 avoids))
+            | inr kept ↦
+                let marks = and_parts (is_kept n) (are_marks ss) (holds_then guard.kept (is_kept n && are_marks ss) here.1 kept.0) in
+                inr (marks.0, ap coming (marks_only ss marks.1 tr) ∙ kept.1)
+          ]
     ]
 
 -- a part by its claim
@@ -168,10 +183,10 @@ claimed (expression level) guard n ss σ τ w u s t is ok (x, on, spells) =
     let i = if_some (next_fits (avoided n) guard n ss) (advance guard ss (add (tree (one level)) σ)) τ below.1 in
     (one level, x ∷ [], on, (x, refl, expression_node x spells.is), λ last v c may. expression_shows n level is below.0 x spells (coming u) last v c may, i.0, i.1)
   where
-  tighter : (c : Bool) → nat_lt level 15 ≡ c → with_yield (if c then Some (one level) else None) (λ y. if next_fits (avoided n) guard n ss then advance guard ss (add (tree y) σ) else None) ≡ Some τ
-      → (level ≤ 14) × ((if next_fits (avoided n) guard n ss then advance guard ss (add (tree (one level)) σ) else None) ≡ Some τ)
-  tighter true e h = let below : level < 15 = ltb-true level 15 e in (omega (arith, below), h)
-  tighter false e h = absurd (let q : None ≡ Some _ = h in cc)
+    tighter : (c : Bool) → nat_lt level 15 ≡ c → with_yield (if c then Some (one level) else None) (λ y. if next_fits (avoided n) guard n ss then advance guard ss (add (tree y) σ) else None) ≡ Some τ
+        → (level ≤ 14) × ((if next_fits (avoided n) guard n ss then advance guard ss (add (tree (one level)) σ) else None) ≡ Some τ)
+    tighter true e h = let below : level < 15 = ltb-true level 15 e in (omega (arith, below), h)
+    tighter false e h = absurd (let q : None ≡ Some _ = h in cc)
 claimed in_lines guard n ss σ τ w u s t is ok claim = absurd (let q : None ≡ Some _ = ok in cc)
 claimed path_rest guard n ss σ τ w u s t is ok claim = absurd (let q : None ≡ Some _ = ok in cc)
 claimed if_rest guard n ss σ τ w u s t is ok claim = absurd (let q : None ≡ Some _ = ok in cc)
@@ -184,12 +199,17 @@ part_on guard ss n {σ = σ} τ u1 u {b = b} {s = s} {t = t} {z = z} (y, ts, on,
     let lone = alone (tree y) ts fits in
     let (h, same, copies) = grown lone.0 g in
     let rest : (h : Piled (add (tree y) σ) b (pushed ts s)) → Sound guard ss u τ h z = subst (λ q. (h : Piled (add (tree y) σ) b q) → Sound guard ss u τ h z) on (λ h. more (add (tree y) σ) ok h) in
-    let (now, goes_on) = rest h in
-    (now, λ last. let (ws, words, goes) = goes_on last in
-    let l = last_kind last (said g last) in
-    (yielded y ts l ++ ws, words_on (said g last) (said h last) (said now last) (yielded y ts l) ws (same last ∙ chain_same (said g) (wrote lone.0) (yielded y ts) lone.1 last) words, λ c z v copy may.
-    let (p, read, copied) = goes c (pushed ts z) v (copies c z copy) may in
-    (p, subst (λ q. Goes (symbol.Nonterminal n ∷ ss) q z v p) (sym (before_both (yielded y ts l) ws v)) (and_more (shows l (before ws v) z (may_come (avoided n) guard n ss fit read tr may)) read), copied)))
+    let (now, goes_on) = rest h in (
+      now,
+      λ last. let (ws, words, goes) = goes_on last in
+          let l = last_kind last (said g last) in (
+            yielded y ts l ++ ws,
+            words_on (said g last) (said h last) (said now last) (yielded y ts l) ws (same last ∙ chain_same (said g) (wrote lone.0) (yielded y ts) lone.1 last) words,
+            λ c z v copy may.
+                let (p, read, copied) = goes c (pushed ts z) v (copies c z copy) may in
+                (p, subst (λ q. Goes (symbol.Nonterminal n ∷ ss) q z v p) (sym (before_both (yielded y ts l) ws v)) (and_more (shows l (before ws v) z (may_come (avoided n) guard n ss fit read tr may)) read), copied),
+          ),
+    )
 
 -- what a mark moves to, by what it is
 moves_at : (n : ℕ) (m : Mark) (e : Option ℕ) (σ τ : State) (stay eat : State → Option State) → mark_with n ≡ Some m → then_go (move_at (mark_with n) e σ) stay eat ≡ Some τ → then_go (move (rule m) e σ) stay eat ≡ Some τ
@@ -211,13 +231,13 @@ sound guard (symbol.Terminal e ∷ ss) σ τ {u = u} ok (half_passed passed tr) 
     let i = if_some (is_read e) (advance guard ss (add (word (shown_number e)) σ)) τ ok in token_on guard ss e τ u i.0 g (λ h. sound guard ss (add (word (shown_number e)) σ) τ i.1 tr h)
 sound guard (symbol.Mark n ∷ symbol.Terminal e ∷ ss) σ τ {w = w} {u = u} ok (mark_passed m is done (token_passed {x = x} {w = v} passed tr)) g =
     elim (stay_cases (move (rule m) (Some e) σ) (λ q. advance guard (symbol.Terminal e ∷ ss) q) (λ q. advance guard ss q) τ (moves_at n m (Some e) σ τ (λ q. advance guard (symbol.Terminal e ∷ ss) q) (λ q. advance guard ss q) is ok)) [
-    | inl (q, moves, more) ↦ stay_on guard (symbol.Terminal e ∷ ss) n m (Some e) q τ w u is moves done g (λ h. sound guard (symbol.Terminal e ∷ ss) q τ more (token_passed {x = x} passed tr) h)
-    | inr (q, moves, more) ↦ eat_on guard ss n e m q τ x v u is moves passed done g (λ h. sound guard ss q τ more tr h)
+      | inl (q, moves, more) ↦ stay_on guard (symbol.Terminal e ∷ ss) n m (Some e) q τ w u is moves done g (λ h. sound guard (symbol.Terminal e ∷ ss) q τ more (token_passed {x = x} passed tr) h)
+      | inr (q, moves, more) ↦ eat_on guard ss n e m q τ x v u is moves passed done g (λ h. sound guard ss q τ more tr h)
     ]
 sound guard (symbol.Mark n ∷ symbol.Terminal e ∷ ss) σ τ {w = w} {u = u} ok (mark_passed m is done (half_passed {x = x} {w = v} passed tr)) g =
     elim (stay_cases (move (rule m) (Some e) σ) (λ q. advance guard (symbol.Terminal e ∷ ss) q) (λ q. advance guard ss q) τ (moves_at n m (Some e) σ τ (λ q. advance guard (symbol.Terminal e ∷ ss) q) (λ q. advance guard ss q) is ok)) [
-    | inl (q, moves, more) ↦ stay_on guard (symbol.Terminal e ∷ ss) n m (Some e) q τ w u is moves done g (λ h. sound guard (symbol.Terminal e ∷ ss) q τ more (half_passed {x = x} passed tr) h)
-    | inr (q, moves, more) ↦ first_half_closes e (number (entire x)) passed (not_second e (eats_itself (rule m) e σ q moves))
+      | inl (q, moves, more) ↦ stay_on guard (symbol.Terminal e ∷ ss) n m (Some e) q τ w u is moves done g (λ h. sound guard (symbol.Terminal e ∷ ss) q τ more (half_passed {x = x} passed tr) h)
+      | inr (q, moves, more) ↦ first_half_closes e (number (entire x)) passed (not_second e (eats_itself (rule m) e σ q moves))
     ]
 sound guard (symbol.Mark n ∷ []) σ τ {w = w} {u = u} ok (mark_passed m is done tr) g =
     let (q, moves, more) = stays_at n m σ τ (λ q. advance guard [] q) is ok in stay_on guard [] n m None q τ w u is moves done g (λ h. sound guard [] q τ more tr h)

@@ -28,8 +28,7 @@ use Rattle.sp_print.specs.Own.{integer_keyword}
 use Rattle.sp_print.specs.Words.{Word, fixed, number}
 use Rattle.sp_round_trip.specs.Bare.{nowhere}
 use Rattle.sp_round_trip.specs.Told.{Telling}
-use Rattle.sp_round_trip.proofs.Held.{Pile, started, made, does, put_if}
-use Rattle.sp_round_trip.proofs.Held.{form_told}
+use Rattle.sp_round_trip.proofs.Held.{Pile, started, made, does, form_told, put_if}
 use Rattle.sp_round_trip.proofs.Goes.{Tok, entire, telling_of, next, nothing, whole, mark}
 use Rattle.sp_round_trip.proofs.Goes.{number as kind_number}
 use Rattle.sp_round_trip.proofs.Closing.{closed_all}

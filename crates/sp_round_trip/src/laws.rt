@@ -1,11 +1,17 @@
-// A module that was read, and its words.
-ghost use Rattle.std.specs.Prelude.{◌≡◌};
+// A module that was read, its words, and its canonical text.
+ghost use Rattle.std.specs.Prelude.{◌≡◌, ◌≤◌, List, None, length};
 ghost use Rattle.std.specs.List.{AllByRecursion};
+ghost use Rattle.sp_base.specs.declared.kinds.MKind.{MKind};
+ghost use Rattle.sp_base.specs.declared.kinds.MKind.TheVariants as module_kind;
+ghost use Rattle.sp_base.specs.declared.places.Span.{Span};
+ghost use Rattle.sp_lex.specs.Faults.{IsFault, most_bytes};
 ghost use Rattle.sp_lex.specs.Lexed.{Lexed, IsLexed};
+ghost use Rattle.sp_lex.specs.declared.tokens.Token.{Token};
 ghost use Rattle.sp_ast.specs.Trees.{Tree};
 ghost use Rattle.sp_read_unit.specs.Modules.{IsModuleTree};
+ghost use Rattle.sp_print.specs.Canonical.{canonical};
 ghost use Rattle.sp_printed_words.specs.Modules.{module_lines};
-ghost use Rattle.sp_printed_words.specs.Sound.{HaveNoZero, IsSound};
+ghost use Rattle.sp_printed_words.specs.Sound.{ArePlaced, HaveNoZero, IsSound};
 ghost use Rattle.sp_round_trip.specs.Bare.{bare};
 ghost use Rattle.sp_round_trip.specs.Told.{told};
 
@@ -19,4 +25,16 @@ pub fn trees_are_of_words()
 pub fn words_of_a_read_module_are_sound()
     ensures sound { (lexed : Lexed) (m : Tree) → IsLexed lexed.text lexed.list → IsModuleTree lexed m → AllByRecursion (AllByRecursion IsSound) (module_lines m) }
     ensures no_zero { (lexed : Lexed) (m : Tree) → IsLexed lexed.text lexed.list → IsModuleTree lexed m → HaveNoZero (module_lines m) }
+{}
+
+/// Each word of the canonical text of a module that was read stands where it may.
+pub fn words_of_a_read_module_are_placed()
+    ensures { (lexed : Lexed) (m : Tree) → IsLexed lexed.text lexed.list → IsModuleTree lexed m → AllByRecursion (ArePlaced None) (module_lines m) }
+{}
+
+/// The canonical text of a module that was read reads as the same module, apart from the places of its parts; and if it is
+/// not too large, nothing can be wrong with it but that it is nested too deep.
+pub fn canonical_text_reads_back()
+    ensures same { (lexed : Lexed) (m : Tree) → IsLexed lexed.text lexed.list → IsModuleTree lexed m → (tokens : List Token) → IsLexed (canonical m) tokens → (u : Tree) × IsModuleTree (record { text = canonical m; list = tokens }) u × (bare u ≡ bare m) }
+    ensures no_other_fault { (lexed : Lexed) (m : Tree) → IsLexed lexed.text lexed.list → IsModuleTree lexed m → length (canonical m) ≤ most_bytes → (span : Span) (kind : MKind) → IsFault (canonical m) span kind → kind ≡ module_kind.TooDeep }
 {}

@@ -3,4 +3,7 @@
 
 mod laws;
 
-pub use laws::{trees_are_of_words, words_of_a_read_module_are_sound};
+pub use laws::{
+    canonical_text_reads_back, trees_are_of_words, words_of_a_read_module_are_placed,
+    words_of_a_read_module_are_sound,
+};
