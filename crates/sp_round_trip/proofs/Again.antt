@@ -26,6 +26,7 @@ use Rattle.sp_round_trip.proofs.Laid.{ends_again}
 use Rattle.sp_round_trip.proofs.Advance.{State, Guard, guard_of, unguarded, advance, is_yield, is_spelled, avoids_only, is_again}
 use Rattle.sp_round_trip.proofs.Piles.{Piled, bottom, above}
 use Rattle.sp_round_trip.proofs.Sound.{Guarded, Onward, sound}
+use Rattle.sp_build.proofs.Told.{never}
 
 -- a production that may be taken before anything
 abbrev pub IsFree : ℕ → ℕ → Type 0
@@ -55,10 +56,10 @@ left_by : (guard : Guard) (ss : List Symbol) (cs : List Chunk) {w u : List Tok} 
 left_by guard ss cs {u = u} ok tr = let (now, on) = sound guard ss ([] ∷ []) (cs ∷ []) ok tr (bottom [] no_chunk refl) in left_of guard ss u now on
 
 yield_some : (y : Yield) (o : Option State) → is_yield y o ≡ true → (cs : List Chunk) × (o ≡ Some (cs ∷ [])) × (ends_as y cs ≡ true)
-yield_some y None e = absurd (let q : false ≡ true = e in cc)
-yield_some y (Some []) e = absurd (let q : false ≡ true = e in cc)
+yield_some y None e = never e
+yield_some y (Some []) e = never e
 yield_some y (Some (cs ∷ [])) e = (cs, refl, e)
-yield_some y (Some (cs ∷ ds ∷ σ)) e = absurd (let q : false ≡ true = e in cc)
+yield_some y (Some (cs ∷ ds ∷ σ)) e = never e
 
 plain_again : (n p : ℕ) (y : Yield) → IsFree n p → is_yield y (advance (guard_of n) (right own n p) ([] ∷ [])) ≡ true → {w u : List Tok} {s t : Pile} → Applies own n p (map number w) → Trace (right own n p) w s u t → ClaimAs (plain y) n w s t u
 plain_again n p y free ok {w = w} a tr =
@@ -70,7 +71,7 @@ plain_again n p y free ok {w = w} a tr =
 spelled_some : (n : ℕ) (passes : Bool) (o : Option State) → is_spelled n passes o ≡ true
     → (level : ℕ) × (o ≡ Some ((built level ∷ []) ∷ [])) × ((if passes then level == 15 else nat_lt level 15) ≡ true) × (((n == part_number Part.Primary) || (n == part_number (level_part level))) ≡ true)
 spelled_some n passes (Some ((built level ∷ []) ∷ [])) e = let b = and_parts (if passes then level == 15 else nat_lt level 15) ((n == part_number Part.Primary) || (n == part_number (level_part level))) e in (level, refl, b.0, b.1)
-spelled_some n passes o e = absurd (let q : false ≡ true = e in cc)
+spelled_some n passes o e = never e
 
 -- an expression that is left is spelled, if what may come behind it is what its level lets pass
 expression_again : (n p level : ℕ) (guard : Guard) (w u : List Tok) → IsFree n p → (((n == part_number Part.Primary) || (n == part_number (level_part level))) ≡ true) → {s t : Pile}
@@ -109,4 +110,4 @@ spelled_again n p level free ok {w = w} {u = u} a tr =
 pub test_again : (m : Manner) (n p : ℕ) → IsFree n p → is_again m n (right own n p) ≡ true → {w u : List Tok} {s t : Pile} → Applies own n p (map number w) → Trace (right own n p) w s u t → ClaimAs m n w s t u
 test_again (plain y) n p free ok a tr = plain_again n p y free ok a tr
 test_again (expression level) n p free ok a tr = spelled_again n p level free ok a tr
-test_again m n p free ok a tr = absurd (let q : false ≡ true = ok in cc)
+test_again m n p free ok a tr = never ok

@@ -24,6 +24,7 @@ use Rattle.sp_round_trip.proofs.Operands.{divides, calls}
 use Rattle.sp_round_trip.proofs.Parameters.{parameters_shown, no_parameters_shown}
 use Rattle.sp_round_trip.proofs.Semicolons.{semicolon_shown, no_semicolon_shown}
 use Rattle.sp_round_trip.proofs.TypedNumbers.{types_number}
+use Rattle.sp_build.proofs.Told.{never}
 
 -- what is claimed of a part, where this alternative of it was read
 abbrev pub Claimed : ℕ → ℕ → Type 0
@@ -88,7 +89,7 @@ is_among n p [] = false
 is_among n p (a ∷ others) = (a.of == n && a.place == p) || is_among n p others
 
 pub claimed_among : (alternatives : List Alternative) (n p : ℕ) → is_among n p alternatives ≡ true → Claimed n p
-claimed_among [] n p h = absurd (let q : false ≡ true = h in cc)
+claimed_among [] n p h = never h
 claimed_among (a ∷ others) n p h = elim (cases_Bool (a.of == n && a.place == p)) [
   | inl y ↦
       let same = and_parts (a.of == n) (a.place == p) y in

@@ -36,20 +36,7 @@ attribute_word a = fixed (token.Attribute (attribute_token a))
 
 attribute_taken : (a : AttributeName) → takes 49 (number (entire (attribute_word a))) ≡ All
 attribute_taken attribute_name.Size = refl
-attribute_taken attribute_name.MaxSize = refl
-attribute_taken attribute_name.Eod = refl
-attribute_taken attribute_name.Until = refl
-attribute_taken attribute_name.UntilIncluding = refl
-attribute_taken attribute_name.While = refl
-attribute_taken attribute_name.Convert = refl
-attribute_taken attribute_name.Requires = refl
-attribute_taken attribute_name.Default = refl
-attribute_taken attribute_name.ByteOrder = refl
-attribute_taken attribute_name.BitOrder = refl
-attribute_taken attribute_name.ParseFrom = refl
-attribute_taken attribute_name.ParseAt = refl
-attribute_taken attribute_name.Try = refl
-attribute_taken attribute_name.Synchronize = refl
+attribute_taken a = refl
 
 abbrev value_slot : List Slot
 value_slot = slot (may_be expressions) ∷ []

@@ -32,25 +32,7 @@ use Rattle.sp_round_trip.proofs.Words.{before_both}
 
 low_operator : (op : BinaryOp) → nat_lt (level op) 1 ≡ false
 low_operator binary.Or = refl
-low_operator binary.And = refl
-low_operator binary.In = refl
-low_operator binary.NotIn = refl
-low_operator binary.Equal = refl
-low_operator binary.NotEqual = refl
-low_operator binary.Less = refl
-low_operator binary.LessEqual = refl
-low_operator binary.Greater = refl
-low_operator binary.GreaterEqual = refl
-low_operator binary.BitOr = refl
-low_operator binary.BitXor = refl
-low_operator binary.BitAnd = refl
-low_operator binary.ShiftLeft = refl
-low_operator binary.ShiftRight = refl
-low_operator binary.Add = refl
-low_operator binary.Subtract = refl
-low_operator binary.Multiply = refl
-low_operator binary.Divide = refl
-low_operator binary.Remainder = refl
+low_operator op = refl
 
 low_new : (b : Bool) → nat_lt (if b then 14 else 15) 1 ≡ false
 low_new true = refl

@@ -34,6 +34,7 @@ use Rattle.sp_round_trip.proofs.Steps.{Gather, Close, is_token, passes_token, pa
 use Rattle.sp_round_trip.proofs.Closing.{pushed_append}
 use Rattle.sp_round_trip.proofs.Words.{before_both}
 use Rattle.sp_round_trip.proofs.Piles.{last_both}
+use Rattle.sp_build.proofs.Told.{never}
 
 abbrev pub if_form : Form
 if_form = form_is.Stmt stmt_is.If
@@ -104,8 +105,8 @@ else_if_shown w u s t trace bs p q b same =
 -- a part that isn't left out stands behind its `else`
 else_words : (e : Tree) (last : Option TokenKind) → is_node e ≡ true → rest_words [] e last ≡ fixed (token.Keyword keyword.Else) ∷ (yielded (one 1) (e ∷ []) (Some (token.Keyword keyword.Else)) ++ [])
 else_words (node form span ts) last h = refl
-else_words absent last h = absurd (let q : false ≡ true = h in cc)
-else_words (row ts) last h = absurd (let q : false ≡ true = h in cc)
+else_words absent last h = never h
+else_words (row ts) last h = never h
 
 else_again : (bs : List Tree) (e : Tree) (came behind : ℕ) → is_node e ≡ true → came ≡ behind → Gather bs → Shows 58 (one 1) (e ∷ []) came → Close if_slots if_form (row (trees bs) ∷ e ∷ []) → Rest bs [] e behind
 unfolding own

@@ -1,7 +1,7 @@
 -- The parts that read expressions: each below the level of a Primary reads those of its level at their place.
 use Rattle.std.specs.Prelude.{◌≤◌, nat_lt, ◌&&◌, ◌||◌, not}
 use Rattle.std.proofs.Common.{◌≡◌, ℕ, zero, suc, ◌+◌, get_or, List, [], ◌∷◌, map, Bool, true, false, ◌==◌, Option, Some, None, refl, sym, ◌∙◌, subst, inr, ⊎_elim, arith}
-use Rattle.std.proofs.lemmas.Bool.{and_parts, eqb-true, ltb-true, le-ltb, true≢false}
+use Rattle.std.proofs.lemmas.Bool.{and_parts, eqb-true, ltb-true, le-ltb, not-true}
 use Rattle.sp_parser.specs.declared.symbol.Symbol.TheVariants as symbol
 use Rattle.sp_grammar.specs.declared.terminals.Terminal.{Terminal}
 use Rattle.sp_grammar.specs.declared.terminals.Terminal.TheVariants as token
@@ -13,6 +13,7 @@ use Rattle.sp_round_trip.proofs.Held.{made}
 use Rattle.sp_round_trip.proofs.Goes.{Tok, coming, Goes, before}
 use Rattle.sp_round_trip.proofs.Shown.{Manner, expression, other, one, manner, avoids, keeps_else, manner_of, is_kept, Avoids, Shows, level_part, Spells}
 use Rattle.sp_round_trip.proofs.Levels.{at_level}
+use Rattle.sp_build.proofs.Told.{never}
 
 -- a part that reads expressions of a level: below the level of a Primary it is that of the level, and avoids a `(`
 abbrev is_left_paren : Option Terminal → Bool
@@ -31,12 +32,8 @@ abbrev IsOfLevel : ℕ → Option Terminal → Bool → ℕ → Type 0
 IsOfLevel n avoid keeps level = (n ≡ part_number (level_part level)) × (1 ≤ level) × ((v : List Tok) → Avoids avoid v → Avoids (Some token.LeftParen) v) × (keeps ≡ false)
 
 avoided_paren : (o : Option Terminal) → is_left_paren o ≡ true → (v : List Tok) → Avoids o v → Avoids (Some token.LeftParen) v
-avoided_paren None h v a = absurd (true≢false (sym h))
+avoided_paren None h v a = never h
 avoided_paren (Some e) h v a = subst (λ n. (coming v == n) ≡ false) (eqb-true (terminal_number e) (terminal_number token.LeftParen) h) a
-
-is_not : (b : Bool) → not b ≡ true → b ≡ false
-is_not true h = sym h
-is_not false h = refl
 
 of_level : (n level : ℕ) (avoid : Option Terminal) (keeps : Bool) (m : Manner) → is_of_level n avoid keeps m ≡ true → m ≡ expression level → level ≤ 14 → IsOfLevel n avoid keeps level
 of_level n level avoid keeps m h e high =
@@ -45,7 +42,7 @@ of_level n level avoid keeps m h e high =
     let last = and_parts (n == part_number (level_part level) && nat_lt 0 level && is_left_paren avoid) (not keeps) h in
     let third = and_parts (n == part_number (level_part level) && nat_lt 0 level) (is_left_paren avoid) last.0 in
     let first = and_parts (n == part_number (level_part level)) (nat_lt 0 level) third.0 in
-    (eqb-true n (part_number (level_part level)) first.0, ltb-true 0 level first.1, avoided_paren avoid third.1, is_not keeps last.1)
+    (eqb-true n (part_number (level_part level)) first.0, ltb-true 0 level first.1, avoided_paren avoid third.1, not-true keeps last.1)
 
 all_of : (n k level : ℕ) (ps : List Part) → all_of_levels n ps ≡ true → get_or (map manner ps) k other ≡ expression level → level ≤ 14 → IsOfLevel (n + k) (get_or (map avoids ps) k None) (get_or (map keeps_else ps) k false) level
 all_of n k level [] h m high = absurd (let q : other ≡ expression level = m in cc)

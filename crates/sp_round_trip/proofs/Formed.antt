@@ -1,7 +1,7 @@
 -- A tree that is built of formed trees is formed.
-use Rattle.std.specs.Prelude.{if◌then◌else◌, ◌==◌, ◌&&◌, not, option_map}
+use Rattle.std.specs.Prelude.{if◌then◌else◌, ◌&&◌, not, option_map}
 use Rattle.std.proofs.Common.{◌≡◌, ℕ, List, [], ◌∷◌, ◌++◌, reverse, Bool, true, false, Option, Some, None, refl, sym, subst, ap, ◌∙◌, eq-eqb, eqb-true}
-use Rattle.std.proofs.lemmas.List.{reverse-append}
+use Rattle.std.proofs.lemmas.List.{reverse-append, append-nil}
 use Rattle.sp_lex.specs.declared.kinds.TokenKind.{TokenKind}
 use Rattle.sp_lex.specs.declared.kinds.TokenKind.TheVariants as token
 use Rattle.sp_grammar.specs.declared.marks.Mark.{Mark}
@@ -21,7 +21,7 @@ use Rattle.sp_build.specs.declared.groups.Sort.{Sort}
 use Rattle.sp_build.specs.declared.groups.Sort.TheVariants.{One as one, Optional as optional, Rows as rows}
 use Rattle.sp_build.specs.declared.groups.Slot.{Slot}
 use Rattle.sp_build.specs.declared.groups.Slot.TheVariants.{Part as part, Several as several}
-use Rattle.sp_build.specs.Groups.{group_number, group, same_group, is_in, is_of, are_of, fits, is_node}
+use Rattle.sp_build.specs.Groups.{same_group, is_in, is_of, are_of, fits, is_node, group_number, group}
 use Rattle.sp_build.specs.Rules.{Leaf, always, by_name, by_string, by_bytes, by_regex, by_number, by_integer, by_event, Rule, begins, leaves_out, takes, gathers, closes, closes_integer, closes_attribute, encloses, joins, wraps, rule}
 use Rattle.sp_build.specs.Tokens.{integer_of, attribute_of, hook_name_of}
 use Rattle.sp_print.specs.Canonical.{row_of}
@@ -30,6 +30,7 @@ use Rattle.sp_printed_words.specs.Formed.{is_expression, is_path, is_declaration
 use Rattle.sp_round_trip.specs.Bare.{nowhere}
 use Rattle.sp_round_trip.specs.Told.{Telling}
 use Rattle.sp_round_trip.proofs.Held.{started, made, Pile, After, after, after_do, top, front, start, filled, put, put_if, closed, does, form_told}
+use Rattle.std.proofs.lemmas.Bool.{and_parts}
 
 -- What is known of a tree on a pile. A row may still have bases in it, and a name is no `skip`.
 abbrev pub Nearly : Tree → Type 0
@@ -77,10 +78,6 @@ onto_append (x ∷ xs) ys slots = onto_append xs ys (x ∷ slots)
 onto_reverse : (xs slots : List Slot) → onto (reverse xs) slots ≡ xs ++ slots
 onto_reverse [] slots = refl
 onto_reverse (x ∷ xs) slots = ap (λ ys. onto ys slots) (reverse-append (x ∷ []) xs) ∙ onto_append (reverse xs) (x ∷ []) slots ∙ ap (λ ys. x ∷ ys) (onto_reverse xs slots)
-
-append_none : (xs : List Slot) → xs ++ [] ≡ xs
-append_none [] = refl
-append_none (x ∷ xs) = ap (λ ys. x ∷ ys) (append_none xs)
 
 pub then_on : {A : Type 0} (Q : A → Type 0) (o : Option (After A)) (go : A → Pile → Option Pile) → OnAfter Q o → ((x : A) (s : Pile) → Q x → On s → OnSome (go x s)) → OnSome (after_do o go)
 then_on Q None go h by = tt
@@ -130,7 +127,7 @@ filled_on (several g ∷ xs) slots ts s on fill =
     filled_on xs (several g ∷ slots) (front (is_of g) s ts).value (front (is_of g) s ts).rest found.3 (found.0, ts, found.1, found.2, fill)
 
 parts_on : (slots : List Slot) (s : Pile) → On s → OnAfter (Fill slots) (filled (reverse slots) [] s)
-parts_on slots s on = subst (λ xs. OnAfter (Fill xs) (filled (reverse slots) [] s)) (onto_reverse slots [] ∙ append_none slots) (filled_on (reverse slots) [] [] s on tt)
+parts_on slots s on = subst (λ xs. OnAfter (Fill xs) (filled (reverse slots) [] s)) (onto_reverse slots [] ∙ append-nil slots) (filled_on (reverse slots) [] [] s on tt)
 
 -- What slots want: the group of the first part, and of the second one.
 abbrev group_first : List Slot → Option Group
@@ -188,20 +185,13 @@ wants form slots = true
 abbrev suits : Form → List Slot → Bool
 suits form slots = wants form slots && are_free (but_slot form slots) && rows_free slots
 
-pub both : (a b : Bool) → (a && b) ≡ true → (a ≡ true) × (b ≡ true)
-both true b h = (refl, h)
-both false b h = cc
-
-number_like : (g h : Group) (n : ℕ) → same_group g h ≡ true → (group_number h == n) ≡ true → (group_number g == n) ≡ true
-number_like g h n e f = eq-eqb (group_number g) n (eqb-true (group_number g) (group_number h) e ∙ eqb-true (group_number h) n f)
-
-of_like : (g h : Group) (t : Tree) → same_group g h ≡ true → is_of h t ≡ true → is_of g t ≡ true
-of_like g h (node form span ts) e f = number_like g h (group_number (group form)) e f
-of_like g h (row ts) e f = cc
-of_like g h absent e f = cc
+is_of_like : (g h : Group) (t : Tree) → same_group g h ≡ true → is_of h t ≡ true → is_of g t ≡ true
+is_of_like g h (node form span ts) e f = eq-eqb (group_number g) (group_number (group form)) (eqb-true (group_number g) (group_number h) e ∙ eqb-true (group_number h) (group_number (group form)) f)
+is_of_like g h (row ts) e f = cc
+is_of_like g h absent e f = cc
 
 first_of : (g : Group) (slots : List Slot) (ts : List Tree) → is_in g (group_first slots) ≡ true → Fill slots ts → is_of g (first (trees ts)) ≡ true
-first_of g (part (one h) ∷ slots) (t ∷ ts) e fill = of_like g h t e fill.0
+first_of g (part (one h) ∷ slots) (t ∷ ts) e fill = is_of_like g h t e fill.0
 first_of g (part (one h) ∷ slots) [] e fill = absurd fill
 first_of g (part (optional h) ∷ slots) ts e fill = cc
 first_of g (part (rows h) ∷ slots) ts e fill = cc
@@ -241,7 +231,7 @@ declaration_is absent e = cc
 
 declarations_are : (g : Group) (ts : Trees) → same_group declarations g ≡ true → are_of g ts ≡ true → AreDeclarations ts
 declarations_are g none e all = tt
-declarations_are g (more t ts) e all = let h = both (is_of g t) (are_of g ts) all in (declaration_is t (of_like declarations g t e h.0), declarations_are g ts e h.1)
+declarations_are g (more t ts) e all = let h = and_parts (is_of g t) (are_of g ts) all in (declaration_is t (is_of_like declarations g t e h.0), declarations_are g ts e h.1)
 
 row_declared : (g : Group) (t : Tree) → same_group declarations g ≡ true → fits (rows g) t ≡ true → AreDeclarations (row_of t)
 row_declared g (row ts) e fit = declarations_are g ts e fit
@@ -255,7 +245,7 @@ second_declared (part sort ∷ part (rows g) ∷ slots) [] e fill = tt
 second_declared slots ts e fill = cc
 
 good_second : (slots : List Slot) (ts : List Tree) → is_in names (group_second slots) ≡ true → Fill slots ts → IsId (second (trees ts))
-good_second (part sort ∷ part (one g) ∷ slots) (t ∷ u ∷ ts) e fill = fill.2.1.1 (name_is u (of_like names g u e fill.2.0))
+good_second (part sort ∷ part (one g) ∷ slots) (t ∷ u ∷ ts) e fill = fill.2.1.1 (name_is u (is_of_like names g u e fill.2.0))
 good_second (part sort ∷ part (one g) ∷ slots) (t ∷ []) e fill = absurd fill.2
 good_second (part sort ∷ part (one g) ∷ slots) [] e fill = absurd fill
 good_second slots ts e fill = cc
@@ -268,7 +258,7 @@ wanted (form_is.Expr expr_is.Member) slots ts e fill = name_is (second (trees ts
 wanted (form_is.Expr expr_is.SetMember) slots ts e fill = good_second slots ts e fill
 wanted (form_is.Expr (expr_is.Unary op)) slots ts e fill = expression_is (first (trees ts)) (first_of expressions slots ts e fill)
 wanted (form_is.Expr (expr_is.Binary op)) slots ts e fill =
-    let h = both (is_in expressions (group_first slots)) (is_in expressions (group_second slots)) e in
+    let h = and_parts (is_in expressions (group_first slots)) (is_in expressions (group_second slots)) e in
     (expression_is (first (trees ts)) (first_of expressions slots ts h.0 fill), expression_is (second (trees ts)) (second_of expressions slots ts h.1 fill))
 wanted (form_is.Decl decl_is.On) slots ts e fill = path_is (first (trees ts)) (first_of paths slots ts e fill)
 wanted form_is.Module slots ts e fill = second_declared slots ts e fill
@@ -290,7 +280,7 @@ free_in (rows g) absent e f = refl
 
 free_row : (g : Group) (ts : Trees) → not (same_group g bases) ≡ true → are_of g ts ≡ true → HaveNoRegexBase ts
 free_row g none e f = tt
-free_row g (more t ts) e f = let h = both (is_of g t) (are_of g ts) f in (free_of g t e h.0, free_row g ts e h.1)
+free_row g (more t ts) e f = let h = and_parts (is_of g t) (are_of g ts) f in (free_of g t e h.0, free_row g ts e h.1)
 
 free_all : (g : Group) (us vs : List Tree) → not (same_group g bases) ≡ true → AllOf g us → HaveNoRegexBase (trees vs) → HaveNoRegexBase (trees (us ++ vs))
 free_all g [] vs e all rest = rest
@@ -300,9 +290,9 @@ pub free_parts : (slots : List Slot) (ts : List Tree) → are_free slots ≡ tru
 free_parts [] [] e fill = tt
 free_parts [] (t ∷ ts) e fill = absurd fill
 free_parts (part sort ∷ slots) [] e fill = absurd fill
-free_parts (part sort ∷ slots) (t ∷ ts) e fill = let h = both (is_free sort) (are_free slots) e in (free_in sort t h.0 fill.0, free_parts slots ts h.1 fill.2)
+free_parts (part sort ∷ slots) (t ∷ ts) e fill = let h = and_parts (is_free sort) (are_free slots) e in (free_in sort t h.0 fill.0, free_parts slots ts h.1 fill.2)
 free_parts (several g ∷ slots) ts e fill =
-    let h = both (not (same_group g bases)) (are_free slots) e in
+    let h = and_parts (not (same_group g bases)) (are_free slots) e in
     subst (λ us. HaveNoRegexBase (trees us)) (sym fill.2) (free_all g fill.0 fill.1 h.0 fill.3 (free_parts slots fill.1 h.1 fill.4))
 
 but_free : (form : Form) (ts : Trees) → HaveNoRegexBase ts → HaveNoRegexBase (but_base form ts)
@@ -311,7 +301,7 @@ but_free (form_is.Base base_is.Group) (more b ts) free = free.1
 but_free form ts free = free
 
 free_but : (form : Form) (slots : List Slot) (ts : List Tree) → are_free (but_slot form slots) ≡ true → Fill slots ts → HaveNoRegexBase (but_base form (trees ts))
-free_but form_is.Field (part a ∷ part b ∷ slots) (t ∷ u ∷ ts) e fill = let h = both (is_free a) (are_free slots) e in (free_in a t h.0 fill.0, free_parts slots ts h.1 fill.2.2)
+free_but form_is.Field (part a ∷ part b ∷ slots) (t ∷ u ∷ ts) e fill = let h = and_parts (is_free a) (are_free slots) e in (free_in a t h.0 fill.0, free_parts slots ts h.1 fill.2.2)
 free_but (form_is.Base base_is.Group) (part b ∷ slots) (u ∷ ts) e fill = free_parts slots ts e fill.2
 free_but form_is.Field (part a ∷ part b ∷ slots) (t ∷ []) e fill = absurd fill.2
 free_but form_is.Field (part a ∷ part b ∷ slots) [] e fill = absurd fill
@@ -339,7 +329,7 @@ pub formed_parts : (slots : List Slot) (ts : List Tree) → rows_free slots ≡ 
 formed_parts [] [] e fill = tt
 formed_parts [] (t ∷ ts) e fill = absurd fill
 formed_parts (part sort ∷ slots) [] e fill = absurd fill
-formed_parts (part sort ∷ slots) (t ∷ ts) e fill = let h = both (is_row_free sort) (rows_free slots) e in (formed_in sort t h.0 fill.0 fill.1.0, formed_parts slots ts h.1 fill.2)
+formed_parts (part sort ∷ slots) (t ∷ ts) e fill = let h = and_parts (is_row_free sort) (rows_free slots) e in (formed_in sort t h.0 fill.0 fill.1.0, formed_parts slots ts h.1 fill.2)
 formed_parts (several g ∷ slots) ts e fill = subst (λ us. AreFormed (trees us)) (sym fill.2) (formed_all g fill.0 fill.1 fill.3 (formed_parts slots fill.1 e fill.4))
 
 no_name : (form : Form) (slots : List Slot) (ts : List Tree) → wants form slots ≡ true → is_name (tree form nowhere ts) ≡ true → IsId (tree form nowhere ts)
@@ -348,8 +338,8 @@ no_name form slots ts e f = cc
 
 good_tree : (form : Form) (slots : List Slot) (ts : List Tree) → suits form slots ≡ true → Fill slots ts → Good (tree form nowhere ts)
 good_tree form slots ts e fill =
-    let g = both (wants form slots && are_free (but_slot form slots)) (rows_free slots) e in
-    let h = both (wants form slots) (are_free (but_slot form slots)) g.0 in
+    let g = and_parts (wants form slots && are_free (but_slot form slots)) (rows_free slots) e in
+    let h = and_parts (wants form slots) (are_free (but_slot form slots)) g.0 in
     ((wanted form slots ts h.0 fill, free_but form slots ts h.1 fill, formed_parts slots ts g.1 fill), no_name form slots ts h.0)
 
 -- what rules build is what its alternative wants

@@ -32,13 +32,7 @@ integer_word a = fixed (token.Keyword (integer_keyword a))
 
 pub integer_taken : (a : IntWord) → takes 22 (number (entire (integer_word a))) ≡ All
 integer_taken integer.Uint8 = refl
-integer_taken integer.Uint16 = refl
-integer_taken integer.Uint32 = refl
-integer_taken integer.Uint64 = refl
-integer_taken integer.Int8 = refl
-integer_taken integer.Int16 = refl
-integer_taken integer.Int32 = refl
-integer_taken integer.Int64 = refl
+integer_taken a = refl
 
 abbrev number_base : IntWord → Form
 number_base a = form_is.Base (base_is.Number a)

@@ -1,7 +1,7 @@
 -- What a mark does to a pile by its chunks, and to a copy of it.
 use Rattle.std.specs.Prelude.{length, not, ◌&&◌, if◌then◌else◌}
 use Rattle.std.proofs.Common.{◌≡◌, ℕ, suc, List, [], ◌∷◌, ◌++◌, Bool, true, false, ◌==◌, Option, Some, None, refl, sym, ◌∙◌, ap, subst}
-use Rattle.std.proofs.lemmas.Bool.{and_parts, eqb-true}
+use Rattle.std.proofs.lemmas.Bool.{and_parts, eqb-true, not-true}
 use Rattle.std.proofs.lemmas.List.{append-nil, append_assoc}
 use Rattle.sp_parser.specs.Grammar.{Take, Nothing, First, All, takes as parser_takes, SECOND}
 use Rattle.sp_lex.specs.declared.kinds.TokenKind.{TokenKind}
@@ -33,6 +33,8 @@ use Rattle.sp_round_trip.proofs.Chunks.{Chunk, word, tree, built, is_new, node_c
 use Rattle.sp_round_trip.proofs.Laid.{laid_again, row_again, node_again}
 use Rattle.sp_round_trip.proofs.Advance.{State, put_on, add, stays, eats, stuck, leaf_chunk, is_itself, is_taken, is_all, always_moved, is_one, one_each, is_laid, put_before, wrapped_last, moved, row_moved, move}
 use Rattle.sp_round_trip.proofs.Piles.{Same, chain_same, alone, Piled, bottom, above, said, Copies, grown}
+use Rattle.sp_build.proofs.Standing.{some_equal, not_some, if_some}
+use Rattle.sp_build.proofs.Told.{never}
 
 -- what tokens' trees are: written by their own word alone
 abbrev pub LeafPlain : Leaf → Type 0
@@ -46,6 +48,7 @@ LeafPlain (by_integer form) = (w : IntWord) → (leaf_chunk (by_integer form) �
 LeafPlain (by_event form) = (h : HookName) → (leaf_chunk (by_event form) ≡ node_chunk (form h)) × (layout (form h) ≡ piece.Own ∷ []) × (is_new (form h) ≡ false)
 
 abbrev pub RulePlain : Rule → Type 0
+RulePlain (takes (always form)) = Unit {0}
 RulePlain (takes l) = LeafPlain l × LeafSays l
 RulePlain _ = Unit {0}
 
@@ -63,21 +66,7 @@ rule_plain build.NumberExpr = (λ x. (refl, refl, refl), λ x. refl)
 rule_plain build.StringExpr = (λ x. (refl, refl, refl), λ x. refl)
 rule_plain build.BytesExpr = (λ x. (refl, refl, refl), λ x. refl)
 rule_plain build.RegexExpr = (λ x. (refl, refl, refl), λ x. refl)
-rule_plain build.BoolType = (tt, tt)
-rule_plain build.BytesType = (tt, tt)
-rule_plain build.StringType = (tt, tt)
-rule_plain build.VoidType = (tt, tt)
-rule_plain build.OtherwiseGuard = (tt, tt)
-rule_plain build.LookAheadGuard = (tt, tt)
-rule_plain build.NothingBody = (tt, tt)
-rule_plain build.SelfExpr = (tt, tt)
-rule_plain build.CurrentExpr = (tt, tt)
-rule_plain build.TrueExpr = (tt, tt)
-rule_plain build.FalseExpr = (tt, tt)
 rule_plain m = tt
-
-some_is : {A : Type 0} {x y : A} → Some x ≡ Some y → x ≡ y
-some_is e = cc
 
 -- A mark by itself: it writes nothing, and does the same on each copy, whatever token comes.
 abbrev pub Stays : Rule → State → {σ : State} {b s : Pile} → Piled σ b s → Pile → Type 0
@@ -102,13 +91,13 @@ moved_to : {σ τ : State} → stays σ ≡ stays τ → σ ≡ τ
 moved_to e = cc
 
 begun : (σ : State) {b s t : Pile} (x : Telling) → Some (started x ∷ s) ≡ Some t → (g : Piled σ b s) → Stays begins ([] ∷ σ) g t
-begun σ {s = s} x e g = (above [] x s g no_chunk (sym (some_is e)), no_more (said g) nothing (λ last. refl), λ c z q copy. (started q ∷ z, refl, (q, z, refl, copy)))
+begun σ {s = s} x e g = (above [] x s g no_chunk (sym (some_equal e)), no_more (said g) nothing (λ last. refl), λ c z q copy. (started q ∷ z, refl, (q, z, refl, copy)))
 
 left : (σ : State) {b s t : Pile} → Some (made absent ∷ s) ≡ Some t → (g : Piled σ b s) → Stays leaves_out (add (tree left_out) σ) g t
 left σ {b = b} e g =
     let lone = alone (tree left_out) (absent ∷ []) refl in
     let (now, same, copies) = grown lone.0 g in
-    subst (λ t. Stays leaves_out (add (tree left_out) σ) g t) (some_is e)
+    subst (λ t. Stays leaves_out (add (tree left_out) σ) g t) (some_equal e)
     (now, λ last. same last ∙ no_more (said g) (wrote lone.0) lone.1 last, λ c z x copy. (made absent ∷ z, refl, copies c z copy))
 
 -- a tree that is built of the trees since it began
@@ -118,13 +107,9 @@ node_of form ts = node form nowhere (trees ts)
 built_one : (form : Form) (cs : List Chunk) (ts : List Tree) → is_laid form cs ≡ true → (sp : Split cs ts) → (it : Split (node_chunk form ∷ []) (node_of form ts ∷ [])) × Same (wrote it) (wrote sp)
 built_one form cs ts ok sp =
     let b = and_parts (laid_as form (layout form) cs) (not (is_new form)) ok in
-    let again = node_again form ts (not_true b.1) in
+    let again = node_again form ts (not-true _ b.1) in
     let lone = alone (node_chunk form) (node_of form ts ∷ []) again.0 in
     (lone.0, λ last. lone.1 last ∙ again.1 last ∙ sym (laid_again form cs ts b.0 sp last))
-  where
-    not_true : {x : Bool} → not x ≡ true → x ≡ false
-    not_true {x = true} e = cc
-    not_true {x = false} e = refl
 
 -- a tree in place of the trees since it began, written as they are
 in_place : (r : Rule) {ds cs : List Chunk} {σ : State} {b s : Pile} (u : Tree) (ts : List Tree) (p : Telling) (rest : Pile) (below : Piled (ds ∷ σ) b rest) (sp : Split cs ts) (e : s ≡ pushed ts (started p ∷ rest)) (it : (es : List Chunk) × (new : Split es (u ∷ [])) × Same (wrote new) (wrote sp))
@@ -147,12 +132,12 @@ closed_here : (slots : List Slot) (form : Form) (cs ds : List Chunk) (σ : State
 closed_here slots form cs ds σ {t = t} x ok e (above ts p rest below sp is) =
     let all = closed_all slots (λ q. Some form) ts p rest t (ap (λ z. does (closes slots form) x z) (sym is) ∙ e) in
     let it = built_one form cs ts ok sp in
-    let same : form ≡ all.0 = some_is all.1 in
+    let same : form ≡ all.0 = some_equal all.1 in
     in_place (closes slots form) (node_of form ts) ts p rest below sp is (node_chunk form ∷ [], it.0, it.1)
     (λ y q c. all.3 q c (ap Some same) ∙ ap (λ f. Some (made (node_of f ts) ∷ c)) (sym same)) (all.2 ∙ ap (λ f. made (node_of f ts) ∷ rest) (sym same))
 
 one_tree : (c : Chunk) (us : List Tree) → is_one c ≡ true → Owns c us → (t : Tree) × (us ≡ t ∷ [])
-one_tree (word e) us ok owns = absurd (let q : false ≡ true = ok in cc)
+one_tree (word e) us ok owns = never ok
 one_tree (built level) us ok owns = (node_of owns.0 owns.1, owns.2)
 one_tree (tree (one level)) us ok owns = (owns.0, owns.1)
 one_tree (tree (optional around)) us ok owns = (owns.0, owns.1)
@@ -160,19 +145,19 @@ one_tree (tree left_out) us ok owns = (absent, owns)
 one_tree (tree (a_row by)) us ok owns = (in_row owns.0, owns.1)
 one_tree (tree arguments) us ok owns = (in_row owns.0, owns.1)
 one_tree (tree hooks) us ok owns = (in_row owns.0, owns.1)
-one_tree (tree (listed by)) us ok owns = absurd (let q : false ≡ true = ok in cc)
-one_tree (tree (followed by)) us ok owns = absurd (let q : false ≡ true = ok in cc)
-one_tree (tree silent) us ok owns = absurd (let q : false ≡ true = ok in cc)
+one_tree (tree (listed by)) us ok owns = never ok
+one_tree (tree (followed by)) us ok owns = never ok
+one_tree (tree silent) us ok owns = never ok
 
 one_more : (c : Chunk) (us ts : List Tree) (slots : List Slot) → is_one c ≡ true → Owns c us → length ts ≡ length slots → length (us ++ ts) ≡ suc (length slots)
 one_more c us ts slots ok owns e = let t = one_tree c us ok owns in ap (λ vs. length (vs ++ ts)) t.1 ∙ ap suc e
 
 as_many : (cs : List Chunk) (slots : List Slot) {ts : List Tree} → one_each cs slots ≡ true → Split cs ts → length ts ≡ length slots
 as_many [] [] ok no_chunk = refl
-as_many [] (slot ∷ slots) ok sp = absurd (let q : false ≡ true = ok in cc)
+as_many [] (slot ∷ slots) ok sp = never ok
 as_many (word e ∷ cs) slots ok (a_chunk {ts = ts} us owns rest) = ap (λ vs. length (vs ++ ts)) owns ∙ as_many cs slots ok rest
-as_many (tree y ∷ cs) [] ok sp = absurd (let q : false ≡ true = ok in cc)
-as_many (built level ∷ cs) [] ok sp = absurd (let q : false ≡ true = ok in cc)
+as_many (tree y ∷ cs) [] ok sp = never ok
+as_many (built level ∷ cs) [] ok sp = never ok
 as_many (tree y ∷ cs) (slot ∷ slots) ok (a_chunk {ts = ts} us owns rest) =
     let b = and_parts (is_one (tree y)) (one_each cs slots) ok in one_more (tree y) us ts slots b.0 owns (as_many cs slots b.1 rest)
 as_many (built level ∷ cs) (slot ∷ slots) ok (a_chunk {ts = ts} us owns rest) =
@@ -201,22 +186,18 @@ Wraps form es {ts = ts} sp = (us : List Tree) × (u : Tree) × (ts ≡ us ++ u �
 last_wrapped : (form : Form) (c : Chunk) (u : Tree) → is_laid form (c ∷ []) ≡ true → (owns : Owns c (u ∷ [])) → Wraps form (node_chunk form ∷ []) (a_chunk (u ∷ []) owns no_chunk)
 last_wrapped form c u ok owns = let it = built_one form (c ∷ []) (u ∷ []) ok (a_chunk (u ∷ []) owns no_chunk) in ([], u, refl, it.0, it.1)
 
-if_some : {A : Type 0} (c : Bool) (x y : A) → (if c then Some x else None) ≡ Some y → (c ≡ true) × (x ≡ y)
-if_some true x y e = (refl, some_is e)
-if_some false x y e = absurd (let q : None ≡ Some _ = e in cc)
-
 before_some : (c : Chunk) (o : Option (List Chunk)) (es : List Chunk) → put_before c o ≡ Some es → (ds : List Chunk) × (o ≡ Some ds) × (c ∷ ds ≡ es)
-before_some c None es e = absurd (let q : None ≡ Some _ = e in cc)
-before_some c (Some ds) es e = (ds, refl, some_is e)
+before_some c None es e = not_some e
+before_some c (Some ds) es e = (ds, refl, some_equal e)
 
 wrapped_split : (form : Form) (cs es : List Chunk) {ts : List Tree} → wrapped_last form cs ≡ Some es → (sp : Split cs ts) → Wraps form es sp
-wrapped_split form [] es e sp = absurd (let q : None ≡ Some _ = e in cc)
+wrapped_split form [] es e sp = not_some e
 wrapped_split form (c ∷ []) es e (a_chunk us owns no_chunk) =
-    let i = if_some (is_one c && is_laid form (c ∷ [])) (node_chunk form ∷ []) es e in let b = and_parts (is_one c) (is_laid form (c ∷ [])) i.0 in
+    let i = if_some (is_one c && is_laid form (c ∷ [])) (Some (node_chunk form ∷ [])) es e in let b = and_parts (is_one c) (is_laid form (c ∷ [])) i.0 in
     let t = one_tree c us b.0 owns in
     let make : (vs : List Tree) → vs ≡ t.0 ∷ [] → (o : Owns c vs) → Wraps form (node_chunk form ∷ []) (a_chunk vs o no_chunk) =
     λ vs is. subst (λ xs. (o : Owns c xs) → Wraps form (node_chunk form ∷ []) (a_chunk xs o no_chunk)) (sym is) (λ o. last_wrapped form c t.0 b.1 o) in
-    subst (λ ds. Wraps form ds (a_chunk us owns no_chunk)) i.1 (make us t.1 owns)
+    subst (λ ds. Wraps form ds (a_chunk us owns no_chunk)) (some_equal i.1) (make us t.1 owns)
 wrapped_split form (c ∷ d ∷ cs) es e (a_chunk {ts = ts} us owns rest) =
     let o = before_some c (wrapped_last form (d ∷ cs)) es e in
     let more = wrapped_split form (d ∷ cs) o.0 o.1 rest in
@@ -249,10 +230,6 @@ wrapped_here g form cs es σ {s = s} {t = t} x ok e (above ts p rest below sp is
       ),
     )
 
-not_true : {x : Bool} → not x ≡ true → x ≡ false
-not_true {x = true} e = cc
-not_true {x = false} e = refl
-
 if_stays : (c : Bool) (σ τ : State) → (if c then stays σ else stuck) ≡ stays τ → (c ≡ true) × (σ ≡ τ)
 if_stays true σ τ e = (refl, cc)
 if_stays false σ τ e = absurd (let q : stuck ≡ stays _ = e in cc)
@@ -280,7 +257,7 @@ always_stays : (form : Form) (σ : State) {b s t : Pile} → is_new form ≡ fal
 always_stays form σ old none_laid e g =
     let lone = single form old in
     let (now, same, copies) = grown lone.0 g in
-    subst (λ t. Stays (takes (always form)) (add (node_chunk form) σ) g t) (some_is e)
+    subst (λ t. Stays (takes (always form)) (add (node_chunk form) σ) g t) (some_equal e)
     (now, λ last. same last ∙ no_more (said g) (wrote lone.0) (λ l. lone.1 l ∙ ap (λ ps. laid form ps [] l) none_laid) last, λ c z x copy. (made (node form nowhere none) ∷ z, refl, copies c z copy))
 
 -- what a kind takes that is expected as it stands
@@ -289,24 +266,24 @@ takes_itself e ok = all_taken (parser_takes e e) (and_parts (is_all (parser_take
   where
     all_taken : (t : Take) → is_all t ≡ true → t ≡ All
     all_taken All h = refl
-    all_taken First h = absurd (let q : false ≡ true = h in cc)
-    all_taken Nothing h = absurd (let q : false ≡ true = h in cc)
+    all_taken First h = never h
+    all_taken Nothing h = never h
 
 pub not_second : (e : ℕ) → is_itself e ≡ true → parser_takes e SECOND ≡ Nothing
 not_second e ok = none_taken (parser_takes e SECOND) (and_parts (is_all (parser_takes e e)) (not (is_taken (parser_takes e SECOND))) ok).1
   where
     none_taken : (t : Take) → not (is_taken t) ≡ true → t ≡ Nothing
     none_taken Nothing h = refl
-    none_taken First h = absurd (let q : false ≡ true = h in cc)
-    none_taken All h = absurd (let q : false ≡ true = h in cc)
+    none_taken First h = never h
+    none_taken All h = never h
 
 always_eats : (form : Form) (k : TokenKind) (n : ℕ) (σ : State) {b s t : Pile} → is_token k n && is_itself n && not (is_new form) ≡ true → layout form ≡ piece.Word k ∷ [] → Some (made (node form nowhere none) ∷ s) ≡ Some t → (g : Piled σ b s) → Eats (takes (always form)) n (add (node_chunk form) σ) g t
 always_eats form k n σ ok it_is e g =
     let a = and_parts (is_token k n && is_itself n) (not (is_new form)) ok in let c = and_parts (is_token k n) (is_itself n) a.0 in
     let number_is : number_of (terminal_of k) ≡ n = eqb-true (number_of (terminal_of k)) n (and_parts _ (number_of (terminal_of k) == n) c.0).1 in
-    let lone = single form (not_true a.1) in
+    let lone = single form (not-true _ a.1) in
     let (now, same, copies) = grown lone.0 g in
-    subst (λ t. Eats (takes (always form)) n (add (node_chunk form) σ) g t) (some_is e) (
+    subst (λ t. Eats (takes (always form)) n (add (node_chunk form) σ) g t) (some_equal e) (
       now,
       fixed k,
       λ last. same last ∙ chain_same (said g) (wrote lone.0) (λ l. fixed k ∷ []) (λ l. lone.1 l ∙ ap (λ ps. laid form ps [] l) it_is) last,
@@ -319,14 +296,14 @@ abbrev Plainly : Leaf → Form → Type 0
 Plainly l form = (leaf_chunk l ≡ node_chunk form) × (layout form ≡ piece.Own ∷ []) × (is_new form ≡ false)
 
 leaf_facts : (l : Leaf) (form : Form) (k : TokenKind) (w : Word) → is_always l ≡ false → LeafPlain l → form_told l k w ≡ Some form → Plainly l form
-leaf_facts (by_name its) form k (name x) other plain e = subst (λ f. Plainly (by_name its) f) (some_is e) (plain x)
-leaf_facts (by_string its) form k (text x) other plain e = subst (λ f. Plainly (by_string its) f) (some_is e) (plain x)
-leaf_facts (by_bytes its) form k (bytes x) other plain e = subst (λ f. Plainly (by_bytes its) f) (some_is e) (plain x)
-leaf_facts (by_regex its) form k (regex x) other plain e = subst (λ f. Plainly (by_regex its) f) (some_is e) (plain x)
-leaf_facts (by_number its) form k (numeral n) other plain e = subst (λ f. Plainly (by_number its) f) (some_is e) (plain n)
+leaf_facts (by_name its) form k (name x) other plain e = subst (λ f. Plainly (by_name its) f) (some_equal e) (plain x)
+leaf_facts (by_string its) form k (text x) other plain e = subst (λ f. Plainly (by_string its) f) (some_equal e) (plain x)
+leaf_facts (by_bytes its) form k (bytes x) other plain e = subst (λ f. Plainly (by_bytes its) f) (some_equal e) (plain x)
+leaf_facts (by_regex its) form k (regex x) other plain e = subst (λ f. Plainly (by_regex its) f) (some_equal e) (plain x)
+leaf_facts (by_number its) form k (numeral n) other plain e = subst (λ f. Plainly (by_number its) f) (some_equal e) (plain n)
 leaf_facts (by_integer its) form k w other plain e =
     let m = mapped its (integer_of k) form e in subst (λ f. Plainly (by_integer its) f) m.2 (plain m.0)
-leaf_facts (by_event its) form (token.Hook h) w other plain e = subst (λ f. Plainly (by_event its) f) (some_is e) (plain (hook_name_of h))
+leaf_facts (by_event its) form (token.Hook h) w other plain e = subst (λ f. Plainly (by_event its) f) (some_equal e) (plain (hook_name_of h))
 leaf_facts (always its) form k w other plain e = absurd cc
 leaf_facts l form k w other plain e = absurd cc
 
@@ -348,8 +325,8 @@ leaf_eats l n σ {s = s} x other plain says ok passed e g =
     subst (λ t. Eats (takes l) n (add (leaf_chunk l) σ) g t) (sym f.2) (subst (λ c. Eats (takes l) n (add c σ) g (made (node f.0 nowhere none) ∷ s)) (sym facts.0) all)
   where
     formed : (o : Option Form) (s : Pile) {t : Pile} → put_if o s ≡ Some t → (form : Form) × (o ≡ Some form) × (t ≡ made (node form nowhere none) ∷ s)
-    formed None s e = absurd (let q : None ≡ Some _ = e in cc)
-    formed (Some form) s e = (form, refl, sym (some_is e))
+    formed None s e = not_some e
+    formed (Some form) s e = (form, refl, sym (some_equal e))
 
 always_moves : (form : Form) (ps : List Piece) (coming : Option ℕ) (σ τ : State) {b s t : Pile} → layout form ≡ ps → always_moved form ps coming σ ≡ stays τ → Some (made (node form nowhere none) ∷ s) ≡ Some t → (g : Piled σ b s) → Stays (takes (always form)) τ g t
 always_moves form [] coming σ τ {t = t} laid_so ok e g =

@@ -18,6 +18,7 @@ use Rattle.sp_round_trip.proofs.Converted.{ReadsModule}
 use Rattle.sp_round_trip.proofs.Again.{test_again}
 use Rattle.sp_round_trip.proofs.Alternatives.{alternatives, is_among, claimed_among}
 use Rattle.sp_grammar.proofs.Spans.{below, below_all}
+use Rattle.sp_build.proofs.Told.{never}
 
 abbrev is_other : Manner → Bool
 is_other other = true
@@ -41,12 +42,12 @@ shown_all = refl
 
 nothing_claimed : (m : Manner) (n : ℕ) (w u : List Tok) (s t : Pile) → is_other m ≡ true → ClaimAs m n w s t u
 nothing_claimed other n w u s t ok = tt
-nothing_claimed (plain y) n w u s t ok = absurd (let q : false ≡ true = ok in cc)
-nothing_claimed (expression level) n w u s t ok = absurd (let q : false ≡ true = ok in cc)
-nothing_claimed in_lines n w u s t ok = absurd (let q : false ≡ true = ok in cc)
-nothing_claimed path_rest n w u s t ok = absurd (let q : false ≡ true = ok in cc)
-nothing_claimed if_rest n w u s t ok = absurd (let q : false ≡ true = ok in cc)
-nothing_claimed new_rest n w u s t ok = absurd (let q : false ≡ true = ok in cc)
+nothing_claimed (plain y) n w u s t ok = never ok
+nothing_claimed (expression level) n w u s t ok = never ok
+nothing_claimed in_lines n w u s t ok = never ok
+nothing_claimed path_rest n w u s t ok = never ok
+nothing_claimed if_rest n w u s t ok = never ok
+nothing_claimed new_rest n w u s t ok = never ok
 
 -- each production has its claim
 produced : (n p : ℕ) (w u : List Tok) (s t : Pile) → Applies own n p (map number w) → Trace (right own n p) w s u t → Claim n w s t u

@@ -27,13 +27,15 @@ use Rattle.sp_build.specs.declared.groups.Group.{Group}
 use Rattle.sp_build.specs.declared.groups.Slot.{Slot}
 use Rattle.sp_round_trip.specs.Bare.{nowhere}
 use Rattle.sp_round_trip.specs.Told.{Telling}
-use Rattle.sp_round_trip.proofs.Leaves.{some_is, mapped, event_told}
+use Rattle.sp_round_trip.proofs.Leaves.{mapped, event_told}
 use Rattle.sp_round_trip.proofs.Closing.{gathered_all, closed_all, wrapped}
 use Rattle.sp_build.specs.Groups.{is_node}
 use Rattle.sp_build.specs.Rules.{Leaf, by_name, by_number, by_event, rule, gathers, closes, closes_integer, closes_attribute, wraps, takes as takes_leaf}
 use Rattle.sp_round_trip.proofs.Held.{Pile, started, made, put_if, closed, does}
 use Rattle.sp_round_trip.proofs.Goes.{Tok, entire, half, tells, number, next, coming, pushed, Goes, nothing, whole, first_half, mark, part}
 use Rattle.sp_round_trip.proofs.Shown.{Claim, ClaimAs, Yield, Fits, Shows, IsOneNode, MayFollow, Avoids, avoided, is_kept, plain, one, manner_of, Trace, ended, token_passed, half_passed, mark_passed, part_passed}
+use Rattle.sp_build.proofs.Standing.{not_some, some_equal}
+use Rattle.sp_build.proofs.Told.{never}
 
 never_first : (b : Bool) → cond b All Nothing ≡ First → ⊥
 never_first true h = absurd cc
@@ -80,12 +82,12 @@ passes_one n level is trace = let (u, ts, fits, shows, rest) = passes_trees n (o
 -- the beginning of a tree
 pub passes_begin : {ss : List Symbol} {w v : List Tok} {s u : Pile} → Trace (symbol.Mark 0 ∷ ss) w s v u → Trace ss w (started (next w) ∷ s) v u
 passes_begin {ss = ss} {w = w} {v = v} {s = s} {u = u} trace =
-    let (t, done, rest) = passes_mark 0 build.Begin refl trace in subst (λ p. Trace ss w p v u) (some_is (sym done)) rest
+    let (t, done, rest) = passes_mark 0 build.Begin refl trace in subst (λ p. Trace ss w p v u) (some_equal (sym done)) rest
 
 -- a part that is left out
 pub passes_absent : {ss : List Symbol} {w v : List Tok} {s u : Pile} → Trace (symbol.Mark 16 ∷ ss) w s v u → Trace ss w (made absent ∷ s) v u
 passes_absent {ss = ss} {w = w} {v = v} {s = s} {u = u} trace =
-    let (t, done, rest) = passes_mark 16 build.Absent refl trace in subst (λ p. Trace ss w p v u) (some_is (sym done)) rest
+    let (t, done, rest) = passes_mark 16 build.Absent refl trace in subst (λ p. Trace ss w p v u) (some_equal (sym done)) rest
 
 -- trees that make a row wherever they stand behind a beginning
 abbrev pub Gather : List Tree → Type 0
@@ -98,19 +100,19 @@ passes_row us p {ss = ss} {w = w} {v = v} {s = s} {u = u} trace =
     (gather, subst (λ x. Trace ss w x v u) is rest)
 
 was_put : (o : Option Form) (s t : Pile) → put_if o s ≡ Some t → (form : Form) × (o ≡ Some form) × (t ≡ made (tree form nowhere []) ∷ s)
-was_put None s t h = absurd (let q : None ≡ Some t = h in cc)
-was_put (Some form) s t h = (form, refl, sym (some_is h))
+was_put None s t h = not_some h
+was_put (Some form) s t h = (form, refl, sym (some_equal h))
 
 whole_word : (e : ℕ) (x : Tok) → takes e SECOND ≡ Nothing → takes e (number x) ≡ All → (y : Word) × (x ≡ entire y)
 whole_word e (entire y) second taken = (y, refl)
 whole_word e (half y) second taken = absurd (let q : Nothing ≡ All = sym second ∙ taken in cc)
 
 name_told : (k : TokenKind) (x : Word) (form : Form) → form_told (by_name (λ y. form_is.Name y)) k x ≡ Some form → (y : List ℕ) × (x ≡ name y) × (form ≡ form_is.Name y)
-name_told k (name y) form h = (y, refl, sym (some_is h))
+name_told k (name y) form h = (y, refl, sym (some_equal h))
 name_told k x form h = absurd cc
 
 number_told : (k : TokenKind) (x : Word) (form : Form) → form_told (by_number (λ n. form_is.Number n)) k x ≡ Some form → (n : ℕ) × (form ≡ form_is.Number n)
-number_told k (numeral n) form h = (n, sym (some_is h))
+number_told k (numeral n) form h = (n, sym (some_equal h))
 number_told k x form h = absurd cc
 
 -- a tree of one token, by the word that told it
@@ -157,7 +159,7 @@ passes_closes n m slots form us p {ss = ss} {w = w} {v = v} {s = s} {u = u} is d
     let (t, done, rest) = passes_mark n m is trace in
     let closed_so : closed slots (λ x. Some form) (pushed us (started p ∷ s)) ≡ Some t = subst (λ r. does r (next w) (pushed us (started p ∷ s)) ≡ Some t) does_so done in
     let (its, told, pile, again) = closed_all slots (λ x. Some form) us p s t closed_so in
-    let same : its ≡ form = some_is (sym told) in
+    let same : its ≡ form = some_equal (sym told) in
     (λ x q c. again q c told ∙ ap (λ f. Some (made (tree f nowhere us) ∷ c)) same, subst (λ z. Trace ss w z v u) (pile ∙ ap (λ f. made (tree f nowhere us) ∷ s) same) rest)
 
 pub passes_none : {w v : List Tok} {s t : Pile} → Trace [] w s v t → (w ≡ v) × (s ≡ t)

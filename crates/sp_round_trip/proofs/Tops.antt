@@ -24,7 +24,7 @@ use Rattle.sp_build.specs.declared.groups.Sort.TheVariants.{One as one, Rows as 
 use Rattle.sp_build.specs.declared.groups.Slot.TheVariants.{Part as part, Several as several}
 use Rattle.sp_build.specs.Groups.{is_of}
 use Rattle.sp_build.specs.Rules.{by_name, rule}
-use Rattle.sp_build.proofs.Standing.{some_equal, not_some}
+use Rattle.sp_build.proofs.Standing.{some_equal, not_some, if_some}
 use Rattle.sp_print.specs.Words.{Word, name}
 use Rattle.sp_printed_words.specs.Sound.{read_as}
 use Rattle.sp_printed_words.specs.Formed.{is_name, IsId, AreIds, first, IsFormedModule}
@@ -33,7 +33,8 @@ use Rattle.sp_round_trip.specs.Told.{Telling}
 use Rattle.sp_round_trip.proofs.Held.{started, made, Pile, After, after, after_do, top, front, start, filled, put, put_if, does, form_told}
 use Rattle.sp_round_trip.proofs.Goes.{Tok, entire, half, number, next, tells, Goes, nothing, whole, first_half, mark}
 use Rattle.sp_round_trip.proofs.Goes.{part as read_part}
-use Rattle.sp_round_trip.proofs.Formed.{both, Nearly, Good, On, OnSome, OnAfter, AllOf, Fill, Fitting, name_is, top_on, front_on, start_on, then_on, then_after, free_of, formed_of, free_parts, formed_parts, mark_suits, RuleSuits, does_on}
+use Rattle.sp_round_trip.proofs.Formed.{Nearly, Good, On, OnSome, OnAfter, AllOf, Fill, Fitting, name_is, top_on, front_on, start_on, then_on, then_after, free_of, formed_of, free_parts, formed_parts, mark_suits, RuleSuits, does_on}
+use Rattle.std.proofs.lemmas.Bool.{and_parts}
 
 -- What stands on top of the pile: anything, a name that is an ID, a name of which the token comes next, a name that may be
 -- `skip`, or a module. All else on the pile is formed, and its names are IDs.
@@ -264,13 +265,13 @@ own_keeps = refl
 
 kept : (st st' : State) (ps : List Production) (p : ℕ) → keep st st' ps ≡ true → p < length ps → ends_in (run st (at_production ps p).symbols) st' ≡ true
 kept st st' [] p e below = absurd (omega arith)
-kept st st' (q ∷ ps) zero e below = (both (ends_in (run st q.symbols) st') (keep st st' ps) e).0
-kept st st' (q ∷ ps) (suc p) e below = kept st st' ps p (both (ends_in (run st q.symbols) st') (keep st st' ps) e).1 (omega arith)
+kept st st' (q ∷ ps) zero e below = (and_parts (ends_in (run st q.symbols) st') (keep st st' ps) e).0
+kept st st' (q ∷ ps) (suc p) e below = kept st st' ps p (and_parts (ends_in (run st q.symbols) st') (keep st st' ps) e).1 (omega arith)
 
 all_kept : (front behind : ℕ → State) (pss : List (List Production)) (n p : ℕ) → all_keep front behind pss ≡ true → p < length (get_or pss n []) → ends_in (run (front n) (at_production (get_or pss n []) p).symbols) (behind n) ≡ true
 all_kept front behind [] n p e below = absurd (omega arith)
-all_kept front behind (ps ∷ pss) zero p e below = kept (front 0) (behind 0) ps p (both (keep (front 0) (behind 0) ps) (all_keep (λ n. front (suc n)) (λ n. behind (suc n)) pss) e).0 below
-all_kept front behind (ps ∷ pss) (suc n) p e below = all_kept (λ n. front (suc n)) (λ n. behind (suc n)) pss n p (both (keep (front 0) (behind 0) ps) (all_keep (λ n. front (suc n)) (λ n. behind (suc n)) pss) e).1 below
+all_kept front behind (ps ∷ pss) zero p e below = kept (front 0) (behind 0) ps p (and_parts (keep (front 0) (behind 0) ps) (all_keep (λ n. front (suc n)) (λ n. behind (suc n)) pss) e).0 below
+all_kept front behind (ps ∷ pss) (suc n) p e below = all_kept (λ n. front (suc n)) (λ n. behind (suc n)) pss n p (and_parts (keep (front 0) (behind 0) ps) (all_keep (λ n. front (suc n)) (λ n. behind (suc n)) pss) e).1 below
 
 next_some : (o : Option State) (go : State → Option State) (st : State) → next_state o go ≡ Some st → (x : State) × (o ≡ Some x) × (go x ≡ Some st)
 next_some None go st e = not_some e
@@ -279,10 +280,6 @@ next_some (Some x) go st e = (x, refl, e)
 ended : (o : Option State) (st : State) → ends_in o st ≡ true → (x : State) × (o ≡ Some x) × (covers x st ≡ true)
 ended None st e = cc
 ended (Some x) st e = (x, refl, e)
-
-if_covered : (b : Bool) (o : Option State) (st : State) → (if b then o else None) ≡ Some st → (b ≡ true) × (o ≡ Some st)
-if_covered true o st e = (refl, e)
-if_covered false o st e = not_some e
 
 named_loose : (s : Pile) → On s → HasName s → IsLoose s
 named_loose (made t ∷ s) on has = (on.0.0, on.1)
@@ -348,7 +345,7 @@ goes_on st st' e is (mark {n = n} {ss = ss} {w = w} {s = s} {t = t} m there d re
     goes_on h.0 st' h.2 (mark_means m st h.0 w s t g is d) rest
 goes_on st st' e is (read_part {n = n} {ss = ss} {w = w} {u = u} {s = s} {t = t} p applies inner rest) =
     let h = next_some (if covers st (before_part n) then Some (after_part n) else None) (λ after. run after ss) st' e in
-    let g = if_covered (covers st (before_part n)) (Some (after_part n)) h.0 h.1 in
+    let g = if_some (covers st (before_part n)) (Some (after_part n)) h.0 h.1 in
     let k = ended (run (before_part n) (right own n p)) (after_part n) (all_kept before_part after_part own.productions n p own_keeps applies.below) in
     let left = cover_means k.0 (after_part n) u t k.2 (goes_on (before_part n) k.0 k.1 (cover_means st (before_part n) w s g.0 is) inner) in
     goes_on h.0 st' h.2 (subst (λ x. Means x u t) (some_equal g.1) left) rest

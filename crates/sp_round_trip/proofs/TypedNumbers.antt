@@ -3,7 +3,7 @@ use Rattle.std.specs.Prelude.{option_map}
 use Rattle.std.proofs.Common.{◌≡◌, ℕ, List, [], ◌∷◌, Option, Some, None, refl, sym, ◌∙◌, ap, subst, arith}
 use Rattle.sp_parser.specs.declared.symbol.Symbol.{Symbol}
 use Rattle.sp_parser.specs.declared.symbol.Symbol.TheVariants as symbol
-use Rattle.sp_parser.specs.Grammar.{right, takes, All}
+use Rattle.sp_parser.specs.Grammar.{right}
 use Rattle.sp_lex.specs.declared.kinds.TokenKind.{TokenKind}
 use Rattle.sp_lex.specs.declared.kinds.TokenKind.TheVariants as kind
 use Rattle.sp_grammar.specs.declared.marks.Mark.TheVariants as build
@@ -13,7 +13,6 @@ use Rattle.sp_grammar.specs.Terminals.{terminal_number}
 use Rattle.sp_grammar.specs.Written.{Part, part_number}
 use Rattle.sp_grammar.specs.Own.{own}
 use Rattle.sp_ast.specs.declared.words.IntWord.{IntWord}
-use Rattle.sp_ast.specs.declared.words.IntWord.TheVariants as integer
 use Rattle.sp_ast.specs.declared.forms.Form.{Form}
 use Rattle.sp_ast.specs.declared.forms.Form.TheVariants as form_is
 use Rattle.sp_ast.specs.declared.forms.ExprForm.TheVariants as expr_is
@@ -29,33 +28,14 @@ use Rattle.sp_print.specs.Words.{Word, fixed, number}
 use Rattle.sp_round_trip.specs.Bare.{nowhere}
 use Rattle.sp_round_trip.specs.Told.{Telling}
 use Rattle.sp_round_trip.proofs.Held.{Pile, started, made, does, form_told, put_if}
-use Rattle.sp_round_trip.proofs.Goes.{Tok, entire, telling_of, next, nothing, whole, mark}
-use Rattle.sp_round_trip.proofs.Goes.{number as kind_number}
+use Rattle.sp_round_trip.proofs.Goes.{Tok, telling_of, next, nothing, whole, mark}
 use Rattle.sp_round_trip.proofs.Closing.{closed_all}
 use Rattle.sp_round_trip.proofs.Shown.{Claim, Spells, Trace}
 use Rattle.sp_round_trip.proofs.Levels.{taken, primary_at}
 use Rattle.sp_round_trip.proofs.Traces.{mark_does, mark_first, token_first, at_end}
-
--- the word of an integer type is read as one, and tells the type
-integer_read : (w : IntWord) → takes (terminal_number token.IntWord) (kind_number (entire (fixed (kind.Keyword (integer_keyword w))))) ≡ All
-integer_read integer.Uint8 = refl
-integer_read integer.Uint16 = refl
-integer_read integer.Uint32 = refl
-integer_read integer.Uint64 = refl
-integer_read integer.Int8 = refl
-integer_read integer.Int16 = refl
-integer_read integer.Int32 = refl
-integer_read integer.Int64 = refl
-
-integer_told : (w : IntWord) → integer_of (kind.Keyword (integer_keyword w)) ≡ Some w
-integer_told integer.Uint8 = refl
-integer_told integer.Uint16 = refl
-integer_told integer.Uint32 = refl
-integer_told integer.Uint64 = refl
-integer_told integer.Int8 = refl
-integer_told integer.Int16 = refl
-integer_told integer.Int32 = refl
-integer_told integer.Int64 = refl
+use Rattle.sp_build.proofs.Standing.{not_some}
+use Rattle.sp_round_trip.proofs.IntegerBases.{integer_taken}
+use Rattle.sp_round_trip.proofs.Leaves.{integer_again}
 
 abbrev numeral : ℕ → Tree
 numeral n = tree (form_is.Number n) nowhere []
@@ -63,14 +43,14 @@ numeral n = tree (form_is.Number n) nowhere []
 -- the tree of a number is of a word that is one
 numeral_of : (told : TokenKind) (w : Word) (s t : Pile) → put_if (form_told (by_number (λ n. form_is.Number n)) told w) s ≡ Some t → (n : ℕ) × (t ≡ made (numeral n) ∷ s)
 numeral_of told (number n) s t h = (n, let q : Some (made (numeral n) ∷ s) ≡ Some t = h in cc)
-numeral_of told w s t h = absurd (let q : None ≡ Some t = h in cc)
+numeral_of told w s t h = not_some h
 
 abbrev typed : IntWord → Form
 typed w = form_is.Expr (expr_is.TypedNumber w)
 
 -- a type that is told
 type_of : (o : Option IntWord) (form : Form) → option_map typed o ≡ Some form → (w : IntWord) × (form ≡ typed w)
-type_of None form h = absurd (let q : None ≡ Some form = h in cc)
+type_of None form h = not_some h
 type_of (Some w) form h = (w, let q : Some (typed w) ≡ Some form = h in cc)
 
 abbrev one_number : List Slot
@@ -95,7 +75,7 @@ typed_spells w n closed = record {
   reads = λ last v s pass.
       let word : Word = fixed (kind.Keyword (integer_keyword w)) in
       primary_at 15 (omega arith) (omega arith)
-      (taken (part_number Part.Primary) 17 refl refl (mark build.Begin refl refl (whole (integer_read w) (whole refl (mark build.Number refl refl (whole refl (whole refl (mark build.TypedNumberExpr refl (closed (next v) (telling_of word) s (integer_told w)) nothing))))))));
+      (taken (part_number Part.Primary) 17 refl refl (mark build.Begin refl refl (whole (integer_taken w) (whole refl (mark build.Number refl refl (whole refl (whole refl (mark build.TypedNumberExpr refl (closed (next v) (telling_of word) s (integer_again w)) nothing))))))));
 }
 
 -- a number comes first
