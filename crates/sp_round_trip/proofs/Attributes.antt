@@ -26,7 +26,7 @@ use Rattle.sp_round_trip.proofs.Held.{Pile, started, made}
 use Rattle.sp_round_trip.proofs.Goes.{Tok, entire, telling_of, number, next, coming, before, pushed, Goes, nothing, whole, mark, part}
 use Rattle.sp_round_trip.proofs.Shown.{Claim, Trace, optional, listed, yielded, Shows, MayFollow}
 use Rattle.sp_round_trip.proofs.Leaves.{attribute_again}
-use Rattle.sp_round_trip.proofs.Steps.{CloseBy, passes_token, passes_begin, passes_trees, passes_attribute, passes_none, beside, reads_mark, reads_token, reads_nothing, anywhere, unavoided}
+use Rattle.sp_round_trip.proofs.Steps.{CloseBy, passes_token, passes_begin, passes_trees, passes_attribute, passes_none, beside, reads_mark, reads_token, reads_nothing, unavoided, chosen}
 use Rattle.sp_round_trip.proofs.Words.{before_both}
 use Rattle.sp_round_trip.proofs.FieldHooks.{nothing_between}
 
@@ -68,13 +68,13 @@ attributes_again a value us came k closes show_value more last v s may =
     let inner : Pile = started (telling_of (attribute_word a)) ∷ s in
     let reads_more = more behind v (made (attribute_of_value a value) ∷ s) may in
     let reads = beside (show_value kind (before rest v) inner (behind_value k came (before rest v) v may (attributes_begin reads_more))) (mark build.Attribute refl (closes (telling_of (attribute_word a)) s (attribute_again a)) (beside reads_more nothing)) in
-    part 0 (anywhere 41 0 (before (yielded (listed separator.Nothing) (attribute_of_value a value ∷ us) last) v) (omega arith) refl) (mark build.Begin refl refl (whole (attribute_taken a) (subst (λ z. Goes (symbol.Nonterminal 20 ∷ symbol.Mark 61 ∷ symbol.Nonterminal 41 ∷ []) z inner v (pushed us (made (attribute_of_value a value) ∷ s))) (sym words) reads))) nothing
+    chosen 41 0 (omega arith) refl (mark build.Begin refl refl (whole (attribute_taken a) (subst (λ z. Goes (symbol.Nonterminal 20 ∷ symbol.Mark 61 ∷ symbol.Nonterminal 41 ∷ []) z inner v (pushed us (made (attribute_of_value a value) ∷ s))) (sym words) reads)))
 
 attribute_with : (w u b : List Tok) (s t : Pile) (ts : List Tree) → (value : Tree) × (ts ≡ value ∷ []) → Shows 20 (optional frame.Equal) ts (coming b)
     → Trace (symbol.Mark 61 ∷ symbol.Nonterminal 41 ∷ []) b (pushed ts (started (next w) ∷ s)) u t → Claim 41 w s t u
 attribute_with w u b s t ts (value, one) shows trace =
     let marked = subst (λ z. Trace (symbol.Mark 61 ∷ symbol.Nonterminal 41 ∷ []) b (pushed z (started (next w) ∷ s)) u t) one trace in
-    let (a, closes, rest) = passes_attribute 61 build.Attribute value_slot (λ name. form_is.Attribute name) (value ∷ []) (next w) refl refl marked in
+    let (a, closes, rest) = passes_attribute build.Attribute value_slot (λ name. form_is.Attribute name) (value ∷ []) (next w) refl refl marked in
     let (d, us, fits, more, ends) = passes_trees 41 (listed separator.Nothing) refl rest in
     let (same, pile) = passes_none ends in
     (attribute_of_value a value ∷ us, sym pile, tt, attributes_again a value us (coming u) (coming b) closes (subst (λ z. Shows 20 (optional frame.Equal) z (coming b)) one shows) (subst (λ z. Shows 41 (listed separator.Nothing) us (coming z)) same more))
@@ -82,6 +82,6 @@ attribute_with w u b s t ts (value, one) shows trace =
 pub attributes_shown : (w u : List Tok) (s t : Pile) → Trace (right own 41 0) w s u t → Claim 41 w s t u
 unfolding own
 attributes_shown w u s t trace =
-    let (x, a, is, taken, value) = passes_token 49 refl (passes_begin trace) in
+    let (x, a, is, taken, value) = passes_token refl (passes_begin trace) in
     let (b, ts, fits, shows, marked) = passes_trees 20 (optional frame.Equal) refl value in
     attribute_with w u b s t ts fits shows marked

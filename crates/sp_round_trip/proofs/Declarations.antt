@@ -1,6 +1,6 @@
 -- Declarations, each a line, and the module of them.
 use Rattle.std.specs.Prelude.{nat_lt, ◌&&◌, ◌||◌, if◌then◌else◌}
-use Rattle.std.proofs.Common.{◌≡◌, ℕ, List, [], ◌∷◌, ◌++◌, Bool, true, false, None, refl, sym, ◌∙◌, arith, ap, subst, inl}
+use Rattle.std.proofs.Common.{◌≡◌, ℕ, List, [], ◌∷◌, Bool, true, false, None, refl, sym, ◌∙◌, arith, ap, subst, inl}
 use Rattle.sp_parser.specs.declared.symbol.Symbol.TheVariants as symbol
 use Rattle.sp_parser.specs.Grammar.{right, takes, All}
 use Rattle.sp_lex.specs.declared.kinds.TokenKind.TheVariants as token
@@ -24,9 +24,9 @@ use Rattle.sp_print.specs.Words.{fixed, name}
 use Rattle.sp_printed_words.specs.Modules.{lines_of, module_lines}
 use Rattle.sp_round_trip.specs.Bare.{nowhere}
 use Rattle.sp_round_trip.proofs.Held.{Pile, started, made}
-use Rattle.sp_round_trip.proofs.Goes.{Tok, entire, number, next, coming, before, pushed, Goes, nothing, whole, mark, part}
+use Rattle.sp_round_trip.proofs.Goes.{Tok, entire, number, next, coming, before, pushed, Goes, nothing, whole, mark}
 use Rattle.sp_round_trip.proofs.Shown.{Claim, Trace, one, flat, Shows}
-use Rattle.sp_round_trip.proofs.Steps.{Gather, Close, passes_token, passes_begin, passes_name, passes_part, passes_one, passes_row, passes_closes, passes_none, beside, anywhere}
+use Rattle.sp_round_trip.proofs.Steps.{Gather, Close, passes_token, passes_begin, passes_name, passes_part, passes_one, passes_row, passes_closes, passes_none, beside, chosen}
 use Rattle.sp_round_trip.proofs.HookPaths.{named}
 use Rattle.sp_round_trip.proofs.Words.{before_both}
 
@@ -65,18 +65,18 @@ declarations_again x ts k decl more v b =
     let rest = before (flat (lines_of (trees ts))) v in
     let words = before_both line (flat (lines_of (trees ts))) v ∙ ap (λ ws. before ws rest) (sym (line_words x)) in
     let reads = beside (decl None rest b (inl tt)) (beside (more v (made x ∷ b)) nothing) in
-    part 0 (anywhere 1 0 (before (line ++ flat (lines_of (trees ts))) v) (omega arith) refl) (subst (λ z. Goes (symbol.Nonterminal 2 ∷ symbol.Nonterminal 1 ∷ []) z b v (pushed (x ∷ ts) b)) (sym words) reads) nothing
+    chosen 1 0 (omega arith) refl (subst (λ z. Goes (symbol.Nonterminal 2 ∷ symbol.Nonterminal 1 ∷ []) z b v (pushed (x ∷ ts) b)) (sym words) reads)
 
 pub declarations_shown : (w u : List Tok) (s t : Pile) → Trace (right own 1 0) w s u t → Claim 1 w s t u
 unfolding own
 declarations_shown w u s t trace =
     let (a, x, whole_tree, shows, more) = passes_one 2 1 refl trace in
-    let (b, t', (ts, pile, reads), ends) = passes_part 1 more in
+    let (b, t', (ts, pile, reads), ends) = passes_part more in
     (x ∷ ts, sym (passes_none ends).1 ∙ pile, declarations_again x ts (coming a) shows reads)
 
 pub no_declarations_shown : (w u : List Tok) (s t : Pile) → Trace (right own 1 1) w s u t → Claim 1 w s t u
 unfolding own
-no_declarations_shown w u s t trace = ([], sym (passes_none trace).1, λ v b. part 1 (anywhere 1 1 v (omega arith) refl) nothing nothing)
+no_declarations_shown w u s t trace = ([], sym (passes_none trace).1, λ v b. chosen 1 1 (omega arith) refl nothing)
 
 abbrev module_slots : List Slot
 module_slots = slot (one_of names) ∷ slot (rows_of declarations) ∷ []
@@ -93,18 +93,18 @@ module_again x ts is_name gather closes reads =
     let words = entire (fixed (token.Keyword keyword.Module)) ∷ entire (name x) ∷ entire (fixed (token.Mark sign.Semicolon)) ∷ rest in
     let outer : Pile = started (next words) ∷ [] in
     let inner : Pile = started (next rest) ∷ made (named x) ∷ outer in
-    part 0 (anywhere 0 0 words (omega arith) refl) (mark build.Begin refl refl (whole refl (mark build.Name refl refl (whole is_name (whole refl (mark build.Begin refl refl (beside (reads [] inner) (mark build.Row refl (gather (next []) (next rest) (made (named x) ∷ outer)) (mark build.ModuleDecl refl (closes (next []) (next words) []) nothing))))))))) nothing
+    chosen 0 0 (omega arith) refl (mark build.Begin refl refl (whole refl (mark build.Name refl refl (whole is_name (whole refl (mark build.Begin refl refl (beside (reads [] inner) (mark build.Row refl (gather (next []) (next rest) (made (named x) ∷ outer)) (mark build.ModuleDecl refl (closes (next []) (next words) []) nothing)))))))))
 
 -- a module is read from the words of its lines
 pub module_shown : (w u : List Tok) (m : Tree) → Trace (right own 0 0) w [] u (made m ∷ []) → Goes (symbol.Nonterminal 0 ∷ []) (before (flat (module_lines m)) []) [] [] (made m ∷ [])
 unfolding own
 module_shown w u m trace =
-    let (c, a, is, taken, name_mark) = passes_token 0 refl (passes_begin trace) in
+    let (c, a, is, taken, name_mark) = passes_token refl (passes_begin trace) in
     let (x, is_name, d, semicolon) = passes_name name_mark in
-    let (y, f, also, ended_so, begin) = passes_token 2 refl semicolon in
-    let (g, t', (ts, pile, reads), row_mark) = passes_part 1 (passes_begin begin) in
+    let (y, f, also, ended_so, begin) = passes_token refl semicolon in
+    let (g, t', (ts, pile, reads), row_mark) = passes_part (passes_begin begin) in
     let (gather, module_mark) = passes_row ts (next f) (subst (λ z. Trace (symbol.Mark 2 ∷ symbol.Mark 3 ∷ []) g z u (made m ∷ [])) pile row_mark) in
-    let (closes, ends) = passes_closes 3 build.ModuleDecl module_slots form_is.Module (named x ∷ row (trees ts) ∷ []) (next w) refl refl module_mark in
+    let (closes, ends) = passes_closes build.ModuleDecl module_slots form_is.Module (named x ∷ row (trees ts) ∷ []) (next w) refl refl module_mark in
     let left = (passes_none ends).1 in
     let same : module_of x ts ≡ m = cc in
     subst (λ z. Goes (symbol.Nonterminal 0 ∷ []) (before (flat (module_lines z)) []) [] [] (made z ∷ [])) same (module_again x ts is_name gather closes reads)

@@ -30,7 +30,7 @@ use Rattle.sp_round_trip.specs.Told.{Telling}
 use Rattle.sp_round_trip.proofs.Held.{Pile, started, made}
 use Rattle.sp_round_trip.proofs.Goes.{Tok, entire, number, next, coming, before, pushed, Goes, nothing, whole, mark, part}
 use Rattle.sp_round_trip.proofs.Shown.{Claim, OptElseClaim, Trace, one, yielded, Shows, MayFollow}
-use Rattle.sp_round_trip.proofs.Steps.{Gather, Close, is_token, passes_token, passes_absent, passes_part, passes_one, passes_row, passes_closes, passes_none, beside, anywhere}
+use Rattle.sp_round_trip.proofs.Steps.{Gather, Close, is_token, passes_token, passes_absent, passes_part, passes_one, passes_row, passes_closes, passes_none, beside, chosen}
 use Rattle.sp_round_trip.proofs.Closing.{pushed_append}
 use Rattle.sp_round_trip.proofs.Words.{before_both}
 use Rattle.sp_round_trip.proofs.Piles.{last_both}
@@ -89,15 +89,15 @@ branch_again bs cs e x came behind before_rest branch rest last v p q c may =
     let at_branches = subst (λ z. Goes (symbol.Nonterminal 56 ∷ []) words z v (made (if_tree (bs ++ x ∷ [] ++ cs) e) ∷ c)) (pushed_append bs (x ∷ []) (started p ∷ started q ∷ c)) (rest after v p q c may) in
     let behind_it = subst (λ zs. Goes (symbol.Nonterminal 56 ∷ []) words (made x ∷ pushed bs (started p ∷ started q ∷ c)) v (made (if_tree zs e) ∷ c)) (append_assoc bs (x ∷ []) cs) at_branches in
     let reads = beside (branch if_kind words (pushed bs (started p ∷ started q ∷ c)) (behind_branch cs e after came behind v before_rest may)) (beside behind_it nothing) in
-    part 0 (anywhere 56 0 (before (rest_words (x ∷ cs) e last) v) (omega arith) refl) (whole refl (whole refl (subst (λ z. Goes (symbol.Nonterminal 55 ∷ symbol.Nonterminal 56 ∷ []) z (pushed bs (started p ∷ started q ∷ c)) v (made (if_tree (bs ++ x ∷ cs) e) ∷ c)) (sym (branch_then x cs e if_kind v)) reads))) nothing
+    chosen 56 0 (omega arith) refl (whole refl (whole refl (subst (λ z. Goes (symbol.Nonterminal 55 ∷ symbol.Nonterminal 56 ∷ []) z (pushed bs (started p ∷ started q ∷ c)) v (made (if_tree (bs ++ x ∷ cs) e) ∷ c)) (sym (branch_then x cs e if_kind v)) reads)))
 
 pub else_if_shown : (w u : List Tok) (s t : Pile) → Trace (right own 56 0) w s u t → Claim 56 w s t u
 unfolding own
 else_if_shown w u s t trace bs p q b same =
-    let (x, a, is, taken, if_word) = passes_token 53 refl trace in
-    let (y, d, also, if_taken, branch) = passes_token 50 refl if_word in
+    let (x, a, is, taken, if_word) = passes_token refl trace in
+    let (y, d, also, if_taken, branch) = passes_token refl if_word in
     let (f, z, whole_tree, shows, more) = passes_one 55 1 refl branch in
-    let (g, t', claim, ends) = passes_part 56 more in
+    let (g, t', claim, ends) = passes_part more in
     let (none_left, pile) = passes_none ends in
     let (cs, e, built, came, reads) = subst (λ l. OptElseClaim f (made z ∷ s) t' l) none_left claim (bs ++ z ∷ []) p q b (ap (λ r. made z ∷ r) same ∙ sym (pushed_append bs (z ∷ []) (started p ∷ started q ∷ b))) in
     (z ∷ cs, e, sym pile ∙ built ∙ ap (λ zs. made (if_tree zs e) ∷ b) (append_assoc bs (z ∷ []) cs), inl (ap coming is ∙ is_token 53 x refl taken), branch_again bs cs e z (coming f) (coming u) came shows reads)
@@ -117,15 +117,15 @@ else_again bs e came behind is_one same gather statement closes last v p q c may
     let under : Pile = made (row (trees bs)) ∷ started q ∷ c in
     let reads = whole refl (mark build.Row refl (gather (next (before body v)) p (started q ∷ c)) (beside (statement else_kind v under (subst (λ k. MayFollow 58 k v) (sym same) may)) (mark build.IfStmt refl (closes (next v) q c) nothing))) in
     let built = subst (λ zs. Goes (symbol.Terminal 53 ∷ symbol.Mark 2 ∷ symbol.Nonterminal 58 ∷ symbol.Mark 71 ∷ []) (entire (fixed (token.Keyword keyword.Else)) ∷ before body v) (pushed bs (started p ∷ started q ∷ c)) v (made (if_tree zs e) ∷ c)) (sym (append-nil bs)) reads in
-    part 1 (anywhere 56 1 (before (rest_words [] e last) v) (omega arith) refl) (subst (λ z. Goes (symbol.Terminal 53 ∷ symbol.Mark 2 ∷ symbol.Nonterminal 58 ∷ symbol.Mark 71 ∷ []) z (pushed bs (started p ∷ started q ∷ c)) v (made (if_tree (bs ++ []) e) ∷ c)) (sym words) built) nothing
+    chosen 56 1 (omega arith) refl (subst (λ z. Goes (symbol.Terminal 53 ∷ symbol.Mark 2 ∷ symbol.Nonterminal 58 ∷ symbol.Mark 71 ∷ []) z (pushed bs (started p ∷ started q ∷ c)) v (made (if_tree (bs ++ []) e) ∷ c)) (sym words) built)
 
 pub else_shown : (w u : List Tok) (s t : Pile) → Trace (right own 56 1) w s u t → Claim 56 w s t u
 unfolding own
 else_shown w u s t trace bs p q b same =
-    let (x, a, is, taken, row_mark) = passes_token 53 refl (subst (λ z. Trace (right own 56 1) w z u t) same trace) in
+    let (x, a, is, taken, row_mark) = passes_token refl (subst (λ z. Trace (right own 56 1) w z u t) same trace) in
     let (gather, statement) = passes_row bs p row_mark in
     let (f, e, is_one, shows, if_mark) = passes_one 58 1 refl statement in
-    let (closes, ends) = passes_closes 71 build.IfStmt if_slots if_form (row (trees bs) ∷ e ∷ []) q refl refl if_mark in
+    let (closes, ends) = passes_closes build.IfStmt if_slots if_form (row (trees bs) ∷ e ∷ []) q refl refl if_mark in
     let (none_left, pile) = passes_none ends in
     ([], e, sym pile ∙ ap (λ zs. made (if_tree zs e) ∷ b) (sym (append-nil bs)), inl (ap coming is ∙ is_token 53 x refl taken), else_again bs e (coming f) (coming u) is_one (ap coming none_left) gather shows closes)
 
@@ -144,7 +144,7 @@ pub no_else_shown : (w u : List Tok) (s t : Pile) → Applies own 56 2 (map numb
 unfolding own
 no_else_shown w u s t applies trace bs p q b same =
     let (gather, absent_mark) = passes_row bs p (subst (λ z. Trace (right own 56 2) w z u t) same trace) in
-    let (closes, ends) = passes_closes 71 build.IfStmt if_slots if_form (row (trees bs) ∷ absent ∷ []) q refl refl (passes_absent absent_mark) in
+    let (closes, ends) = passes_closes build.IfStmt if_slots if_form (row (trees bs) ∷ absent ∷ []) q refl refl (passes_absent absent_mark) in
     let (none_left, pile) = passes_none ends in
     let none_came : bit_at (2 ^ 53) (coming u) ≡ 0 = ap (λ z. bit_at (2 ^ 53) (coming z)) (sym none_left) ∙ applies.allowed in
     ([], absent, sym pile ∙ ap (λ zs. made (if_tree zs absent) ∷ b) (sym (append-nil bs)), inr (refl, refl, ap coming none_left), no_else_again bs (coming u) none_came gather closes)

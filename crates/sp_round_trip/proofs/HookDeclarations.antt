@@ -21,9 +21,9 @@ use Rattle.sp_print.specs.declared.layouts.Separator.TheVariants as separator
 use Rattle.sp_print.specs.Words.{Word, fixed, name}
 use Rattle.sp_round_trip.specs.Bare.{nowhere}
 use Rattle.sp_round_trip.proofs.Held.{Pile, started, made}
-use Rattle.sp_round_trip.proofs.Goes.{Tok, entire, telling_of, number, next, coming, before, Goes, nothing, whole, mark, part}
+use Rattle.sp_round_trip.proofs.Goes.{Tok, entire, telling_of, number, next, coming, before, Goes, nothing, whole, mark}
 use Rattle.sp_round_trip.proofs.Shown.{Claim, Trace, one, yielded, Shows}
-use Rattle.sp_round_trip.proofs.Steps.{Close, passes_token, passes_begin, passes_name, passes_part, passes_one, passes_closes, passes_none, beside, anywhere}
+use Rattle.sp_round_trip.proofs.Steps.{Close, passes_token, passes_begin, passes_name, passes_part, passes_one, passes_closes, passes_none, beside, chosen}
 use Rattle.sp_round_trip.proofs.HookPaths.{named, path_of, Rest}
 use Rattle.sp_round_trip.proofs.Words.{before_both}
 
@@ -53,15 +53,15 @@ on_again x ys e hook came k is_name rest show_hook closes last v s may =
     let built : Pile = made (path_of (named x ∷ ys)) ∷ outer in
     let reads_hook = beside (show_hook (last_kind (last_kind (Some token.Id) names) event) v (made e ∷ built) (inl tt)) (mark build.OnDecl refl (closes (next v) (telling_of (fixed (token.Keyword keyword.On))) s) nothing) in
     let reads = subst (λ z. Goes (symbol.Nonterminal 4 ∷ symbol.Nonterminal 7 ∷ symbol.Mark 11 ∷ []) z (made (named x) ∷ inner) v (made (on_decl x ys e hook) ∷ s)) (sym words) (beside (rest (Some token.Id) (before body v) (telling_of (name x)) outer) reads_hook) in
-    part 9 (anywhere 2 9 (entire (fixed (token.Keyword keyword.On)) ∷ entire (name x) ∷ before (behind_name e hook (names ++ [])) v) (omega arith) refl) (mark build.Begin refl refl (whole refl (mark build.Begin refl refl (mark build.Name refl refl (whole is_name reads))))) nothing
+    chosen 2 9 (omega arith) refl (mark build.Begin refl refl (whole refl (mark build.Begin refl refl (mark build.Name refl refl (whole is_name reads)))))
 
 pub on_shown : (w u : List Tok) (s t : Pile) → Trace (right own 2 9) w s u t → Claim 2 w s t u
 unfolding own
 on_shown w u s t trace =
-    let (c, a, is, taken, begin) = passes_token 14 refl (passes_begin trace) in
+    let (c, a, is, taken, begin) = passes_token refl (passes_begin trace) in
     let (x, is_name, d, path) = passes_name (passes_begin begin) in
-    let (f, t', claim, at_hook) = passes_part 4 path in
+    let (f, t', claim, at_hook) = passes_part path in
     let (ys, e, pile, reads) = claim (named x ∷ []) (next a) (started (next w) ∷ s) refl in
     let (g, hook, node, show_hook, on_mark) = passes_one 7 1 refl (subst (λ z. Trace (symbol.Nonterminal 7 ∷ symbol.Mark 11 ∷ []) f z u t) pile at_hook) in
-    let (closes, ends) = passes_closes 11 build.OnDecl on_slots (form_is.Decl decl_is.On) (path_of (named x ∷ ys) ∷ e ∷ hook ∷ []) (next w) refl refl on_mark in
+    let (closes, ends) = passes_closes build.OnDecl on_slots (form_is.Decl decl_is.On) (path_of (named x ∷ ys) ∷ e ∷ hook ∷ []) (next w) refl refl on_mark in
     (on_decl x ys e hook ∷ [], sym (passes_none ends).1, (on_decl x ys e hook, refl, refl), on_again x ys e hook (coming u) (coming g) is_name reads show_hook closes)

@@ -24,10 +24,10 @@ use Rattle.sp_print.specs.Words.{fixed, name}
 use Rattle.sp_round_trip.specs.Bare.{nowhere}
 use Rattle.sp_round_trip.specs.Told.{Telling}
 use Rattle.sp_round_trip.proofs.Held.{Pile, started, made}
-use Rattle.sp_round_trip.proofs.Goes.{Tok, entire, telling_of, number, next, before, pushed, Goes, nothing, whole, mark, part}
+use Rattle.sp_round_trip.proofs.Goes.{Tok, entire, telling_of, number, next, before, pushed, Goes, nothing, whole, mark}
 use Rattle.sp_round_trip.proofs.Shown.{Claim, Trace}
 use Rattle.sp_round_trip.proofs.Leaves.{hook_is}
-use Rattle.sp_round_trip.proofs.Steps.{Close, passes_token, passes_absent, passes_name, passes_event, passes_part, passes_closes, passes_none, beside, anywhere}
+use Rattle.sp_round_trip.proofs.Steps.{Close, passes_token, passes_absent, passes_name, passes_event, passes_part, passes_closes, passes_none, beside, chosen}
 use Rattle.sp_round_trip.proofs.Closing.{pushed_append}
 
 abbrev pub named : List ℕ → Tree
@@ -49,14 +49,14 @@ name_again xs ys e x taken rest last v q c =
     let words = before (chain (written_followed separator.Scope (parts_of (trees ys))) (framed frame.Scope (part_of e)) (Some token.Id)) v in
     let at_names = subst (λ z. Goes (symbol.Nonterminal 4 ∷ []) words z v (made e ∷ made (path_of (xs ++ named x ∷ [] ++ ys)) ∷ c)) (pushed_append xs (named x ∷ []) (started q ∷ c)) (rest (Some token.Id) v q c) in
     let reads = subst (λ zs. Goes (symbol.Nonterminal 4 ∷ []) words (made (named x) ∷ pushed xs (started q ∷ c)) v (made e ∷ made (path_of zs) ∷ c)) (append_assoc xs (named x ∷ []) ys) at_names in
-    part 0 (anywhere 4 0 (entire (fixed (token.Mark sign.ColonColon)) ∷ entire (name x) ∷ words) (omega arith) refl) (whole refl (mark build.Name refl refl (whole taken (beside reads nothing)))) nothing
+    chosen 4 0 (omega arith) refl (whole refl (mark build.Name refl refl (whole taken (beside reads nothing))))
 
 pub more_path_shown : (w u : List Tok) (s t : Pile) → Trace (right own 4 0) w s u t → Claim 4 w s t u
 unfolding own
 more_path_shown w u s t trace xs p b same =
-    let (c, a, is, taken, name_mark) = passes_token 15 refl trace in
+    let (c, a, is, taken, name_mark) = passes_token refl trace in
     let (x, is_name, d, rest) = passes_name name_mark in
-    let (f, t', claim, ends) = passes_part 4 rest in
+    let (f, t', claim, ends) = passes_part rest in
     let (ys, e, pile, reads) = claim (xs ++ named x ∷ []) p b (ap (λ z. made (named x) ∷ z) same ∙ sym (pushed_append xs (named x ∷ []) (started p ∷ b))) in
     (named x ∷ ys, e, sym (passes_none ends).1 ∙ pile ∙ ap (λ zs. made e ∷ made (path_of zs) ∷ b) (append_assoc xs (named x ∷ []) ys), name_again xs ys e x is_name reads)
 
@@ -68,13 +68,13 @@ event_again xs h closes last v q c =
     let under : Pile = made (path_of xs) ∷ c in
     let whole_path = ap (λ zs. made event ∷ made (path_of zs) ∷ c) (sym (append-nil xs)) in
     let reads = whole refl (mark build.Path refl (closes (telling_of word) q c) (mark build.Event refl (ap (λ k. Some (made (tree (form_is.Event (hook_name_of k)) nowhere []) ∷ under)) (hook_is h)) (whole refl nothing))) in
-    part 1 (anywhere 4 1 (entire (fixed (token.Mark sign.ColonColon)) ∷ entire word ∷ v) (omega arith) refl) (subst (λ z. Goes (symbol.Terminal 15 ∷ symbol.Mark 15 ∷ symbol.Mark 17 ∷ symbol.Terminal 16 ∷ []) (entire (fixed (token.Mark sign.ColonColon)) ∷ entire word ∷ v) (pushed xs (started q ∷ c)) v z) whole_path reads) nothing
+    chosen 4 1 (omega arith) refl (subst (λ z. Goes (symbol.Terminal 15 ∷ symbol.Mark 15 ∷ symbol.Mark 17 ∷ symbol.Terminal 16 ∷ []) (entire (fixed (token.Mark sign.ColonColon)) ∷ entire word ∷ v) (pushed xs (started q ∷ c)) v z) whole_path reads)
 
 pub path_event_shown : (w u : List Tok) (s t : Pile) → Trace (right own 4 1) w s u t → Claim 4 w s t u
 unfolding own
 path_event_shown w u s t trace xs p b same =
-    let (c, a, is, taken, path_mark) = passes_token 15 refl (subst (λ z. Trace (right own 4 1) w z u t) same trace) in
-    let (closes, event_mark) = passes_closes 15 build.Path name_slots form_is.Path xs p refl refl path_mark in
+    let (c, a, is, taken, path_mark) = passes_token refl (subst (λ z. Trace (right own 4 1) w z u t) same trace) in
+    let (closes, event_mark) = passes_closes build.Path name_slots form_is.Path xs p refl refl path_mark in
     let (h, d, ends) = passes_event event_mark in
     ([], tree (form_is.Event (hook_name_of h)) nowhere [], sym (passes_none ends).1 ∙ ap (λ zs. made (tree (form_is.Event (hook_name_of h)) nowhere []) ∷ made (path_of zs) ∷ b) (sym (append-nil xs)), event_again xs h closes)
 
@@ -82,10 +82,10 @@ no_event_again : (xs : List Tree) → Close name_slots form_is.Path xs → Rest 
 unfolding own
 no_event_again xs closes last v q c =
     let reads = mark build.Path refl (closes (next v) q c) (mark build.Absent refl refl nothing) in
-    part 2 (anywhere 4 2 v (omega arith) refl) (subst (λ z. Goes (symbol.Mark 15 ∷ symbol.Mark 16 ∷ []) v (pushed xs (started q ∷ c)) v z) (ap (λ zs. made absent ∷ made (path_of zs) ∷ c) (sym (append-nil xs))) reads) nothing
+    chosen 4 2 (omega arith) refl (subst (λ z. Goes (symbol.Mark 15 ∷ symbol.Mark 16 ∷ []) v (pushed xs (started q ∷ c)) v z) (ap (λ zs. made absent ∷ made (path_of zs) ∷ c) (sym (append-nil xs))) reads)
 
 pub path_end_shown : (w u : List Tok) (s t : Pile) → Trace (right own 4 2) w s u t → Claim 4 w s t u
 unfolding own
 path_end_shown w u s t trace xs p b same =
-    let (closes, absent_mark) = passes_closes 15 build.Path name_slots form_is.Path xs p refl refl (subst (λ z. Trace (right own 4 2) w z u t) same trace) in
+    let (closes, absent_mark) = passes_closes build.Path name_slots form_is.Path xs p refl refl (subst (λ z. Trace (right own 4 2) w z u t) same trace) in
     ([], absent, sym (passes_none (passes_absent absent_mark)).1 ∙ ap (λ zs. made absent ∷ made (path_of zs) ∷ b) (sym (append-nil xs)), no_event_again xs closes)

@@ -14,9 +14,9 @@ use Rattle.sp_print.specs.declared.layouts.Frame.TheVariants as frame
 use Rattle.sp_print.specs.declared.layouts.Separator.TheVariants as separator
 use Rattle.sp_print.specs.Words.{fixed}
 use Rattle.sp_round_trip.proofs.Held.{Pile, started, made}
-use Rattle.sp_round_trip.proofs.Goes.{Tok, entire, next, coming, before, Goes, nothing, whole, mark, part}
+use Rattle.sp_round_trip.proofs.Goes.{Tok, entire, next, coming, before, Goes, nothing, whole, mark}
 use Rattle.sp_round_trip.proofs.Shown.{Claim, OptElseClaim, Trace, one, yielded, Shows}
-use Rattle.sp_round_trip.proofs.Steps.{passes_token, passes_begin, passes_part, passes_one, passes_none, beside, anywhere}
+use Rattle.sp_round_trip.proofs.Steps.{passes_token, passes_begin, passes_part, passes_one, passes_none, beside, chosen}
 use Rattle.sp_round_trip.proofs.Words.{before_both}
 use Rattle.sp_round_trip.proofs.ElseBranches.{if_tree, rest_words, Came, Rest, behind_branch, branch_then}
 
@@ -33,14 +33,14 @@ if_again x cs e came behind before_rest branch rest last v s may =
     let outer : Pile = started (next (entire (fixed (token.Keyword keyword.If)) ∷ before shown v)) ∷ s in
     let inner : Pile = started (next (before shown v)) ∷ outer in
     let reads = beside (branch if_kind behind_it inner (behind_branch cs e after came behind v before_rest may)) (beside (rest after v (next (before shown v)) (next (entire (fixed (token.Keyword keyword.If)) ∷ before shown v)) s may) nothing) in
-    part 0 (anywhere 54 0 (entire (fixed (token.Keyword keyword.If)) ∷ before shown v) (omega arith) refl) (mark build.Begin refl refl (whole refl (mark build.Begin refl refl (subst (λ z. Goes (symbol.Nonterminal 55 ∷ symbol.Nonterminal 56 ∷ []) z inner v (made (if_tree (x ∷ cs) e) ∷ s)) (sym words) reads)))) nothing
+    chosen 54 0 (omega arith) refl (mark build.Begin refl refl (whole refl (mark build.Begin refl refl (subst (λ z. Goes (symbol.Nonterminal 55 ∷ symbol.Nonterminal 56 ∷ []) z inner v (made (if_tree (x ∷ cs) e) ∷ s)) (sym words) reads))))
 
 pub if_shown : (w u : List Tok) (s t : Pile) → Trace (right own 54 0) w s u t → Claim 54 w s t u
 unfolding own
 if_shown w u s t trace =
-    let (x, a, is, taken, begin) = passes_token 50 refl (passes_begin trace) in
+    let (x, a, is, taken, begin) = passes_token refl (passes_begin trace) in
     let (f, z, whole_tree, shows, more) = passes_one 55 1 refl (passes_begin begin) in
-    let (g, t', claim, ends) = passes_part 56 more in
+    let (g, t', claim, ends) = passes_part more in
     let (none_left, pile) = passes_none ends in
     let (cs, e, built, came, reads) = subst (λ l. OptElseClaim f (made z ∷ started (next a) ∷ started (next w) ∷ s) t' l) none_left claim (z ∷ []) (next a) (next w) s refl in
     (if_tree (z ∷ cs) e ∷ [], sym pile ∙ built, (if_tree (z ∷ cs) e, refl, refl), if_again z cs e (coming f) (coming u) came shows reads)

@@ -41,7 +41,6 @@ pub mod Steps
 pub mod Telling
 pub mod Tells
 pub mod Tops
-pub mod Traces
 pub mod TypedNumbers
 pub mod Worded
 pub mod Words

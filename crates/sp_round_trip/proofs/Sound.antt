@@ -22,7 +22,6 @@ use Rattle.sp_print.specs.Words.{Word, fixed}
 use Rattle.sp_round_trip.proofs.Held.{Pile, does}
 use Rattle.sp_round_trip.proofs.Goes.{Tok, entire, number, next, coming, before, pushed, Goes, nothing, whole, mark}
 use Rattle.sp_round_trip.proofs.Words.{before_both}
-use Rattle.sp_round_trip.proofs.Levels.{and_more}
 use Rattle.sp_round_trip.proofs.Shown.{Yield, one, Manner, plain, expression, in_lines, path_rest, if_rest, new_rest, other, manner_of, avoided, is_kept, Avoids, Fits, Shows, yielded, ClaimAs, Trace, ended, token_passed, half_passed, mark_passed, part_passed}
 use Rattle.sp_round_trip.proofs.Expressions.{expression_shows}
 use Rattle.sp_round_trip.proofs.Singles.{kind_for}
@@ -33,6 +32,7 @@ use Rattle.sp_round_trip.proofs.Piles.{chain_same, alone, Piled, said, Copies, g
 use Rattle.sp_round_trip.proofs.Moves.{rule_plain, stayed, ate, eats_itself, not_second}
 use Rattle.sp_build.proofs.Standing.{some_equal, not_some, if_some}
 use Rattle.sp_build.proofs.Told.{never}
+use Rattle.sp_round_trip.proofs.Steps.{beside}
 
 -- what may come behind the symbols
 abbrev pub Guarded : Guard → ℕ → List Tok → Type 0
@@ -198,7 +198,7 @@ part_on guard ss n {σ = σ} τ u1 u {b = b} {s = s} {t = t} {z = z} (y, ts, on,
             words_on (said g last) (said h last) (said now last) (yielded y ts l) ws (same last ∙ chain_same (said g) (wrote lone.0) (yielded y ts) lone.1 last) words,
             λ c z v copy may.
                 let (p, read, copied) = goes c (pushed ts z) v (copies c z copy) may in
-                (p, subst (λ q. Goes (symbol.Nonterminal n ∷ ss) q z v p) (sym (before_both (yielded y ts l) ws v)) (and_more (shows l (before ws v) z (may_come (avoided n) guard n ss fit read tr may)) read), copied),
+                (p, subst (λ q. Goes (symbol.Nonterminal n ∷ ss) q z v p) (sym (before_both (yielded y ts l) ws v)) (beside (shows l (before ws v) z (may_come (avoided n) guard n ss fit read tr may)) read), copied),
           ),
     )
 
