@@ -1,7 +1,7 @@
 -- Readings of a text by the grammar in its own words are readings of the words that its tokens tell, with what their marks
 -- build, and back.
 use Rattle.std.specs.Prelude.{option_map}
-use Rattle.std.proofs.Common.{◌≡◌, ℕ, suc, ◌+◌, get_or, arith, List, [], ◌∷◌, map, Bool, true, false, cond, ◌==◌, Option, Some, None, refl, ap, sym, ◌∙◌, subst}
+use Rattle.std.proofs.Common.{◌≡◌, ℕ, suc, ◌+◌, get_or, arith, List, [], ◌∷◌, map, Bool, true, false, cond, ◌==◌, Option, Some, refl, ap, sym, ◌∙◌, subst}
 use Rattle.sp_lex.specs.Lexed.{Lexed}
 use Rattle.sp_parser.specs.declared.symbol.Symbol.{Symbol}
 use Rattle.sp_parser.specs.declared.symbol.Symbol.TheVariants as symbol
@@ -27,11 +27,13 @@ use Rattle.sp_print.specs.Words.{Word}
 use Rattle.sp_read_unit.specs.Modules.{IsModuleTree}
 use Rattle.sp_round_trip.specs.Bare.{bare}
 use Rattle.sp_round_trip.specs.Told.{Telling, telling, told}
-use Rattle.sp_round_trip.proofs.Held.{Pile, made, does, by_mark, on_pile, does_all}
+use Rattle.sp_round_trip.proofs.Held.{Pile, made, does, does_all}
 use Rattle.sp_round_trip.proofs.Goes.{Tok, entire, half, tells, number, ending, next, Goes, telling_of, before}
 use Rattle.sp_round_trip.proofs.Goes as goes
 use Rattle.sp_round_trip.proofs.Machine.{piled, tell_at, all_held, of_bare}
 use Rattle.sp_round_trip.proofs.Telling.{get_map, map_of, one_left}
+use Rattle.sp_build.proofs.Standing.{then_some}
+use Rattle.sp_build.proofs.Shapes.{and_then}
 
 -- equal lists begin and end alike
 parts_same : {A : Type 0} (x y : A) (xs ys : List A) → x ∷ xs ≡ y ∷ ys → (x ≡ y) × (xs ≡ ys)
@@ -47,13 +49,8 @@ second_is_whole e h = by_kind (e == CLOSE) (e == SECOND) h
     by_kind false false h = absurd cc
 
 -- a mark that was passed has its rule, which did what it does
-mark_passed : (o : Option Mark) (go : Mark → Option Pile) (on : Pile → Option Pile) (z : Pile) → on_pile (by_mark o go) on ≡ Some z → (m : Mark) × (t : Pile) × (o ≡ Some m) × (go m ≡ Some t) × (on t ≡ Some z)
-mark_passed None go on z h = absurd cc
-mark_passed (Some m) go on z h = by_pile (go m) refl h
-  where
-    by_pile : (p : Option Pile) → go m ≡ p → on_pile p on ≡ Some z → (k : Mark) × (t : Pile) × (Some m ≡ Some k) × (go k ≡ Some t) × (on t ≡ Some z)
-    by_pile None e h = absurd cc
-    by_pile (Some t) e h = (m, t, refl, e, h)
+mark_passed : (o : Option Mark) (go : Mark → Option Pile) (on : Pile → Option Pile) (z : Pile) → and_then (and_then o go) on ≡ Some z → (m : Mark) × (t : Pile) × (o ≡ Some m) × (go m ≡ Some t) × (on t ≡ Some z)
+mark_passed o go on z h = let (t, there, then_on) = then_some (and_then o go) on z h in let (m, is, did) = then_some o go t there in (m, t, is, did, then_on)
 
 module _ (tell : ℕ → Telling) where
   -- from a place on, the tokens tell these words
@@ -119,9 +116,9 @@ module _ (tell : ℕ → Telling) where
         marks = λ τ. (let b = a.marks τ in (
           event n i ∷ b.0,
           reads.mark b.1,
-          ap (λ o. on_pile (by_mark o (λ k. does (rule k) (tell i) s)) (λ next. does_all tell b.0 next)) is
-              ∙ ap (λ told. on_pile (does (rule m) told s) (λ next. does_all tell b.0 next)) (next_told i w stands)
-              ∙ ap (λ o. on_pile o (λ next. does_all tell b.0 next)) built ∙ b.2,
+          ap (λ o. and_then (and_then o (λ k. does (rule k) (tell i) s)) (λ next. does_all tell b.0 next)) is
+              ∙ ap (λ told. and_then (does (rule m) told s) (λ next. does_all tell b.0 next)) (next_told i w stands)
+              ∙ ap (λ o. and_then o (λ next. does_all tell b.0 next)) built ∙ b.2,
         ));
       }
   reads_of_goes (goes.part p applies r q) i stands =

@@ -38,7 +38,7 @@ other_kind e f k take passed some none = elim (cases_Bool (k == e)) [
   | inr n ↦ n
 ]
 
-follows : (a b : Bool) → (not a || b) ≡ true → a ≡ true → b ≡ true
+pub follows : (a b : Bool) → (not a || b) ≡ true → a ≡ true → b ≡ true
 follows true b h e = h
 follows false b h e = never e
 

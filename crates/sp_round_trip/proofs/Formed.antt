@@ -1,14 +1,11 @@
 -- A tree that is built of formed trees is formed.
 use Rattle.std.specs.Prelude.{if◌then◌else◌, ◌&&◌, not, option_map}
-use Rattle.std.proofs.Common.{◌≡◌, ℕ, List, [], ◌∷◌, ◌++◌, reverse, Bool, true, false, Option, Some, None, refl, sym, subst, ap, ◌∙◌, eq-eqb, eqb-true}
+use Rattle.std.proofs.Common.{◌≡◌, List, [], ◌∷◌, ◌++◌, reverse, Bool, true, false, Option, Some, None, refl, sym, subst, ap, ◌∙◌, eq-eqb, eqb-true}
 use Rattle.std.proofs.lemmas.List.{reverse-append, append-nil}
-use Rattle.sp_lex.specs.declared.kinds.TokenKind.{TokenKind}
-use Rattle.sp_lex.specs.declared.kinds.TokenKind.TheVariants as token
 use Rattle.sp_grammar.specs.declared.marks.Mark.{Mark}
 use Rattle.sp_grammar.specs.declared.marks.Mark.TheVariants as build
 use Rattle.sp_ast.specs.declared.words.IntWord.{IntWord}
 use Rattle.sp_ast.specs.declared.words.AttributeName.{AttributeName}
-use Rattle.sp_ast.specs.declared.words.HookName.{HookName}
 use Rattle.sp_ast.specs.declared.forms.Form.{Form}
 use Rattle.sp_ast.specs.declared.forms.Form.TheVariants as form_is
 use Rattle.sp_ast.specs.declared.forms.ExprForm.TheVariants as expr_is
@@ -22,15 +19,15 @@ use Rattle.sp_build.specs.declared.groups.Sort.TheVariants.{One as one, Optional
 use Rattle.sp_build.specs.declared.groups.Slot.{Slot}
 use Rattle.sp_build.specs.declared.groups.Slot.TheVariants.{Part as part, Several as several}
 use Rattle.sp_build.specs.Groups.{same_group, is_in, is_of, are_of, fits, is_node, group_number, group}
-use Rattle.sp_build.specs.Rules.{Leaf, always, by_name, by_string, by_bytes, by_regex, by_number, by_integer, by_event, Rule, begins, leaves_out, takes, gathers, closes, closes_integer, closes_attribute, encloses, joins, wraps, rule}
-use Rattle.sp_build.specs.Tokens.{integer_of, attribute_of, hook_name_of}
+use Rattle.sp_build.specs.Rules.{Rule, begins, leaves_out, takes, gathers, closes, closes_integer, closes_attribute, encloses, joins, wraps, rule}
+use Rattle.sp_build.specs.Tokens.{integer_of, attribute_of}
 use Rattle.sp_print.specs.Canonical.{row_of}
-use Rattle.sp_print.specs.Words.{Word, name, text, bytes, regex, number}
 use Rattle.sp_printed_words.specs.Formed.{is_expression, is_path, is_declaration, is_name, IsId, is_regex_base, AreDeclarations, HaveNoRegexBase, first, second, but_base, HasParts, IsFormed, AreFormed}
 use Rattle.sp_round_trip.specs.Bare.{nowhere}
 use Rattle.sp_round_trip.specs.Told.{Telling}
 use Rattle.sp_round_trip.proofs.Held.{started, made, Pile, After, after, after_do, top, front, start, filled, put, put_if, closed, does, form_told}
 use Rattle.std.proofs.lemmas.Bool.{and_parts}
+use Rattle.sp_round_trip.proofs.Leaves.{EachForm, of_told}
 
 -- What is known of a tree on a pile. A row may still have bases in it, and a name is no `skip`.
 abbrev pub Nearly : Tree → Type 0
@@ -343,18 +340,8 @@ good_tree form slots ts e fill =
     ((wanted form slots ts h.0 fill, free_but form slots ts h.1 fill, formed_parts slots ts g.1 fill), no_name form slots ts h.0)
 
 -- what rules build is what its alternative wants
-abbrev LeafSuits : Leaf → Type 0
-LeafSuits (always form) = suits form [] ≡ true
-LeafSuits (by_name form) = (x : List ℕ) → suits (form x) [] ≡ true
-LeafSuits (by_string form) = (x : List ℕ) → suits (form x) [] ≡ true
-LeafSuits (by_bytes form) = (x : List ℕ) → suits (form x) [] ≡ true
-LeafSuits (by_regex form) = (x : List ℕ) → suits (form x) [] ≡ true
-LeafSuits (by_number form) = (n : ℕ) → suits (form n) [] ≡ true
-LeafSuits (by_integer form) = (w : IntWord) → suits (form w) [] ≡ true
-LeafSuits (by_event form) = (h : HookName) → suits (form h) [] ≡ true
-
 abbrev pub RuleSuits : Rule → Type 0
-RuleSuits (takes l) = LeafSuits l
+RuleSuits (takes l) = EachForm (λ form. suits form [] ≡ true) l
 RuleSuits (closes slots form) = suits form slots ≡ true
 RuleSuits (closes_integer slots form) = (w : IntWord) → suits (form w) slots ≡ true
 RuleSuits (closes_attribute slots form) = (a : AttributeName) → suits (form a) slots ≡ true
@@ -394,20 +381,9 @@ mark_suits build.TypedNumberExpr = λ x. refl
 mark_suits m = refl
 
 -- what a rule does on a pile of such trees
-integer_on : (o : Option IntWord) (form : IntWord → Form) (s : Pile) → ((w : IntWord) → suits (form w) [] ≡ true) → On s → OnSome (put_if (option_map form o) s)
-integer_on None form s suit on = tt
-integer_on (Some w) form s suit on = (good_tree (form w) [] [] (suit w) tt, on)
-
-leaf_on : (l : Leaf) → LeafSuits l → (kind : TokenKind) (word : Word) (s : Pile) → On s → OnSome (put_if (form_told l kind word) s)
-leaf_on (always form) suit kind word s on = (good_tree form [] [] suit tt, on)
-leaf_on (by_name form) suit kind (name x) s on = (good_tree (form x) [] [] (suit x) tt, on)
-leaf_on (by_string form) suit kind (text x) s on = (good_tree (form x) [] [] (suit x) tt, on)
-leaf_on (by_bytes form) suit kind (bytes x) s on = (good_tree (form x) [] [] (suit x) tt, on)
-leaf_on (by_regex form) suit kind (regex x) s on = (good_tree (form x) [] [] (suit x) tt, on)
-leaf_on (by_number form) suit kind (number n) s on = (good_tree (form n) [] [] (suit n) tt, on)
-leaf_on (by_integer form) suit kind word s on = integer_on (integer_of kind) form s suit on
-leaf_on (by_event form) suit (token.Hook h) word s on = (good_tree (form (hook_name_of h)) [] [] (suit (hook_name_of h)) tt, on)
-leaf_on l suit kind word s on = tt
+leaf_on : (o : Option Form) (s : Pile) → ((form : Form) → o ≡ Some form → suits form [] ≡ true) → On s → OnSome (put_if o s)
+leaf_on None s suit on = tt
+leaf_on (Some form) s suit on = (good_tree form [] [] (suit form refl) tt, on)
 
 some_on : {A : Type 0} (o : Option A) (form : A → Form) (slots : List Slot) (ts : List Tree) (s : Pile) → ((x : A) → suits (form x) slots ≡ true) → Fill slots ts → On s
     → OnSome (after_do (option_map (λ f. after f s) (option_map form o)) (λ f under. put (tree f nowhere ts) under))
@@ -438,7 +414,7 @@ nodes_on (made t ∷ s) ts on formed = nodes_if (is_node t) (front is_node s (t 
 pub does_on : (r : Rule) → RuleSuits r → (t : Telling) (s : Pile) → On s → OnSome (does r t s)
 does_on begins suit t s on = on
 does_on leaves_out suit t s on = ((tt, λ e. cc), on)
-does_on (takes l) suit t s on = leaf_on l suit t.kind t.word s on
+does_on (takes l) suit t s on = leaf_on (form_told l t.kind t.word) s (λ form told. of_told (λ its. suits its [] ≡ true) l t.kind t.word form suit told) on
 does_on gathers suit t s on =
     let found = front is_node s [] in
     let all = nodes_on s [] on tt in

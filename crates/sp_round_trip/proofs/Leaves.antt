@@ -1,6 +1,6 @@
 -- The word that a tree tells by itself is one that its token told: it tells the same tree again.
 use Rattle.std.specs.Prelude.{option_map}
-use Rattle.std.proofs.Common.{◌≡◌, ℕ, List, [], ◌∷◌, Bool, true, false, Option, Some, None, refl, sym, ◌∙◌, ap}
+use Rattle.std.proofs.Common.{◌≡◌, ℕ, List, [], ◌∷◌, Bool, true, false, Option, Some, None, refl, sym, ◌∙◌, ap, subst}
 use Rattle.sp_lex.specs.declared.kinds.Hook.{Hook}
 use Rattle.sp_lex.specs.declared.kinds.Hook.TheVariants as hook
 use Rattle.sp_lex.specs.declared.kinds.Keyword.TheVariants as keyword
@@ -22,7 +22,7 @@ use Rattle.sp_printed_words.specs.Sound.{read_as}
 use Rattle.sp_runs.specs.Kinds.{number_of, terminal_of}
 use Rattle.sp_round_trip.proofs.Held.{form_told}
 use Rattle.sp_round_trip.proofs.Goes.{Tok, entire, half, tells, number}
-use Rattle.sp_build.proofs.Standing.{some_equal}
+use Rattle.sp_build.proofs.Standing.{some_equal, not_some}
 
 -- the word that an alternative tells which is of a token
 abbrev pub LeafSays : Leaf → Type 0
@@ -34,6 +34,17 @@ LeafSays (by_regex form) = (x : List ℕ) → own_words (form x) ≡ regex x ∷
 LeafSays (by_number form) = (n : ℕ) → own_words (form n) ≡ numeral n ∷ []
 LeafSays (by_integer form) = (w : IntWord) → own_words (form w) ≡ fixed (token.Keyword (integer_keyword w)) ∷ []
 LeafSays (by_event form) = (h : HookName) → own_words (form h) ≡ fixed (token.Hook (hook_token h)) ∷ []
+
+-- what holds of each alternative that a token can be of
+abbrev pub EachForm : (Form → Type 0) → Leaf → Type 0
+EachForm P (always form) = P form
+EachForm P (by_name form) = (x : List ℕ) → P (form x)
+EachForm P (by_string form) = (x : List ℕ) → P (form x)
+EachForm P (by_bytes form) = (x : List ℕ) → P (form x)
+EachForm P (by_regex form) = (x : List ℕ) → P (form x)
+EachForm P (by_number form) = (n : ℕ) → P (form n)
+EachForm P (by_integer form) = (w : IntWord) → P (form w)
+EachForm P (by_event form) = (h : HookName) → P (form h)
 
 abbrev pub is_always : Leaf → Bool
 is_always (always form) = true
@@ -74,6 +85,18 @@ mapped f (Some x) y e = (x, refl, some_equal e)
 pub event_told : (kind : TokenKind) (its : HookName → Form) (x : Word) (form : Form) → form_told (by_event its) kind x ≡ Some form → (h : Hook) × (kind ≡ token.Hook h) × (its (hook_name_of h) ≡ form)
 event_told (token.Hook h) its x form e = (h, refl, some_equal e)
 event_told kind its x form e = absurd cc
+
+-- what holds of each alternative holds of the one that is told
+pub of_told : (P : Form → Type 0) (l : Leaf) (kind : TokenKind) (x : Word) (form : Form) → EachForm P l → form_told l kind x ≡ Some form → P form
+of_told P (always its) kind x form each e = subst P (some_equal e) each
+of_told P (by_name its) kind (name x) form each e = subst P (some_equal e) (each x)
+of_told P (by_string its) kind (text x) form each e = subst P (some_equal e) (each x)
+of_told P (by_bytes its) kind (bytes x) form each e = subst P (some_equal e) (each x)
+of_told P (by_regex its) kind (regex x) form each e = subst P (some_equal e) (each x)
+of_told P (by_number its) kind (numeral n) form each e = subst P (some_equal e) (each n)
+of_told P (by_integer its) kind x form each e = let (w, told, is) = mapped its (integer_of kind) form e in subst P is (each w)
+of_told P (by_event its) (token.Hook h) x form each e = subst P (some_equal e) (each (hook_name_of h))
+of_told P l kind x form each e = not_some e
 
 word_again : (l : Leaf) (form : Form) (x : Word) → LeafSays l → is_always l ≡ false → form_told l (read_as x) x ≡ Some form → Again l form x
 word_again (by_name its) form (name x) says other e = (name x, ap own_words (sym (some_equal e)) ∙ says x, refl, e)

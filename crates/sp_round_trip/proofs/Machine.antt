@@ -25,7 +25,8 @@ use Rattle.sp_build.specs.Tokens.{form_of, integer_of, attribute_of}
 use Rattle.sp_build.specs.Building.{Stack, Left, left, then_do, popped, gathered, popped_all, opened, parts_of, popped_parts, close_with, push, push_if, worded, token_of, stretch, stretch_from, done_by, marked, with_mark, go_on, all_done}
 use Rattle.sp_round_trip.specs.Bare.{bare, bares, nowhere}
 use Rattle.sp_round_trip.specs.Told.{Telling, telling, word_of}
-use Rattle.sp_round_trip.proofs.Held.{Held, started, made, Pile, After, after, after_do, top, front, start, filled, put, put_if, closed, form_told, does, by_mark, on_pile, does_all}
+use Rattle.sp_round_trip.proofs.Held.{Held, started, made, Pile, After, after, after_do, top, front, start, filled, put, put_if, closed, form_told, does, does_all}
+use Rattle.sp_build.proofs.Shapes.{and_then}
 
 -- what the token at a place tells
 abbrev pub tell_at : List ℕ → List Token → ℕ → Telling
@@ -197,11 +198,11 @@ module _ (source : List ℕ) (tokens : List Token) where
       then_held tell bare (piled tell) (popped (one g) s) (λ t rest. push (tree form (span_of t) (t ∷ [])) rest) (λ t rest. put (tree form nowhere (t ∷ [])) rest) (λ t rest. refl)
       ∙ ap (λ o. after_do o (λ t rest. put (tree form nowhere (t ∷ [])) rest)) (top_held tell (one g) s)
 
-  on_held : (o : Option Stack) (p : Option Pile) (go : Stack → Option Stack) (on : Pile → Option Pile) → option_map (piled tell) o ≡ p → ((s : Stack) → option_map (piled tell) (go s) ≡ on (piled tell s)) → option_map (piled tell) (go_on o go) ≡ on_pile p on
-  on_held None p go on e h = ap (λ q. on_pile q on) e
-  on_held (Some s) p go on e h = h s ∙ ap (λ q. on_pile q on) e
+  on_held : (o : Option Stack) (p : Option Pile) (go : Stack → Option Stack) (on : Pile → Option Pile) → option_map (piled tell) o ≡ p → ((s : Stack) → option_map (piled tell) (go s) ≡ on (piled tell s)) → option_map (piled tell) (go_on o go) ≡ and_then p on
+  on_held None p go on e h = ap (λ q. and_then q on) e
+  on_held (Some s) p go on e h = h s ∙ ap (λ q. and_then q on) e
 
-  mark_held : (o : Option Mark) (n : ℕ) (s : Stack) → option_map (piled tell) (with_mark o (λ m. marked m source tokens n s)) ≡ by_mark o (λ m. does (rule m) (tell n) (piled tell s))
+  mark_held : (o : Option Mark) (n : ℕ) (s : Stack) → option_map (piled tell) (with_mark o (λ m. marked m source tokens n s)) ≡ and_then o (λ m. does (rule m) (tell n) (piled tell s))
   mark_held None n s = refl
   mark_held (Some m) n s = done_held (rule m) n s
 
@@ -209,5 +210,5 @@ module _ (source : List ℕ) (tokens : List Token) where
   pub all_held : (events : List Event) (s : Stack) → option_map (piled tell) (all_done source tokens events s) ≡ does_all tell events (piled tell s)
   all_held [] s = refl
   all_held (e ∷ events) s =
-      on_held (with_mark (mark_with e.mark) (λ m. marked m source tokens e.at s)) (by_mark (mark_with e.mark) (λ m. does (rule m) (tell e.at) (piled tell s)))
+      on_held (with_mark (mark_with e.mark) (λ m. marked m source tokens e.at s)) (and_then (mark_with e.mark) (λ m. does (rule m) (tell e.at) (piled tell s)))
       (λ next. all_done source tokens events next) (λ next. does_all tell events next) (mark_held (mark_with e.mark) e.at s) (λ next. all_held events next)

@@ -9,25 +9,21 @@ use Rattle.sp_runs.specs.Kinds.{number_of, terminal_of}
 use Rattle.sp_grammar.specs.declared.marks.Mark.{Mark}
 use Rattle.sp_grammar.specs.declared.marks.Mark.TheVariants as build
 use Rattle.sp_ast.specs.declared.forms.Form.{Form}
-use Rattle.sp_ast.specs.declared.words.IntWord.{IntWord}
-use Rattle.sp_ast.specs.declared.words.HookName.{HookName}
 use Rattle.sp_ast.specs.Trees.{Tree, absent, node, none, trees, in_row}
 use Rattle.sp_build.specs.declared.groups.Group.{Group}
 use Rattle.sp_build.specs.declared.groups.Slot.{Slot}
-use Rattle.sp_build.specs.Rules.{Leaf, always, by_name, by_string, by_bytes, by_regex, by_number, by_integer, by_event, Rule, begins, leaves_out, takes, gathers, closes, joins, wraps, rule}
-use Rattle.sp_build.specs.Tokens.{integer_of, hook_name_of}
-use Rattle.sp_lex.specs.declared.kinds.TokenKind.TheVariants as token
+use Rattle.sp_build.specs.Rules.{Leaf, always, Rule, begins, leaves_out, takes, gathers, closes, joins, wraps, rule}
 use Rattle.sp_print.specs.declared.layouts.Piece.{Piece}
 use Rattle.sp_print.specs.declared.layouts.Piece.TheVariants as piece
 use Rattle.sp_print.specs.Canonical.{Writing, nothing, chain, last_kind, laid, spelled}
 use Rattle.sp_print.specs.Layouts.{layout}
-use Rattle.sp_print.specs.Words.{Word, fixed, name, text, bytes, regex, number as numeral}
+use Rattle.sp_print.specs.Words.{Word, fixed}
 use Rattle.sp_round_trip.specs.Bare.{nowhere}
 use Rattle.sp_round_trip.specs.Told.{Telling}
 use Rattle.sp_round_trip.proofs.Held.{Pile, started, made, does, form_told, put_if}
 use Rattle.sp_round_trip.proofs.Goes.{Tok, entire, tells, telling_of, number, pushed}
 use Rattle.sp_round_trip.proofs.Closing.{pushed_append, closed_all, gathered_all, joined_all, wrapped, are_parts}
-use Rattle.sp_round_trip.proofs.Leaves.{LeafSays, is_always, leaf_again, mapped}
+use Rattle.sp_round_trip.proofs.Leaves.{LeafSays, is_always, leaf_again, EachForm, of_told}
 use Rattle.sp_round_trip.proofs.Shown.{one, optional, left_out, listed, followed, in_row as a_row, arguments, hooks, silent}
 use Rattle.sp_round_trip.proofs.Chunks.{Chunk, word, tree, built, is_new, node_chunk, is_token, Owns, chunk_words, Split, no_chunk, a_chunk, wrote, laid_as, row_chunks}
 use Rattle.sp_round_trip.proofs.Laid.{laid_again, row_again, node_again}
@@ -35,21 +31,15 @@ use Rattle.sp_round_trip.proofs.Advance.{State, put_on, add, stays, eats, stuck,
 use Rattle.sp_round_trip.proofs.Piles.{Same, chain_same, alone, Piled, bottom, above, said, Copies, grown}
 use Rattle.sp_build.proofs.Standing.{some_equal, not_some, if_some}
 use Rattle.sp_build.proofs.Told.{never}
+use Rattle.sp_round_trip.proofs.Steps.{was_put}
 
--- what tokens' trees are: written by their own word alone
-abbrev pub LeafPlain : Leaf → Type 0
-LeafPlain (always form) = Unit {0}
-LeafPlain (by_name form) = (x : List ℕ) → (leaf_chunk (by_name form) ≡ node_chunk (form x)) × (layout (form x) ≡ piece.Own ∷ []) × (is_new (form x) ≡ false)
-LeafPlain (by_string form) = (x : List ℕ) → (leaf_chunk (by_string form) ≡ node_chunk (form x)) × (layout (form x) ≡ piece.Own ∷ []) × (is_new (form x) ≡ false)
-LeafPlain (by_bytes form) = (x : List ℕ) → (leaf_chunk (by_bytes form) ≡ node_chunk (form x)) × (layout (form x) ≡ piece.Own ∷ []) × (is_new (form x) ≡ false)
-LeafPlain (by_regex form) = (x : List ℕ) → (leaf_chunk (by_regex form) ≡ node_chunk (form x)) × (layout (form x) ≡ piece.Own ∷ []) × (is_new (form x) ≡ false)
-LeafPlain (by_number form) = (n : ℕ) → (leaf_chunk (by_number form) ≡ node_chunk (form n)) × (layout (form n) ≡ piece.Own ∷ []) × (is_new (form n) ≡ false)
-LeafPlain (by_integer form) = (w : IntWord) → (leaf_chunk (by_integer form) ≡ node_chunk (form w)) × (layout (form w) ≡ piece.Own ∷ []) × (is_new (form w) ≡ false)
-LeafPlain (by_event form) = (h : HookName) → (leaf_chunk (by_event form) ≡ node_chunk (form h)) × (layout (form h) ≡ piece.Own ∷ []) × (is_new (form h) ≡ false)
+-- a token's tree is written by its own word alone
+abbrev Plainly : Leaf → Form → Type 0
+Plainly l form = (leaf_chunk l ≡ node_chunk form) × (layout form ≡ piece.Own ∷ []) × (is_new form ≡ false)
 
 abbrev pub RulePlain : Rule → Type 0
 RulePlain (takes (always form)) = Unit {0}
-RulePlain (takes l) = LeafPlain l × LeafSays l
+RulePlain (takes l) = EachForm (Plainly l) l × LeafSays l
 RulePlain _ = Unit {0}
 
 pub rule_plain : (m : Mark) → RulePlain (rule m)
@@ -260,14 +250,14 @@ always_stays form σ old none_laid e g =
     subst (λ t. Stays (takes (always form)) (add (node_chunk form) σ) g t) (some_equal e)
     (now, λ last. same last ∙ no_more (said g) (wrote lone.0) (λ l. lone.1 l ∙ ap (λ ps. laid form ps [] l) none_laid) last, λ c z x copy. (made (node form nowhere none) ∷ z, refl, copies c z copy))
 
+pub all_taken : (t : Take) → is_all t ≡ true → t ≡ All
+all_taken All h = refl
+all_taken First h = never h
+all_taken Nothing h = never h
+
 -- what a kind takes that is expected as it stands
 takes_itself : (e : ℕ) → is_itself e ≡ true → parser_takes e e ≡ All
 takes_itself e ok = all_taken (parser_takes e e) (and_parts (is_all (parser_takes e e)) (not (is_taken (parser_takes e SECOND))) ok).0
-  where
-    all_taken : (t : Take) → is_all t ≡ true → t ≡ All
-    all_taken All h = refl
-    all_taken First h = never h
-    all_taken Nothing h = never h
 
 pub not_second : (e : ℕ) → is_itself e ≡ true → parser_takes e SECOND ≡ Nothing
 not_second e ok = none_taken (parser_takes e SECOND) (and_parts (is_all (parser_takes e e)) (not (is_taken (parser_takes e SECOND))) ok).1
@@ -291,27 +281,11 @@ always_eats form k n σ ok it_is e g =
       λ d z copy. (made (node form nowhere none) ∷ z, refl, copies d z copy),
     )
 
--- the facts of a token's tree
-abbrev Plainly : Leaf → Form → Type 0
-Plainly l form = (leaf_chunk l ≡ node_chunk form) × (layout form ≡ piece.Own ∷ []) × (is_new form ≡ false)
-
-leaf_facts : (l : Leaf) (form : Form) (k : TokenKind) (w : Word) → is_always l ≡ false → LeafPlain l → form_told l k w ≡ Some form → Plainly l form
-leaf_facts (by_name its) form k (name x) other plain e = subst (λ f. Plainly (by_name its) f) (some_equal e) (plain x)
-leaf_facts (by_string its) form k (text x) other plain e = subst (λ f. Plainly (by_string its) f) (some_equal e) (plain x)
-leaf_facts (by_bytes its) form k (bytes x) other plain e = subst (λ f. Plainly (by_bytes its) f) (some_equal e) (plain x)
-leaf_facts (by_regex its) form k (regex x) other plain e = subst (λ f. Plainly (by_regex its) f) (some_equal e) (plain x)
-leaf_facts (by_number its) form k (numeral n) other plain e = subst (λ f. Plainly (by_number its) f) (some_equal e) (plain n)
-leaf_facts (by_integer its) form k w other plain e =
-    let m = mapped its (integer_of k) form e in subst (λ f. Plainly (by_integer its) f) m.2 (plain m.0)
-leaf_facts (by_event its) form (token.Hook h) w other plain e = subst (λ f. Plainly (by_event its) f) (some_equal e) (plain (hook_name_of h))
-leaf_facts (always its) form k w other plain e = absurd cc
-leaf_facts l form k w other plain e = absurd cc
-
-leaf_eats : (l : Leaf) (n : ℕ) (σ : State) {b s t : Pile} (x : Tok) → is_always l ≡ false → LeafPlain l → LeafSays l → is_itself n ≡ true → parser_takes n (number x) ≡ All → does (takes l) (tells x) s ≡ Some t → (g : Piled σ b s) → Eats (takes l) n (add (leaf_chunk l) σ) g t
+leaf_eats : (l : Leaf) (n : ℕ) (σ : State) {b s t : Pile} (x : Tok) → is_always l ≡ false → EachForm (Plainly l) l → LeafSays l → is_itself n ≡ true → parser_takes n (number x) ≡ All → does (takes l) (tells x) s ≡ Some t → (g : Piled σ b s) → Eats (takes l) n (add (leaf_chunk l) σ) g t
 leaf_eats l n σ {s = s} x other plain says ok passed e g =
-    let f = formed (form_told l (tells x).kind (tells x).word) s e in
+    let f = was_put (form_told l (tells x).kind (tells x).word) s _ e in
     let again = leaf_again l f.0 x n says other (not_second n ok) passed f.1 in
-    let facts = leaf_facts l f.0 (tells x).kind (tells x).word other plain f.1 in
+    let facts = of_told (Plainly l) l (tells x).kind (tells x).word f.0 plain f.1 in
     let lone = single f.0 facts.2 in
     let (now, same, copies) = grown lone.0 g in
     let words : Same (wrote lone.0) (λ last. again.0 ∷ []) = λ last. lone.1 last ∙ ap (λ ps. laid f.0 ps [] last) facts.1 ∙ ap (λ ws. ws ++ []) again.1 in
@@ -323,10 +297,6 @@ leaf_eats l n σ {s = s} x other plain says ok passed e g =
       λ d z copy. (made (node f.0 nowhere none) ∷ z, ap (λ o. put_if o z) again.3, copies d z copy),
     ) in
     subst (λ t. Eats (takes l) n (add (leaf_chunk l) σ) g t) (sym f.2) (subst (λ c. Eats (takes l) n (add c σ) g (made (node f.0 nowhere none) ∷ s)) (sym facts.0) all)
-  where
-    formed : (o : Option Form) (s : Pile) {t : Pile} → put_if o s ≡ Some t → (form : Form) × (o ≡ Some form) × (t ≡ made (node form nowhere none) ∷ s)
-    formed None s e = not_some e
-    formed (Some form) s e = (form, refl, sym (some_equal e))
 
 always_moves : (form : Form) (ps : List Piece) (coming : Option ℕ) (σ τ : State) {b s t : Pile} → layout form ≡ ps → always_moved form ps coming σ ≡ stays τ → Some (made (node form nowhere none) ∷ s) ≡ Some t → (g : Piled σ b s) → Stays (takes (always form)) τ g t
 always_moves form [] coming σ τ {t = t} laid_so ok e g =
@@ -378,7 +348,7 @@ stayed (joins slots form) plain coming (cs ∷ σ) τ {t = t} x ok e g =
 stayed (wraps k form) plain coming (cs ∷ σ) τ {t = t} x ok e g = let o = moved_some (wrapped_last form cs) σ τ ok in subst (λ z. Stays (wraps k form) z g t) o.2 (wrapped_here k form cs o.0 σ x o.1 e g)
 stayed r plain coming σ τ x ok e g = no_stay ok
 
-leaf_takes : (l : Leaf) (n : ℕ) (σ τ : State) {b s t : Pile} (x : Tok) → is_always l ≡ false → LeafPlain l → LeafSays l → (if is_itself n then eats (add (leaf_chunk l) σ) else stuck) ≡ eats τ → parser_takes n (number x) ≡ All → does (takes l) (tells x) s ≡ Some t → (g : Piled σ b s) → Eats (takes l) n τ g t
+leaf_takes : (l : Leaf) (n : ℕ) (σ τ : State) {b s t : Pile} (x : Tok) → is_always l ≡ false → EachForm (Plainly l) l → LeafSays l → (if is_itself n then eats (add (leaf_chunk l) σ) else stuck) ≡ eats τ → parser_takes n (number x) ≡ All → does (takes l) (tells x) s ≡ Some t → (g : Piled σ b s) → Eats (takes l) n τ g t
 leaf_takes l n σ τ {t = t} x other plain says ok passed e g =
     let i = if_eats (is_itself n) (add (leaf_chunk l) σ) τ ok in subst (λ z. Eats (takes l) n z g t) i.1 (leaf_eats l n σ x other plain says i.0 passed e g)
 
@@ -393,13 +363,7 @@ moved_no_eat (Some es) σ τ e = absurd (let q : stays _ ≡ eats _ = e in cc)
 -- A mark that eats the token that comes does as its chunks say.
 pub ate : (r : Rule) → RulePlain r → (n : ℕ) (σ τ : State) {b s t : Pile} (x : Tok) → move r (Some n) σ ≡ eats τ → parser_takes n (number x) ≡ All → does r (tells x) s ≡ Some t → (g : Piled σ b s) → Eats r n τ g t
 ate (takes (always form)) plain n σ τ x ok passed e g = always_takes form (layout form) n σ τ refl ok e g
-ate (takes (by_name its)) plain n σ τ x ok passed e g = leaf_takes (by_name its) n σ τ x refl plain.0 plain.1 ok passed e g
-ate (takes (by_string its)) plain n σ τ x ok passed e g = leaf_takes (by_string its) n σ τ x refl plain.0 plain.1 ok passed e g
-ate (takes (by_bytes its)) plain n σ τ x ok passed e g = leaf_takes (by_bytes its) n σ τ x refl plain.0 plain.1 ok passed e g
-ate (takes (by_regex its)) plain n σ τ x ok passed e g = leaf_takes (by_regex its) n σ τ x refl plain.0 plain.1 ok passed e g
-ate (takes (by_number its)) plain n σ τ x ok passed e g = leaf_takes (by_number its) n σ τ x refl plain.0 plain.1 ok passed e g
-ate (takes (by_integer its)) plain n σ τ x ok passed e g = leaf_takes (by_integer its) n σ τ x refl plain.0 plain.1 ok passed e g
-ate (takes (by_event its)) plain n σ τ x ok passed e g = leaf_takes (by_event its) n σ τ x refl plain.0 plain.1 ok passed e g
+ate (takes l) plain n σ τ x ok passed e g = leaf_takes l n σ τ x refl plain.0 plain.1 ok passed e g
 ate begins plain n σ τ x ok passed e g = absurd (let q : stays _ ≡ eats _ = ok in cc)
 ate leaves_out plain n σ τ x ok passed e g = absurd (let q : stays _ ≡ eats _ = ok in cc)
 ate gathers plain n (cs ∷ ds ∷ σ) τ x ok passed e g = row_no_eat (row_chunks cs) ds σ τ ok
@@ -424,13 +388,7 @@ always_itself form (piece.Part p ∷ ps) n σ τ ok = no_eat ok
 
 pub eats_itself : (r : Rule) (n : ℕ) (σ τ : State) → move r (Some n) σ ≡ eats τ → is_itself n ≡ true
 eats_itself (takes (always form)) n σ τ ok = always_itself form (layout form) n σ τ ok
-eats_itself (takes (by_name its)) n σ τ ok = (if_eats (is_itself n) (add (leaf_chunk (by_name its)) σ) τ ok).0
-eats_itself (takes (by_string its)) n σ τ ok = (if_eats (is_itself n) (add (leaf_chunk (by_string its)) σ) τ ok).0
-eats_itself (takes (by_bytes its)) n σ τ ok = (if_eats (is_itself n) (add (leaf_chunk (by_bytes its)) σ) τ ok).0
-eats_itself (takes (by_regex its)) n σ τ ok = (if_eats (is_itself n) (add (leaf_chunk (by_regex its)) σ) τ ok).0
-eats_itself (takes (by_number its)) n σ τ ok = (if_eats (is_itself n) (add (leaf_chunk (by_number its)) σ) τ ok).0
-eats_itself (takes (by_integer its)) n σ τ ok = (if_eats (is_itself n) (add (leaf_chunk (by_integer its)) σ) τ ok).0
-eats_itself (takes (by_event its)) n σ τ ok = (if_eats (is_itself n) (add (leaf_chunk (by_event its)) σ) τ ok).0
+eats_itself (takes l) n σ τ ok = (if_eats (is_itself n) (add (leaf_chunk l) σ) τ ok).0
 eats_itself begins n σ τ ok = absurd (let q : stays _ ≡ eats _ = ok in cc)
 eats_itself leaves_out n σ τ ok = absurd (let q : stays _ ≡ eats _ = ok in cc)
 eats_itself gathers n (cs ∷ ds ∷ σ) τ ok = row_no_eat (row_chunks cs) ds σ τ ok

@@ -5,7 +5,7 @@ use Rattle.std.proofs.lemmas.Bool.{and_parts, cases_Bool, eqb-true, ltb-true, no
 use Rattle.std.proofs.lemmas.List.{append-nil, append_assoc}
 use Rattle.sp_parser.specs.declared.symbol.Symbol.{Symbol}
 use Rattle.sp_parser.specs.declared.symbol.Symbol.TheVariants as symbol
-use Rattle.sp_parser.specs.Grammar.{Take, Nothing, First, All, takes, CLOSE, SECOND}
+use Rattle.sp_parser.specs.Grammar.{Nothing, First, All, takes, CLOSE, SECOND}
 use Rattle.sp_lex.specs.declared.kinds.TokenKind.{TokenKind}
 use Rattle.sp_grammar.specs.declared.marks.Mark.{Mark}
 use Rattle.sp_grammar.specs.declared.terminals.Terminal.{Terminal}
@@ -26,13 +26,14 @@ use Rattle.sp_round_trip.proofs.Shown.{Yield, one, Manner, plain, expression, in
 use Rattle.sp_round_trip.proofs.Expressions.{expression_shows}
 use Rattle.sp_round_trip.proofs.Singles.{kind_for}
 use Rattle.sp_round_trip.proofs.Chunks.{word, tree, wrote}
-use Rattle.sp_round_trip.proofs.Advance.{State, add, Move, stays, eats, stuck, Guard, is_watched, is_all, are_marks, is_avoided, may_be_empty, comes_first, next_fits, move, move_at, then_go, with_yield, yield_of, is_read, shown_number, advance}
-use Rattle.sp_round_trip.proofs.Firsts.{first_tested, paren_tested, else_tested, comes_behind}
+use Rattle.sp_round_trip.proofs.Advance.{State, add, Move, stays, eats, stuck, Guard, is_watched, are_marks, is_avoided, may_be_empty, comes_first, next_fits, move, move_at, then_go, yield_of, is_read, shown_number, advance}
+use Rattle.sp_round_trip.proofs.Firsts.{first_tested, paren_tested, else_tested, comes_behind, follows}
 use Rattle.sp_round_trip.proofs.Piles.{chain_same, alone, Piled, said, Copies, grown}
-use Rattle.sp_round_trip.proofs.Moves.{rule_plain, stayed, ate, eats_itself, not_second}
+use Rattle.sp_round_trip.proofs.Moves.{rule_plain, stayed, ate, eats_itself, not_second, all_taken}
 use Rattle.sp_build.proofs.Standing.{some_equal, not_some, if_some}
 use Rattle.sp_build.proofs.Told.{never}
-use Rattle.sp_round_trip.proofs.Steps.{beside}
+use Rattle.sp_round_trip.proofs.Steps.{beside, never_first, taken_by}
+use Rattle.sp_build.proofs.Shapes.{and_then}
 
 -- what may come behind the symbols
 abbrev pub Guarded : Guard → ℕ → List Tok → Type 0
@@ -74,12 +75,8 @@ stay_on guard ss n m follow {σ = σ} next_state τ w u is moves done g more =
 first_half_closes : (e k : ℕ) → takes e k ≡ First → takes e SECOND ≡ Nothing → {A : Type 0} → A
 first_half_closes e k passed none = elim (cases_Bool (e == CLOSE)) [
   | inl y ↦ absurd (let q : Nothing ≡ All = sym none ∙ ap (λ c. cond c (takes CLOSE SECOND) (cond (e == SECOND) All Nothing)) y in cc)
-  | inr n ↦ absurd (half_or_all (e == k) (sym (ap (λ c. cond c (takes CLOSE k) (cond (e == k) All Nothing)) n) ∙ passed))
+  | inr n ↦ absurd (never_first (e == k) (sym (taken_by e k n) ∙ passed))
 ]
-  where
-    half_or_all : (c : Bool) → cond c All Nothing ≡ First → ⊥
-    half_or_all true h = cc
-    half_or_all false h = cc
 
 -- a mark that eats the token that comes, and what comes behind that
 eat_on : (guard : Guard) (ss : List Symbol) (n e : ℕ) (m : Mark) {σ : State} (next_state τ : State) (x : Tok) (w u : List Tok) {b s t z : Pile} → mark_with n ≡ Some m → move (rule m) (Some e) σ ≡ eats next_state → takes e (number x) ≡ All → does (rule m) (next (x ∷ w)) s ≡ Some t → (g : Piled σ b s)
@@ -96,11 +93,6 @@ eat_on guard ss n e m {σ = σ} next_state τ x w u is moves passed done g more 
       ),
     )
 
-is_all_taken : (t : Take) → is_all t ≡ true → t ≡ All
-is_all_taken All h = refl
-is_all_taken First h = never h
-is_all_taken Nothing h = never h
-
 -- a token, and what comes behind it
 token_on : (guard : Guard) (ss : List Symbol) (e : ℕ) {σ : State} (τ : State) (u : List Tok) {b s z : Pile} → is_read e ≡ true → (g : Piled σ b s)
     → ((h : Piled (add (word (shown_number e)) σ) b s) → Sound guard ss u τ h z) → Sound guard (symbol.Terminal e ∷ ss) u τ g z
@@ -114,7 +106,7 @@ token_on guard ss e τ u ok g more =
         fixed k ∷ ws,
         words_on (said g last) (said h last) (said now last) (fixed k ∷ []) ws (same last ∙ chain_same (said g) (wrote lone.0) (λ l. fixed k ∷ []) lone.1 last) words,
         λ c z v copy may.
-            let (y, read, copied) = goes c z v (copies c z copy) may in (y, whole (is_all_taken (takes e (number_of (terminal_of k))) ok) read, copied),
+            let (y, read, copied) = goes c z v (copies c z copy) may in (y, whole (all_taken (takes e (number_of (terminal_of k))) ok) read, copied),
       ),
     )
 
@@ -128,10 +120,6 @@ marks_only [] ok ended = refl
 marks_only (symbol.Mark m ∷ ss) ok (mark_passed n is done more) = marks_only ss ok more
 marks_only (symbol.Terminal e ∷ ss) ok tr = never ok
 marks_only (symbol.Nonterminal e ∷ ss) ok tr = never ok
-
-holds_then : (a b : Bool) → (not a || b) ≡ true → a ≡ true → b ≡ true
-holds_then true b h e = h
-holds_then false b h e = never e
 
 avoided_there : (o : Option Terminal) (e : Terminal) (v : List Tok) → is_avoided o e ≡ true → Avoids o v → Avoids (Some e) v
 avoided_there None e v ok avoids = never ok
@@ -147,11 +135,11 @@ may_come (Some e) guard n ss {r = r} {v = v} ok goes tr may =
     elim (comes_behind (terminal_number e) (watched_tested e first.0) goes (not-true _ first.1)) [
       | inl differs ↦ inl differs
       | inr empty ↦
-          let here = and_parts (is_avoided guard.avoid e) (not guard.kept || (is_kept n && are_marks ss)) (holds_then (may_be_empty ss) (is_avoided guard.avoid e && (not guard.kept || (is_kept n && are_marks ss))) all.1 empty.1) in
+          let here = and_parts (is_avoided guard.avoid e) (not guard.kept || (is_kept n && are_marks ss)) (follows (may_be_empty ss) (is_avoided guard.avoid e && (not guard.kept || (is_kept n && are_marks ss))) all.1 empty.1) in
           elim may [
             | inl avoids ↦ inl (subst (λ q. Avoids (Some e) q) (sym empty.0) (avoided_there guard.avoid e v here.0 avoids))
             | inr kept ↦
-                let marks = and_parts (is_kept n) (are_marks ss) (holds_then guard.kept (is_kept n && are_marks ss) here.1 kept.0) in
+                let marks = and_parts (is_kept n) (are_marks ss) (follows guard.kept (is_kept n && are_marks ss) here.1 kept.0) in
                 inr (marks.0, ap coming (marks_only ss marks.1 tr) ∙ kept.1)
           ]
     ]
@@ -166,7 +154,7 @@ expression_node absent e = never e
 expression_node (row ts) e = never e
 
 claimed : (m : Manner) (guard : Guard) (n : ℕ) (ss : List Symbol) (σ τ : State) (w u : List Tok) (s t : Pile) → manner_of n ≡ m
-    → with_yield (yield_of m) (λ y. if next_fits (avoided n) guard n ss then advance guard ss (add (tree y) σ) else None) ≡ Some τ → ClaimAs m n w s t u → Claimed guard n ss σ τ s t u
+    → and_then (yield_of m) (λ y. if next_fits (avoided n) guard n ss then advance guard ss (add (tree y) σ) else None) ≡ Some τ → ClaimAs m n w s t u → Claimed guard n ss σ τ s t u
 claimed (plain y) guard n ss σ τ w u s t is ok (ts, on, fits, shows) =
     let i = if_some (next_fits (avoided n) guard n ss) (advance guard ss (add (tree y) σ)) τ ok in (y, ts, on, fits, shows, i.0, i.1)
 claimed (expression level) guard n ss σ τ w u s t is ok (x, on, spells) =
@@ -174,7 +162,7 @@ claimed (expression level) guard n ss σ τ w u s t is ok (x, on, spells) =
     let i = if_some (next_fits (avoided n) guard n ss) (advance guard ss (add (tree (one level)) σ)) τ below.1 in
     (one level, x ∷ [], on, (x, refl, expression_node x spells.is), λ last v c may. expression_shows n level is below.0 x spells (coming u) last v c may, i.0, i.1)
   where
-    tighter : (c : Bool) → nat_lt level 15 ≡ c → with_yield (if c then Some (one level) else None) (λ y. if next_fits (avoided n) guard n ss then advance guard ss (add (tree y) σ) else None) ≡ Some τ
+    tighter : (c : Bool) → nat_lt level 15 ≡ c → and_then (if c then Some (one level) else None) (λ y. if next_fits (avoided n) guard n ss then advance guard ss (add (tree y) σ) else None) ≡ Some τ
         → (level ≤ 14) × ((if next_fits (avoided n) guard n ss then advance guard ss (add (tree (one level)) σ) else None) ≡ Some τ)
     tighter true e h = let below : level < 15 = ltb-true level 15 e in (omega (arith, below), h)
     tighter false e h = not_some h

@@ -112,7 +112,8 @@ passes_row us p {ss = ss} {w = w} {v = v} {s = s} {u = u} trace =
     let (is, gather) = gathered_all us p s t (next w) done in
     (gather, subst (λ x. Trace ss w x v u) is rest)
 
-was_put : (o : Option Form) (s t : Pile) → put_if o s ≡ Some t → (form : Form) × (o ≡ Some form) × (t ≡ made (tree form nowhere []) ∷ s)
+-- a tree of one token is of the alternative that the token tells
+pub was_put : (o : Option Form) (s t : Pile) → put_if o s ≡ Some t → (form : Form) × (o ≡ Some form) × (t ≡ made (tree form nowhere []) ∷ s)
 was_put None s t h = not_some h
 was_put (Some form) s t h = (form, refl, sym (some_equal h))
 
