@@ -4,7 +4,6 @@ use Rattle.std.specs.Prelude.{option_map}
 use Rattle.std.proofs.Common.{◌≡◌, ℕ, suc, ◌+◌, get_or, arith, List, [], ◌∷◌, map, Bool, true, false, cond, ◌==◌, Option, Some, refl, ap, sym, ◌∙◌, subst}
 use Rattle.sp_lex.specs.Lexed.{Lexed}
 use Rattle.sp_parser.specs.declared.symbol.Symbol.{Symbol}
-use Rattle.sp_parser.specs.declared.symbol.Symbol.TheVariants as symbol
 use Rattle.sp_parser.specs.declared.symbol.Event.{Event}
 use Rattle.sp_parser.specs.Grammar.{Derives, takes, Nothing, First, All, Applies, SECOND, CLOSE, event}
 use Rattle.sp_grammar.specs.declared.marks.Mark.{Mark}
@@ -14,7 +13,7 @@ use Rattle.sp_grammar.specs.Own.{own}
 use Rattle.sp_grammar.specs.Reads.{Reads}
 use Rattle.sp_grammar.specs.Reads as reads
 use Rattle.sp_grammar.specs.Starts.{start_number}
-use Rattle.sp_grammar.specs.Written.{Part, part_number}
+use Rattle.sp_grammar.specs.Written.{Part}
 use Rattle.sp_grammar.specs.declared.language.Start.TheVariants.{Module}
 use Rattle.sp_grammar.proofs.OwnWords.{read_of_table, table_of_read}
 use Rattle.sp_ast.specs.Trees.{Tree}
@@ -34,6 +33,7 @@ use Rattle.sp_round_trip.proofs.Machine.{piled, tell_at, all_held, of_bare}
 use Rattle.sp_round_trip.proofs.Telling.{get_map, map_of, one_left}
 use Rattle.sp_build.proofs.Standing.{then_some}
 use Rattle.sp_build.proofs.Shapes.{and_then}
+use Rattle.sp_grammar.specs.Written.{part as part_symbol}
 
 -- equal lists begin and end alike
 parts_same : {A : Type 0} (x y : A) (xs ys : List A) → x ∷ xs ≡ y ∷ ys → (x ≡ y) × (xs ≡ ys)
@@ -151,11 +151,11 @@ told_numbers lexed ws e =
 
 -- the reading of a module that reads all words and builds this
 abbrev pub ReadsModule : List Tok → Tree → Type 0
-ReadsModule w t = Goes (symbol.Nonterminal (part_number Part.Module) ∷ []) w [] [] (made t ∷ [])
+ReadsModule w t = Goes (part_symbol Part.Module ∷ []) w [] [] (made t ∷ [])
 
-whole_module : (w v : List Tok) (s : Pile) (t : Tree) → Goes (symbol.Nonterminal (part_number Part.Module) ∷ []) w [] v s → map number v ≡ [] → Some s ≡ Some (made t ∷ []) → ReadsModule w t
+whole_module : (w v : List Tok) (s : Pile) (t : Tree) → Goes (part_symbol Part.Module ∷ []) w [] v s → map number v ≡ [] → Some s ≡ Some (made t ∷ []) → ReadsModule w t
 whole_module w (x ∷ v) s t r e h = absurd cc
-whole_module w [] s t r e h = let same : s ≡ made t ∷ [] = cc in subst (λ p. Goes (symbol.Nonterminal (part_number Part.Module) ∷ []) w [] [] p) same r
+whole_module w [] s t r e h = let same : s ≡ made t ∷ [] = cc in subst (λ p. Goes (part_symbol Part.Module ∷ []) w [] [] p) same r
 
 -- a module that was read is read from the words that its tokens tell
 pub goes_of_tree : (lexed : Lexed) (m : Tree) (ws : List Word) → told lexed ≡ map telling_of ws → IsModuleTree lexed m → ReadsModule (before ws []) (bare m)

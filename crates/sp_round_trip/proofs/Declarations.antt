@@ -1,12 +1,16 @@
 -- Declarations, each a line, and the module of them.
 use Rattle.std.specs.Prelude.{nat_lt, ◌&&◌, ◌||◌, if◌then◌else◌}
 use Rattle.std.proofs.Common.{◌≡◌, ℕ, List, [], ◌∷◌, Bool, true, false, None, refl, sym, ◌∙◌, arith, ap, subst, inl}
-use Rattle.sp_parser.specs.declared.symbol.Symbol.TheVariants as symbol
 use Rattle.sp_parser.specs.Grammar.{right, takes, All}
 use Rattle.sp_lex.specs.declared.kinds.TokenKind.TheVariants as token
 use Rattle.sp_lex.specs.declared.kinds.Keyword.TheVariants as keyword
 use Rattle.sp_lex.specs.declared.kinds.Mark.TheVariants as sign
 use Rattle.sp_grammar.specs.declared.marks.Mark.TheVariants as build
+use Rattle.sp_grammar.specs.Written.{part as part_symbol}
+use Rattle.sp_grammar.specs.Written.{mark as mark_symbol}
+use Rattle.sp_grammar.specs.Written.{Part, part_number}
+use Rattle.sp_grammar.specs.Terminals.{terminal_number}
+use Rattle.sp_grammar.specs.declared.terminals.Terminal.TheVariants as terminal
 use Rattle.sp_grammar.specs.Own.{own}
 use Rattle.sp_ast.specs.declared.operators.BinaryOp.{BinaryOp}
 use Rattle.sp_ast.specs.declared.operators.BinaryOp.TheVariants as binary
@@ -57,26 +61,26 @@ nor_false false = refl
 line_words : (t : Tree) → at_place 1 false t (spelled t) None ≡ spelled t None
 line_words t = ap (λ b. if b then enclosed (spelled t) None else spelled t None) (ap (λ b. b || false || (is_regex t && false)) (low t) ∙ nor_false (is_regex t))
 
-declarations_again : (x : Tree) (ts : List Tree) (k : ℕ) → Shows 2 (one 1) (x ∷ []) k → ((v : List Tok) (b : Pile) → Goes (symbol.Nonterminal 1 ∷ []) (before (flat (lines_of (trees ts))) v) b v (pushed ts b))
-    → (v : List Tok) (b : Pile) → Goes (symbol.Nonterminal 1 ∷ []) (before (flat (lines_of (trees (x ∷ ts)))) v) b v (pushed (x ∷ ts) b)
+declarations_again : (x : Tree) (ts : List Tree) (k : ℕ) → Shows (part_number Part.Decl) (one 1) (x ∷ []) k → ((v : List Tok) (b : Pile) → Goes (part_symbol Part.Decls ∷ []) (before (flat (lines_of (trees ts))) v) b v (pushed ts b))
+    → (v : List Tok) (b : Pile) → Goes (part_symbol Part.Decls ∷ []) (before (flat (lines_of (trees (x ∷ ts)))) v) b v (pushed (x ∷ ts) b)
 unfolding own
 declarations_again x ts k decl more v b =
     let line = spelled x None in
     let rest = before (flat (lines_of (trees ts))) v in
     let words = before_both line (flat (lines_of (trees ts))) v ∙ ap (λ ws. before ws rest) (sym (line_words x)) in
     let reads = beside (decl None rest b (inl tt)) (beside (more v (made x ∷ b)) nothing) in
-    chosen 1 0 (omega arith) refl (subst (λ z. Goes (symbol.Nonterminal 2 ∷ symbol.Nonterminal 1 ∷ []) z b v (pushed (x ∷ ts) b)) (sym words) reads)
+    chosen (part_number Part.Decls) 0 (omega arith) refl (subst (λ z. Goes (part_symbol Part.Decl ∷ part_symbol Part.Decls ∷ []) z b v (pushed (x ∷ ts) b)) (sym words) reads)
 
-pub declarations_shown : (w u : List Tok) (s t : Pile) → Trace (right own 1 0) w s u t → Claim 1 w s t u
+pub declarations_shown : (w u : List Tok) (s t : Pile) → Trace (right own (part_number Part.Decls) 0) w s u t → Claim (part_number Part.Decls) w s t u
 unfolding own
 declarations_shown w u s t trace =
-    let (a, x, whole_tree, shows, more) = passes_one 2 1 refl trace in
+    let (a, x, whole_tree, shows, more) = passes_one (part_number Part.Decl) 1 refl trace in
     let (b, t', (ts, pile, reads), ends) = passes_part more in
     (x ∷ ts, sym (passes_none ends).1 ∙ pile, declarations_again x ts (coming a) shows reads)
 
-pub no_declarations_shown : (w u : List Tok) (s t : Pile) → Trace (right own 1 1) w s u t → Claim 1 w s t u
+pub no_declarations_shown : (w u : List Tok) (s t : Pile) → Trace (right own (part_number Part.Decls) 1) w s u t → Claim (part_number Part.Decls) w s t u
 unfolding own
-no_declarations_shown w u s t trace = ([], sym (passes_none trace).1, λ v b. chosen 1 1 (omega arith) refl nothing)
+no_declarations_shown w u s t trace = ([], sym (passes_none trace).1, λ v b. chosen (part_number Part.Decls) 1 (omega arith) refl nothing)
 
 abbrev module_slots : List Slot
 module_slots = slot (one_of names) ∷ slot (rows_of declarations) ∷ []
@@ -84,27 +88,27 @@ module_slots = slot (one_of names) ∷ slot (rows_of declarations) ∷ []
 abbrev module_of : List ℕ → List Tree → Tree
 module_of x ts = tree form_is.Module nowhere (named x ∷ row (trees ts) ∷ [])
 
-module_again : (x : List ℕ) (ts : List Tree) → takes 1 (number (entire (name x))) ≡ All → Gather ts → Close module_slots form_is.Module (named x ∷ row (trees ts) ∷ [])
-    → ((v : List Tok) (b : Pile) → Goes (symbol.Nonterminal 1 ∷ []) (before (flat (lines_of (trees ts))) v) b v (pushed ts b))
-    → Goes (symbol.Nonterminal 0 ∷ []) (before (flat (module_lines (module_of x ts))) []) [] [] (made (module_of x ts) ∷ [])
+module_again : (x : List ℕ) (ts : List Tree) → takes (terminal_number terminal.Id) (number (entire (name x))) ≡ All → Gather ts → Close module_slots form_is.Module (named x ∷ row (trees ts) ∷ [])
+    → ((v : List Tok) (b : Pile) → Goes (part_symbol Part.Decls ∷ []) (before (flat (lines_of (trees ts))) v) b v (pushed ts b))
+    → Goes (part_symbol Part.Module ∷ []) (before (flat (module_lines (module_of x ts))) []) [] [] (made (module_of x ts) ∷ [])
 unfolding own
 module_again x ts is_name gather closes reads =
     let rest = before (flat (lines_of (trees ts))) [] in
     let words = entire (fixed (token.Keyword keyword.Module)) ∷ entire (name x) ∷ entire (fixed (token.Mark sign.Semicolon)) ∷ rest in
     let outer : Pile = started (next words) ∷ [] in
     let inner : Pile = started (next rest) ∷ made (named x) ∷ outer in
-    chosen 0 0 (omega arith) refl (mark build.Begin refl refl (whole refl (mark build.Name refl refl (whole is_name (whole refl (mark build.Begin refl refl (beside (reads [] inner) (mark build.Row refl (gather (next []) (next rest) (made (named x) ∷ outer)) (mark build.ModuleDecl refl (closes (next []) (next words) []) nothing)))))))))
+    chosen (part_number Part.Module) 0 (omega arith) refl (mark build.Begin refl refl (whole refl (mark build.Name refl refl (whole is_name (whole refl (mark build.Begin refl refl (beside (reads [] inner) (mark build.Row refl (gather (next []) (next rest) (made (named x) ∷ outer)) (mark build.ModuleDecl refl (closes (next []) (next words) []) nothing)))))))))
 
 -- a module is read from the words of its lines
-pub module_shown : (w u : List Tok) (m : Tree) → Trace (right own 0 0) w [] u (made m ∷ []) → Goes (symbol.Nonterminal 0 ∷ []) (before (flat (module_lines m)) []) [] [] (made m ∷ [])
+pub module_shown : (w u : List Tok) (m : Tree) → Trace (right own (part_number Part.Module) 0) w [] u (made m ∷ []) → Goes (part_symbol Part.Module ∷ []) (before (flat (module_lines m)) []) [] [] (made m ∷ [])
 unfolding own
 module_shown w u m trace =
     let (c, a, is, taken, name_mark) = passes_token refl (passes_begin trace) in
     let (x, is_name, d, semicolon) = passes_name name_mark in
     let (y, f, also, ended_so, begin) = passes_token refl semicolon in
     let (g, t', (ts, pile, reads), row_mark) = passes_part (passes_begin begin) in
-    let (gather, module_mark) = passes_row ts (next f) (subst (λ z. Trace (symbol.Mark 2 ∷ symbol.Mark 3 ∷ []) g z u (made m ∷ [])) pile row_mark) in
+    let (gather, module_mark) = passes_row ts (next f) (subst (λ z. Trace (mark_symbol build.Row ∷ mark_symbol build.ModuleDecl ∷ []) g z u (made m ∷ [])) pile row_mark) in
     let (closes, ends) = passes_closes build.ModuleDecl module_slots form_is.Module (named x ∷ row (trees ts) ∷ []) (next w) refl refl module_mark in
     let left = (passes_none ends).1 in
     let same : module_of x ts ≡ m = cc in
-    subst (λ z. Goes (symbol.Nonterminal 0 ∷ []) (before (flat (module_lines z)) []) [] [] (made z ∷ [])) same (module_again x ts is_name gather closes reads)
+    subst (λ z. Goes (part_symbol Part.Module ∷ []) (before (flat (module_lines z)) []) [] [] (made z ∷ [])) same (module_again x ts is_name gather closes reads)

@@ -1,6 +1,7 @@
 -- Labels of enums behind the first: a comma behind the last one is left out canonically.
 use Rattle.std.proofs.Common.{◌≡◌, List, [], refl, sym, arith}
 use Rattle.sp_parser.specs.Grammar.{right}
+use Rattle.sp_grammar.specs.Written.{Part, part_number}
 use Rattle.sp_grammar.specs.Own.{own}
 use Rattle.sp_round_trip.proofs.Held.{Pile}
 use Rattle.sp_round_trip.proofs.Goes.{Tok, nothing}
@@ -8,11 +9,11 @@ use Rattle.sp_round_trip.proofs.Shown.{Claim, Trace}
 use Rattle.sp_round_trip.proofs.Steps.{passes_token, passes_none, chosen}
 
 -- no more labels
-no_labels : (w u : List Tok) (s t : Pile) → s ≡ t → Claim 21 w s t u
+no_labels : (w u : List Tok) (s t : Pile) → s ≡ t → Claim (part_number Part.Labels) w s t u
 unfolding own
-no_labels w u s t same = ([], sym same, tt, λ last v b h. chosen 21 2 (omega arith) refl nothing)
+no_labels w u s t same = ([], sym same, tt, λ last v b h. chosen (part_number Part.Labels) 2 (omega arith) refl nothing)
 
-pub last_comma_shown : (w u : List Tok) (s t : Pile) → Trace (right own 21 1) w s u t → Claim 21 w s t u
+pub last_comma_shown : (w u : List Tok) (s t : Pile) → Trace (right own (part_number Part.Labels) 1) w s u t → Claim (part_number Part.Labels) w s t u
 unfolding own
 last_comma_shown w u s t trace =
     let (c, a, is, comma, ends) = passes_token refl trace in

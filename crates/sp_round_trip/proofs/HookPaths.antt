@@ -1,13 +1,18 @@
 -- The path of a hook that is declared by itself, and the event behind it.
 use Rattle.std.proofs.Common.{◌≡◌, ℕ, List, [], ◌∷◌, ◌++◌, Option, Some, refl, sym, ◌∙◌, arith, ap, subst}
 use Rattle.std.proofs.lemmas.List.{append-nil, append_assoc}
-use Rattle.sp_parser.specs.declared.symbol.Symbol.TheVariants as symbol
 use Rattle.sp_parser.specs.Grammar.{right, takes, All}
 use Rattle.sp_lex.specs.declared.kinds.Hook.{Hook}
 use Rattle.sp_lex.specs.declared.kinds.TokenKind.{TokenKind}
 use Rattle.sp_lex.specs.declared.kinds.TokenKind.TheVariants as token
 use Rattle.sp_lex.specs.declared.kinds.Mark.TheVariants as sign
 use Rattle.sp_grammar.specs.declared.marks.Mark.TheVariants as build
+use Rattle.sp_grammar.specs.Written.{part as part_symbol}
+use Rattle.sp_grammar.specs.Written.{mark as mark_symbol}
+use Rattle.sp_grammar.specs.Written.{kind as kind_symbol}
+use Rattle.sp_grammar.specs.Written.{Part, part_number}
+use Rattle.sp_grammar.specs.Terminals.{terminal_number}
+use Rattle.sp_grammar.specs.declared.terminals.Terminal.TheVariants as terminal
 use Rattle.sp_grammar.specs.Own.{own}
 use Rattle.sp_ast.specs.Trees.{Tree, absent, tree, trees}
 use Rattle.sp_ast.specs.declared.forms.Form.TheVariants as form_is
@@ -41,17 +46,17 @@ name_slots = several names ∷ []
 
 -- what is read behind the names xs of a path: the names ys, and the event e or none
 abbrev pub Rest : List Tree → List Tree → Tree → Type 0
-Rest xs ys e = (last : Option TokenKind) (v : List Tok) (q : Telling) (c : Pile) → Goes (symbol.Nonterminal 4 ∷ []) (before (chain (written_followed separator.Scope (parts_of (trees ys))) (framed frame.Scope (part_of e)) last) v) (pushed xs (started q ∷ c)) v (made e ∷ made (path_of (xs ++ ys)) ∷ c)
+Rest xs ys e = (last : Option TokenKind) (v : List Tok) (q : Telling) (c : Pile) → Goes (part_symbol Part.OnPath ∷ []) (before (chain (written_followed separator.Scope (parts_of (trees ys))) (framed frame.Scope (part_of e)) last) v) (pushed xs (started q ∷ c)) v (made e ∷ made (path_of (xs ++ ys)) ∷ c)
 
-name_again : (xs ys : List Tree) (e : Tree) (x : List ℕ) → takes 1 (number (entire (name x))) ≡ All → Rest (xs ++ named x ∷ []) ys e → Rest xs (named x ∷ ys) e
+name_again : (xs ys : List Tree) (e : Tree) (x : List ℕ) → takes (terminal_number terminal.Id) (number (entire (name x))) ≡ All → Rest (xs ++ named x ∷ []) ys e → Rest xs (named x ∷ ys) e
 unfolding own
 name_again xs ys e x taken rest last v q c =
     let words = before (chain (written_followed separator.Scope (parts_of (trees ys))) (framed frame.Scope (part_of e)) (Some token.Id)) v in
-    let at_names = subst (λ z. Goes (symbol.Nonterminal 4 ∷ []) words z v (made e ∷ made (path_of (xs ++ named x ∷ [] ++ ys)) ∷ c)) (pushed_append xs (named x ∷ []) (started q ∷ c)) (rest (Some token.Id) v q c) in
-    let reads = subst (λ zs. Goes (symbol.Nonterminal 4 ∷ []) words (made (named x) ∷ pushed xs (started q ∷ c)) v (made e ∷ made (path_of zs) ∷ c)) (append_assoc xs (named x ∷ []) ys) at_names in
-    chosen 4 0 (omega arith) refl (whole refl (mark build.Name refl refl (whole taken (beside reads nothing))))
+    let at_names = subst (λ z. Goes (part_symbol Part.OnPath ∷ []) words z v (made e ∷ made (path_of (xs ++ named x ∷ [] ++ ys)) ∷ c)) (pushed_append xs (named x ∷ []) (started q ∷ c)) (rest (Some token.Id) v q c) in
+    let reads = subst (λ zs. Goes (part_symbol Part.OnPath ∷ []) words (made (named x) ∷ pushed xs (started q ∷ c)) v (made e ∷ made (path_of zs) ∷ c)) (append_assoc xs (named x ∷ []) ys) at_names in
+    chosen (part_number Part.OnPath) 0 (omega arith) refl (whole refl (mark build.Name refl refl (whole taken (beside reads nothing))))
 
-pub more_path_shown : (w u : List Tok) (s t : Pile) → Trace (right own 4 0) w s u t → Claim 4 w s t u
+pub more_path_shown : (w u : List Tok) (s t : Pile) → Trace (right own (part_number Part.OnPath) 0) w s u t → Claim (part_number Part.OnPath) w s t u
 unfolding own
 more_path_shown w u s t trace xs p b same =
     let (c, a, is, taken, name_mark) = passes_token refl trace in
@@ -68,12 +73,12 @@ event_again xs h closes last v q c =
     let under : Pile = made (path_of xs) ∷ c in
     let whole_path = ap (λ zs. made event ∷ made (path_of zs) ∷ c) (sym (append-nil xs)) in
     let reads = whole refl (mark build.Path refl (closes (telling_of word) q c) (mark build.Event refl (ap (λ k. Some (made (tree (form_is.Event (hook_name_of k)) nowhere []) ∷ under)) (hook_is h)) (whole refl nothing))) in
-    chosen 4 1 (omega arith) refl (subst (λ z. Goes (symbol.Terminal 15 ∷ symbol.Mark 15 ∷ symbol.Mark 17 ∷ symbol.Terminal 16 ∷ []) (entire (fixed (token.Mark sign.ColonColon)) ∷ entire word ∷ v) (pushed xs (started q ∷ c)) v z) whole_path reads)
+    chosen (part_number Part.OnPath) 1 (omega arith) refl (subst (λ z. Goes (kind_symbol terminal.ColonColon ∷ mark_symbol build.Path ∷ mark_symbol build.Event ∷ kind_symbol terminal.Event ∷ []) (entire (fixed (token.Mark sign.ColonColon)) ∷ entire word ∷ v) (pushed xs (started q ∷ c)) v z) whole_path reads)
 
-pub path_event_shown : (w u : List Tok) (s t : Pile) → Trace (right own 4 1) w s u t → Claim 4 w s t u
+pub path_event_shown : (w u : List Tok) (s t : Pile) → Trace (right own (part_number Part.OnPath) 1) w s u t → Claim (part_number Part.OnPath) w s t u
 unfolding own
 path_event_shown w u s t trace xs p b same =
-    let (c, a, is, taken, path_mark) = passes_token refl (subst (λ z. Trace (right own 4 1) w z u t) same trace) in
+    let (c, a, is, taken, path_mark) = passes_token refl (subst (λ z. Trace (right own (part_number Part.OnPath) 1) w z u t) same trace) in
     let (closes, event_mark) = passes_closes build.Path name_slots form_is.Path xs p refl refl path_mark in
     let (h, d, ends) = passes_event event_mark in
     ([], tree (form_is.Event (hook_name_of h)) nowhere [], sym (passes_none ends).1 ∙ ap (λ zs. made (tree (form_is.Event (hook_name_of h)) nowhere []) ∷ made (path_of zs) ∷ b) (sym (append-nil xs)), event_again xs h closes)
@@ -82,10 +87,10 @@ no_event_again : (xs : List Tree) → Close name_slots form_is.Path xs → Rest 
 unfolding own
 no_event_again xs closes last v q c =
     let reads = mark build.Path refl (closes (next v) q c) (mark build.Absent refl refl nothing) in
-    chosen 4 2 (omega arith) refl (subst (λ z. Goes (symbol.Mark 15 ∷ symbol.Mark 16 ∷ []) v (pushed xs (started q ∷ c)) v z) (ap (λ zs. made absent ∷ made (path_of zs) ∷ c) (sym (append-nil xs))) reads)
+    chosen (part_number Part.OnPath) 2 (omega arith) refl (subst (λ z. Goes (mark_symbol build.Path ∷ mark_symbol build.Absent ∷ []) v (pushed xs (started q ∷ c)) v z) (ap (λ zs. made absent ∷ made (path_of zs) ∷ c) (sym (append-nil xs))) reads)
 
-pub path_end_shown : (w u : List Tok) (s t : Pile) → Trace (right own 4 2) w s u t → Claim 4 w s t u
+pub path_end_shown : (w u : List Tok) (s t : Pile) → Trace (right own (part_number Part.OnPath) 2) w s u t → Claim (part_number Part.OnPath) w s t u
 unfolding own
 path_end_shown w u s t trace xs p b same =
-    let (closes, absent_mark) = passes_closes build.Path name_slots form_is.Path xs p refl refl (subst (λ z. Trace (right own 4 2) w z u t) same trace) in
+    let (closes, absent_mark) = passes_closes build.Path name_slots form_is.Path xs p refl refl (subst (λ z. Trace (right own (part_number Part.OnPath) 2) w z u t) same trace) in
     ([], absent, sym (passes_none (passes_absent absent_mark)).1 ∙ ap (λ zs. made absent ∷ made (path_of zs) ∷ b) (sym (append-nil xs)), no_event_again xs closes)

@@ -4,6 +4,9 @@ use Rattle.sp_parser.specs.Grammar.{right, takes, All}
 use Rattle.sp_lex.specs.declared.kinds.TokenKind.TheVariants as token
 use Rattle.sp_lex.specs.declared.kinds.Mark.TheVariants as sign
 use Rattle.sp_grammar.specs.declared.marks.Mark.TheVariants as build
+use Rattle.sp_grammar.specs.Written.{Part, part_number}
+use Rattle.sp_grammar.specs.Terminals.{terminal_number}
+use Rattle.sp_grammar.specs.declared.terminals.Terminal.TheVariants as terminal
 use Rattle.sp_grammar.specs.Own.{own}
 use Rattle.sp_ast.specs.Trees.{tree}
 use Rattle.sp_ast.specs.declared.forms.Form.{Form}
@@ -30,7 +33,7 @@ use Rattle.sp_round_trip.proofs.Steps.{CloseBy, passes_token, passes_begin, pass
 abbrev pub integer_word : IntWord → Word
 integer_word a = fixed (token.Keyword (integer_keyword a))
 
-pub integer_taken : (a : IntWord) → takes 22 (number (entire (integer_word a))) ≡ All
+pub integer_taken : (a : IntWord) → takes (terminal_number terminal.IntWord) (number (entire (integer_word a))) ≡ All
 integer_taken integer.Uint8 = refl
 integer_taken a = refl
 
@@ -40,13 +43,13 @@ number_base a = form_is.Base (base_is.Number a)
 abbrev int_type : IntWord → Form
 int_type a = form_is.Type (types_is.Int a)
 
-number_base_again : (a : IntWord) (n came : ℕ) → CloseBy (slot (one_of numbers) ∷ []) (λ q. integer_of q.kind) number_base (tree (form_is.Number n) nowhere [] ∷ []) a → Shows 47 (one 1) (tree (number_base a) nowhere (tree (form_is.Number n) nowhere [] ∷ []) ∷ []) came
+number_base_again : (a : IntWord) (n came : ℕ) → CloseBy (slot (one_of numbers) ∷ []) (λ q. integer_of q.kind) number_base (tree (form_is.Number n) nowhere [] ∷ []) a → Shows (part_number Part.Base) (one 1) (tree (number_base a) nowhere (tree (form_is.Number n) nowhere [] ∷ []) ∷ []) came
 unfolding own
 number_base_again a n came closes last v s may =
     let words = entire (integer_word a) ∷ entire (fixed (token.Mark sign.LeftParen)) ∷ entire (numeral n) ∷ entire (fixed (token.Mark sign.RightParen)) ∷ v in
-    chosen 47 2 (omega arith) refl (mark build.Begin refl refl (whole (integer_taken a) (whole refl (mark build.Number refl refl (whole refl (whole refl (mark build.NumberBase refl (closes (telling_of (integer_word a)) s (integer_again a)) nothing)))))))
+    chosen (part_number Part.Base) 2 (omega arith) refl (mark build.Begin refl refl (whole (integer_taken a) (whole refl (mark build.Number refl refl (whole refl (whole refl (mark build.NumberBase refl (closes (telling_of (integer_word a)) s (integer_again a)) nothing)))))))
 
-pub number_base_shown : (w u : List Tok) (s t : Pile) → Trace (right own 47 2) w s u t → Claim 47 w s t u
+pub number_base_shown : (w u : List Tok) (s t : Pile) → Trace (right own (part_number Part.Base) 2) w s u t → Claim (part_number Part.Base) w s t u
 unfolding own
 number_base_shown w u s t trace =
     let (x, a, is, taken, parens) = passes_token refl (passes_begin trace) in
@@ -57,12 +60,12 @@ number_base_shown w u s t trace =
     let built = tree (number_base i) nowhere (tree (form_is.Number n) nowhere [] ∷ []) in
     (built ∷ [], sym (passes_none ends).1, (built, refl, refl), number_base_again i n (coming u) closes)
 
-integer_base_again : (a : IntWord) (came : ℕ) → CloseBy [] (λ q. integer_of q.kind) int_type [] a → Shows 47 (one 1) (tree (form_is.Base base_is.Type) nowhere (tree (int_type a) nowhere [] ∷ []) ∷ []) came
+integer_base_again : (a : IntWord) (came : ℕ) → CloseBy [] (λ q. integer_of q.kind) int_type [] a → Shows (part_number Part.Base) (one 1) (tree (form_is.Base base_is.Type) nowhere (tree (int_type a) nowhere [] ∷ []) ∷ []) came
 unfolding own
 integer_base_again a came closes last v s may =
-    chosen 47 3 (omega arith) refl (mark build.Begin refl refl (whole (integer_taken a) (mark build.IntBase refl (closes (telling_of (integer_word a)) s (integer_again a)) (mark build.TypeBase refl refl nothing))))
+    chosen (part_number Part.Base) 3 (omega arith) refl (mark build.Begin refl refl (whole (integer_taken a) (mark build.IntBase refl (closes (telling_of (integer_word a)) s (integer_again a)) (mark build.TypeBase refl refl nothing))))
 
-pub integer_base_shown : (w u : List Tok) (s t : Pile) → Trace (right own 47 3) w s u t → Claim 47 w s t u
+pub integer_base_shown : (w u : List Tok) (s t : Pile) → Trace (right own (part_number Part.Base) 3) w s u t → Claim (part_number Part.Base) w s t u
 unfolding own
 integer_base_shown w u s t trace =
     let (x, a, is, taken, int_base) = passes_token refl (passes_begin trace) in

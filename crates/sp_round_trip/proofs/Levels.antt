@@ -22,6 +22,7 @@ use Rattle.sp_round_trip.proofs.Goes.{Tok, entire, next, Goes, nothing, whole, m
 use Rattle.sp_round_trip.proofs.Shown.{level_part, MayPass, Spells}
 use Rattle.sp_round_trip.proofs.Words.{before_both}
 use Rattle.sp_round_trip.proofs.Steps.{beside, chosen}
+use Rattle.sp_grammar.specs.Written.{part as part_symbol}
 
 -- what the part of the next level reads is read by the part of a level
 loosen : (level : ℕ) → 1 ≤ level → level ≤ 14 → {w v : List Tok} {s t : Pile} → Goes (symbol.Nonterminal (part_number (level_part (suc level))) ∷ []) w s v t → Goes (symbol.Nonterminal (part_number (level_part level)) ∷ []) w s v t
@@ -55,7 +56,7 @@ looser (suc tight) level low fits high {w} {v} {s} {t} g = elim (cases_Bool (nat
 ]
 
 -- a Primary is a postfix operand, and so an expression of each level
-pub primary_at : (level : ℕ) → 1 ≤ level → level ≤ 15 → {w v : List Tok} {s t : Pile} → Goes (symbol.Nonterminal (part_number Part.Primary) ∷ []) w s v t → Goes (symbol.Nonterminal (part_number (level_part level)) ∷ []) w s v t
+pub primary_at : (level : ℕ) → 1 ≤ level → level ≤ 15 → {w v : List Tok} {s t : Pile} → Goes (part_symbol Part.Primary ∷ []) w s v t → Goes (symbol.Nonterminal (part_number (level_part level)) ∷ []) w s v t
 unfolding own
 primary_at level low high g = looser 15 level low high (omega arith) (chosen (part_number Part.Postfix) 4 (omega arith) refl g)
 
@@ -72,7 +73,7 @@ at_enclosed t spells level low high last v s =
     let p : Telling = next (before (enclosed (spelled t) last) v) in
     let below : Pile = started p ∷ s in
     let words = looser (level_of t) 1 (omega arith) spells.low spells.high (spells.reads (Some (kind.Mark sign.LeftParen)) (close ∷ v) below (inr refl)) in
-    let words = subst (λ w. Goes (symbol.Nonterminal (part_number Part.Expr) ∷ []) w below (close ∷ v) (made t ∷ below)) (sym (before_both inside (fixed (kind.Mark sign.RightParen) ∷ []) v)) words in
+    let words = subst (λ w. Goes (part_symbol Part.Expr ∷ []) w below (close ∷ v) (made t ∷ below)) (sym (before_both inside (fixed (kind.Mark sign.RightParen) ∷ []) v)) words in
     primary_at level low high (chosen (part_number Part.Primary) 9 (omega arith) refl (mark build.Begin refl refl (whole refl (beside words (whole refl (mark build.Paren refl (enclosed_does p (next v) t s spells.is) nothing))))))
 
 -- an expression is read at its place

@@ -2,7 +2,6 @@
 use Rattle.std.proofs.Common.{◌≡◌, ◌≢◌, ℕ, List, [], ◌∷◌, ◌++◌, true, false, Option, Some, refl, sym, ◌∙◌, subst, inl, ⊎_elim, arith}
 use Rattle.std.proofs.lemmas.Bool.{eq-eqb, ltb-true}
 use Rattle.std.proofs.lemmas.Nat.Bits.{bit_at-pow_other}
-use Rattle.sp_parser.specs.declared.symbol.Symbol.TheVariants as symbol
 use Rattle.sp_parser.specs.Grammar.{right}
 use Rattle.sp_lex.specs.declared.kinds.Keyword.TheVariants as keyword
 use Rattle.sp_lex.specs.declared.kinds.Mark.TheVariants as sign
@@ -11,7 +10,6 @@ use Rattle.sp_lex.specs.declared.kinds.TokenKind.TheVariants as kind
 use Rattle.sp_grammar.specs.declared.marks.Mark.TheVariants as build
 use Rattle.sp_grammar.specs.declared.terminals.Terminal.TheVariants as token
 use Rattle.sp_grammar.specs.Terminals.{terminal_number}
-use Rattle.sp_grammar.specs.Marks.{mark_number}
 use Rattle.sp_grammar.specs.Written.{Part, part_number}
 use Rattle.sp_grammar.specs.Own.{own}
 use Rattle.sp_ast.specs.declared.forms.Form.{Form}
@@ -33,9 +31,11 @@ use Rattle.sp_round_trip.proofs.Shown.{one as one_at, listed, arguments, yielded
 use Rattle.sp_round_trip.proofs.Words.{before_both}
 use Rattle.sp_round_trip.proofs.Levels.{primary_at}
 use Rattle.sp_round_trip.proofs.Steps.{passes_token, passes_part, passes_trees, passes_one, passes_begin, passes_row, passes_closes, passes_none, beside, chosen, Gather, Close}
+use Rattle.sp_grammar.specs.Written.{part as part_symbol}
+use Rattle.sp_grammar.specs.Written.{mark as mark_symbol}
 
 -- no arguments: nothing stands there
-without_arguments : (v : List Tok) (s : Pile) → Avoids (Some token.LeftParen) v → Goes (symbol.Nonterminal (part_number Part.NewArgs) ∷ []) v s v (made (row none) ∷ s)
+without_arguments : (v : List Tok) (s : Pile) → Avoids (Some token.LeftParen) v → Goes (part_symbol Part.NewArgs ∷ []) v s v (made (row none) ∷ s)
 unfolding own
 without_arguments v s avoids =
     let other : coming v ≢ terminal_number token.LeftParen = λ e. let q : true ≡ false = sym (eq-eqb (coming v) (terminal_number token.LeftParen) e) ∙ avoids in absurd cc in
@@ -43,7 +43,7 @@ without_arguments v s avoids =
 
 -- arguments in parentheses
 arguments_read : (ts : List Tree) (came : ℕ) → Shows (part_number Part.Args) (listed separator.Comma) ts came → Gather ts → (last : Option TokenKind) (v : List Tok) (s : Pile) → (ts ≡ [] → Avoids (Some token.LeftParen) v)
-    → Goes (symbol.Nonterminal (part_number Part.NewArgs) ∷ []) (before (yielded arguments (in_row ts ∷ []) last) v) s v (made (in_row ts) ∷ s)
+    → Goes (part_symbol Part.NewArgs ∷ []) (before (yielded arguments (in_row ts ∷ []) last) v) s v (made (in_row ts) ∷ s)
 unfolding own
 arguments_read [] came shows gathered last v s avoids = without_arguments v s (avoids refl)
 arguments_read (t ∷ ts) came shows gathered last v s avoids =
@@ -51,7 +51,7 @@ arguments_read (t ∷ ts) came shows gathered last v s avoids =
     let inside = yielded (listed separator.Comma) (t ∷ ts) (Some (kind.Mark sign.LeftParen)) in
     let p : Telling = next (before (inside ++ closing ∷ []) v) in
     let below : Pile = started p ∷ s in
-    let reads_inside = subst (λ w. Goes (symbol.Nonterminal (part_number Part.Args) ∷ []) w below (entire closing ∷ v) (pushed (t ∷ ts) below)) (sym (before_both inside (closing ∷ []) v)) (shows (Some (kind.Mark sign.LeftParen)) (entire closing ∷ v) below (inl refl)) in
+    let reads_inside = subst (λ w. Goes (part_symbol Part.Args ∷ []) w below (entire closing ∷ v) (pushed (t ∷ ts) below)) (sym (before_both inside (closing ∷ []) v)) (shows (Some (kind.Mark sign.LeftParen)) (entire closing ∷ v) below (inl refl)) in
     chosen (part_number Part.NewArgs) 0 (omega arith) refl (whole refl (mark build.Begin refl refl (beside reads_inside (whole refl (mark build.Row refl (gathered (next v) p s) nothing)))))
 
 pub has_arguments : {w u : List Tok} {s t : Pile} → Trace (right own (part_number Part.NewArgs) 0) w s u t → Claim (part_number Part.NewArgs) w s t u
@@ -86,20 +86,20 @@ IsNew path us = Close path_and_arguments new (path ∷ in_row us ∷ [])
 abbrev Arguments : List Tree → Type 0
 Arguments us =
     (last : Option TokenKind) (v : List Tok) (s : Pile) → (us ≡ [] → Avoids (Some token.LeftParen) v)
-    → Goes (symbol.Nonterminal (part_number Part.NewArgs) ∷ []) (before (yielded arguments (in_row us ∷ []) last) v) s v (made (in_row us) ∷ s)
+    → Goes (part_symbol Part.NewArgs ∷ []) (before (yielded arguments (in_row us ∷ []) last) v) s v (made (in_row us) ∷ s)
 
 new_read : (path : Tree) (us : List Tree) (came : ℕ) → Shows (part_number Part.Path) (one_at 1) (path ∷ []) came → Arguments us → IsNew path us
     → (last : Option TokenKind) (v : List Tok) (s : Pile) → (us ≡ [] → Avoids (Some token.LeftParen) v)
-    → Goes (symbol.Nonterminal (part_number Part.Primary) ∷ []) (before (spelled (new_tree path us) last) v) s v (made (new_tree path us) ∷ s)
+    → Goes (part_symbol Part.Primary ∷ []) (before (spelled (new_tree path us) last) v) s v (made (new_tree path us) ∷ s)
 unfolding own
 new_read path us came shows reads is last v s avoids =
     let named = at_place 1 false path (spelled path) (Some (kind.Keyword keyword.New)) in
     let behind = yielded arguments (in_row us ∷ []) (last_kind (Some (kind.Keyword keyword.New)) named) in
     let p : Telling = next (before (spelled (new_tree path us) last) v) in
     let below : Pile = made path ∷ started p ∷ s in
-    let reads_behind = subst (λ w. Goes (symbol.Nonterminal (part_number Part.NewArgs) ∷ []) w below v (made (in_row us) ∷ below)) (sym (before_both behind [] v)) (reads (last_kind (Some (kind.Keyword keyword.New)) named) v below avoids) in
+    let reads_behind = subst (λ w. Goes (part_symbol Part.NewArgs ∷ []) w below v (made (in_row us) ∷ below)) (sym (before_both behind [] v)) (reads (last_kind (Some (kind.Keyword keyword.New)) named) v below avoids) in
     let reads_named = shows (Some (kind.Keyword keyword.New)) (before (behind ++ []) v) (started p ∷ s) (inl tt) in
-    let reads_named = subst (λ w. Goes (symbol.Nonterminal (part_number Part.Path) ∷ []) w (started p ∷ s) (before (behind ++ []) v) below) (sym (before_both named (behind ++ []) v)) reads_named in
+    let reads_named = subst (λ w. Goes (part_symbol Part.Path ∷ []) w (started p ∷ s) (before (behind ++ []) v) below) (sym (before_both named (behind ++ []) v)) reads_named in
     chosen (part_number Part.Primary) 19 (omega arith) refl (mark build.Begin refl refl (whole refl (beside reads_named (beside reads_behind (mark build.NewExpr refl (is (next v) p s) nothing)))))
 
 new_spells : (path : Tree) (us : List Tree) (came : ℕ) → Shows (part_number Part.Path) (one_at 1) (path ∷ []) came → Arguments us → IsNew path us → Spells (new_tree path us)
@@ -125,6 +125,6 @@ makes_new {w} {u} {s} {t} g =
     let (_, _, _, _, g) = passes_token refl g in
     let (behind, path, _, shows, g) = passes_one (part_number Part.Path) 1 refl g in
     let (w1, _, (us, is_row, reads), g) = passes_part g in
-    let g = subst (λ r. Trace (symbol.Mark (mark_number build.NewExpr) ∷ []) w1 r u t) is_row g in
+    let g = subst (λ r. Trace (mark_symbol build.NewExpr ∷ []) w1 r u t) is_row g in
     let (closes, g) = passes_closes build.NewExpr path_and_arguments new (path ∷ in_row us ∷ []) (next w) refl refl g in
     (new_tree path us, sym (passes_none g).1, new_spells path us (coming behind) shows reads closes)

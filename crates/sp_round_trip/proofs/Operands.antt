@@ -1,7 +1,6 @@
 -- The alternatives of expressions whose operands stand at places of their own: a division, a call, a `new`, and a number
 -- with its type.
 use Rattle.std.proofs.Common.{◌≡◌, ℕ, List, [], ◌∷◌, ◌++◌, true, false, Some, refl, sym, ◌∙◌, subst, inl, inr, ⊎_elim, arith}
-use Rattle.sp_parser.specs.declared.symbol.Symbol.TheVariants as symbol
 use Rattle.sp_parser.specs.Grammar.{right}
 use Rattle.sp_lex.specs.declared.kinds.Mark.TheVariants as sign
 use Rattle.sp_lex.specs.declared.kinds.TokenKind.TheVariants as kind
@@ -30,6 +29,7 @@ use Rattle.sp_round_trip.proofs.Shown.{listed, yielded, Shows, Claim, MayPass, S
 use Rattle.sp_round_trip.proofs.Words.{before_both}
 use Rattle.sp_round_trip.proofs.Levels.{at_level}
 use Rattle.sp_round_trip.proofs.Steps.{passes_token, passes_mark, passes_trees, passes_expression, passes_begin, passes_row, passes_none, beside, chosen, Gather}
+use Rattle.sp_grammar.specs.Written.{part as part_symbol}
 
 abbrev division : Form
 division = form_is.Expr (expr_is.Binary binary.Divide)
@@ -49,9 +49,9 @@ divided x y x_spells y_spells joined = record {
       let left = at_place 12 true x (spelled x) last in
       let right = at_place 13 false y (spelled y) (Some (kind.Mark sign.Slash)) in
       let pass : MayPass 13 v = ⊎_elim (λ e. absurd (omega (arith, e))) (λ a. inr a) pass in
-      let reads_right = subst (λ w. Goes (symbol.Nonterminal (part_number Part.Prefix) ∷ []) w (made x ∷ s) v (made y ∷ made x ∷ s)) (sym (before_both right [] v)) (at_level y y_spells 13 (omega arith) (omega arith) false (Some (kind.Mark sign.Slash)) v (made x ∷ s) pass) in
+      let reads_right = subst (λ w. Goes (part_symbol Part.Prefix ∷ []) w (made x ∷ s) v (made y ∷ made x ∷ s)) (sym (before_both right [] v)) (at_level y y_spells 13 (omega arith) (omega arith) false (Some (kind.Mark sign.Slash)) v (made x ∷ s) pass) in
       let reads_left = at_level x x_spells 12 (omega arith) (omega arith) true last (entire slash ∷ before (right ++ []) v) s (inr refl) in
-      subst (λ w. Goes (symbol.Nonterminal (part_number Part.Product) ∷ []) w s v (made (tree division nowhere (x ∷ y ∷ [])) ∷ s)) (sym (before_both left (slash ∷ (right ++ [])) v))
+      subst (λ w. Goes (part_symbol Part.Product ∷ []) w s v (made (tree division nowhere (x ∷ y ∷ [])) ∷ s)) (sym (before_both left (slash ∷ (right ++ [])) v))
       (chosen (part_number Part.Product) 1 (omega arith) refl (beside reads_left (whole refl (beside reads_right (mark build.Divide refl (joined (next v) s) nothing)))));
 }
 
@@ -85,9 +85,9 @@ called x ts came x_spells shows gathered joined = record {
       let callee = at_place 15 false x (spelled x) last in
       let inside = yielded (listed separator.Comma) ts (Some (kind.Mark sign.LeftParen)) in
       let below : Pile = started (next (before (inside ++ closing ∷ []) v)) ∷ made x ∷ s in
-      let reads_inside = subst (λ w. Goes (symbol.Nonterminal (part_number Part.Args) ∷ []) w below (entire closing ∷ v) (pushed ts below)) (sym (before_both inside (closing ∷ []) v)) (shows (Some (kind.Mark sign.LeftParen)) (entire closing ∷ v) below (inl refl)) in
+      let reads_inside = subst (λ w. Goes (part_symbol Part.Args ∷ []) w below (entire closing ∷ v) (pushed ts below)) (sym (before_both inside (closing ∷ []) v)) (shows (Some (kind.Mark sign.LeftParen)) (entire closing ∷ v) below (inl refl)) in
       let reads_callee = at_level x x_spells 15 (omega arith) (omega arith) false last (entire opening ∷ before (inside ++ closing ∷ []) v) s (inl refl) in
-      subst (λ w. Goes (symbol.Nonterminal (part_number Part.Postfix) ∷ []) w s v (made (tree call nowhere (x ∷ in_row ts ∷ [])) ∷ s)) (sym (before_both callee (opening ∷ (inside ++ closing ∷ [])) v))
+      subst (λ w. Goes (part_symbol Part.Postfix ∷ []) w s v (made (tree call nowhere (x ∷ in_row ts ∷ [])) ∷ s)) (sym (before_both callee (opening ∷ (inside ++ closing ∷ [])) v))
       (chosen (part_number Part.Postfix) 3 (omega arith) refl (beside reads_callee (whole refl (mark build.Begin refl refl (beside reads_inside (whole refl (mark build.Row refl (gathered (next v) (next (before (inside ++ closing ∷ []) v)) (made x ∷ s)) (mark build.Call refl (joined (next v) s) nothing))))))));
 }
 

@@ -31,6 +31,7 @@ use Rattle.sp_round_trip.specs.Bare.{nowhere}
 use Rattle.sp_round_trip.specs.Told.{Telling}
 use Rattle.sp_round_trip.proofs.Held.{Pile, started, made, does}
 use Rattle.sp_round_trip.proofs.Goes.{Tok, entire, half, number, next, coming, Goes, before, pushed}
+use Rattle.sp_grammar.specs.Written.{part as part_symbol}
 
 -- how trees are written
 pub data Yield : Type 0 where
@@ -249,7 +250,7 @@ OnPathClaim s t =
     (xs : List Tree) (p : Telling) (b : Pile) → s ≡ pushed xs (started p ∷ b)
     → (ys : List Tree) × (e : Tree) × (t ≡ made e ∷ made (tree form_is.Path nowhere (xs ++ ys)) ∷ b)
     × ((last : Option TokenKind) (v : List Tok) (q : Telling) (c : Pile)
-    → Goes (symbol.Nonterminal (part_number Part.OnPath) ∷ []) (before (chain (written_followed separator.Scope (parts_of (trees ys))) (framed frame.Scope (part_of e)) last) v) (pushed xs (started q ∷ c)) v (made e ∷ made (tree form_is.Path nowhere (xs ++ ys)) ∷ c))
+    → Goes (part_symbol Part.OnPath ∷ []) (before (chain (written_followed separator.Scope (parts_of (trees ys))) (framed frame.Scope (part_of e)) last) v) (pushed xs (started q ∷ c)) v (made e ∷ made (tree form_is.Path nowhere (xs ++ ys)) ∷ c))
 
 -- The rest of an `if`, behind the branches bs: more branches, and an `else` or none.
 abbrev pub OptElseClaim : List Tok → Pile → Pile → List Tok → Type 0
@@ -258,14 +259,14 @@ OptElseClaim w s t u =
     → (cs : List Tree) × (e : Tree) × (t ≡ made (tree (form_is.Stmt stmt_is.If) nowhere (row (trees (bs ++ cs)) ∷ e ∷ [])) ∷ b)
     × ((coming w ≡ terminal_number token.Else) ⊎ ((cs ≡ []) × (e ≡ absent) × (coming w ≡ coming u)))
     × ((last : Option TokenKind) (v : List Tok) (x y : Telling) (c : Pile) → MayFollow (part_number Part.Stmt) (coming u) v
-    → Goes (symbol.Nonterminal (part_number Part.OptElse) ∷ []) (before (chain (written_followed separator.ElseIf (parts_of (trees cs))) (framed frame.Else (part_of e)) last) v) (pushed bs (started x ∷ started y ∷ c)) v (made (tree (form_is.Stmt stmt_is.If) nowhere (row (trees (bs ++ cs)) ∷ e ∷ [])) ∷ c))
+    → Goes (part_symbol Part.OptElse ∷ []) (before (chain (written_followed separator.ElseIf (parts_of (trees cs))) (framed frame.Else (part_of e)) last) v) (pushed bs (started x ∷ started y ∷ c)) v (made (tree (form_is.Stmt stmt_is.If) nowhere (row (trees (bs ++ cs)) ∷ e ∷ [])) ∷ c))
 
 -- The arguments of a `new`: a row of trees. Where it is empty nothing stands there, and then no `(` may come behind.
 abbrev pub NewArgsClaim : Pile → Pile → Type 0
 NewArgsClaim s t =
     (us : List Tree) × (t ≡ made (row (trees us)) ∷ s)
     × ((last : Option TokenKind) (v : List Tok) (b : Pile) → (us ≡ [] → Avoids (Some token.LeftParen) v)
-    → Goes (symbol.Nonterminal (part_number Part.NewArgs) ∷ []) (before (yielded arguments (row (trees us) ∷ []) last) v) b v (made (row (trees us)) ∷ b))
+    → Goes (part_symbol Part.NewArgs ∷ []) (before (yielded arguments (row (trees us) ∷ []) last) v) b v (made (row (trees us)) ∷ b))
 
 -- words of lines, one behind the other
 abbrev pub flat : List (List Word) → List Word
@@ -276,7 +277,7 @@ flat (ws ∷ lines) = ws ++ flat lines
 abbrev pub DeclsClaim : Pile → Pile → Type 0
 DeclsClaim s t =
     (ts : List Tree) × (t ≡ pushed ts s)
-    × ((v : List Tok) (b : Pile) → Goes (symbol.Nonterminal (part_number Part.Decls) ∷ []) (before (flat (lines_of (trees ts))) v) b v (pushed ts b))
+    × ((v : List Tok) (b : Pile) → Goes (part_symbol Part.Decls ∷ []) (before (flat (lines_of (trees ts))) v) b v (pushed ts b))
 
 -- what is claimed of a part that was read from w to u, and from the pile s to the pile t
 abbrev pub ClaimAs : Manner → ℕ → List Tok → Pile → Pile → List Tok → Type 0

@@ -8,7 +8,7 @@ use Rattle.sp_parser.specs.declared.symbol.Symbol.{Symbol}
 use Rattle.sp_parser.specs.declared.symbol.Symbol.TheVariants as symbol
 use Rattle.sp_parser.specs.Grammar.{right, takes, First, All, Nothing, CLOSE, SECOND, production_of, productions_of, ahead}
 use Rattle.sp_grammar.specs.declared.marks.Mark.{Mark}
-use Rattle.sp_grammar.specs.Marks.{mark_with, mark_number}
+use Rattle.sp_grammar.specs.Marks.{mark_with}
 use Rattle.sp_grammar.specs.Terminals.{terminal_number}
 use Rattle.sp_grammar.specs.declared.terminals.Terminal.TheVariants as terminal
 use Rattle.sp_grammar.specs.Own.{own}
@@ -38,6 +38,8 @@ use Rattle.sp_round_trip.proofs.Goes.{Tok, entire, half, tells, number, next, co
 use Rattle.sp_round_trip.proofs.Shown.{Spells, expression, Claim, ClaimAs, Yield, Fits, Shows, MayFollow, Avoids, avoided, is_kept, plain, one, manner_of, Trace, ended, token_passed, half_passed, mark_passed, part_passed}
 use Rattle.sp_build.proofs.Standing.{not_some, some_equal}
 use Rattle.sp_build.proofs.Told.{never}
+use Rattle.sp_grammar.specs.Written.{mark as mark_symbol}
+use Rattle.sp_grammar.specs.Written.{kind as kind_symbol}
 
 pub never_first : (b : Bool) → cond b All Nothing ≡ First → ⊥
 never_first true h = absurd cc
@@ -95,18 +97,18 @@ passes_expression n level {ss = ss} {w = w} {v = v} {s = s} {z = z} is trace =
     let (x, pile, spells) = subst (λ m. ClaimAs m n w s t u) is claim in (u, x, spells, subst (λ p. Trace ss u p v z) pile rest)
 
 -- the beginning of a tree
-pub passes_begin : {ss : List Symbol} {w v : List Tok} {s u : Pile} → Trace (symbol.Mark (mark_number build.Begin) ∷ ss) w s v u → Trace ss w (started (next w) ∷ s) v u
+pub passes_begin : {ss : List Symbol} {w v : List Tok} {s u : Pile} → Trace (mark_symbol build.Begin ∷ ss) w s v u → Trace ss w (started (next w) ∷ s) v u
 passes_begin {w = w} {s = s} trace = passes_known build.Begin (started (next w) ∷ s) refl refl trace
 
 -- a part that is left out
-pub passes_absent : {ss : List Symbol} {w v : List Tok} {s u : Pile} → Trace (symbol.Mark (mark_number build.Absent) ∷ ss) w s v u → Trace ss w (made absent ∷ s) v u
+pub passes_absent : {ss : List Symbol} {w v : List Tok} {s u : Pile} → Trace (mark_symbol build.Absent ∷ ss) w s v u → Trace ss w (made absent ∷ s) v u
 passes_absent {s = s} trace = passes_known build.Absent (made absent ∷ s) refl refl trace
 
 -- trees that make a row wherever they stand behind a beginning
 abbrev pub Gather : List Tree → Type 0
 Gather us = (x q : Telling) (c : Pile) → does gathers x (pushed us (started q ∷ c)) ≡ Some (made (in_row us) ∷ c)
 
-pub passes_row : (us : List Tree) (p : Telling) {ss : List Symbol} {w v : List Tok} {s u : Pile} → Trace (symbol.Mark (mark_number build.Row) ∷ ss) w (pushed us (started p ∷ s)) v u → Gather us × Trace ss w (made (in_row us) ∷ s) v u
+pub passes_row : (us : List Tree) (p : Telling) {ss : List Symbol} {w v : List Tok} {s u : Pile} → Trace (mark_symbol build.Row ∷ ss) w (pushed us (started p ∷ s)) v u → Gather us × Trace ss w (made (in_row us) ∷ s) v u
 passes_row us p {ss = ss} {w = w} {v = v} {s = s} {u = u} trace =
     let (t, done, rest) = passes_mark build.Row refl trace in
     let (is, gather) = gathered_all us p s t (next w) done in
@@ -142,21 +144,21 @@ passes_leaf {e = e} m l {ss = ss} {w = w} {v = v} {s = s} {z = z} is does_so its
     (word, form, subst (λ y. takes e (number y) ≡ All) is_word taken, told_so, rest, subst (λ p. Trace ss rest p v z) pile ends)
 
 -- the tree of a name, of a number and of an event
-pub passes_name : {ss : List Symbol} {w v : List Tok} {s z : Pile} → Trace (symbol.Mark (mark_number build.Name) ∷ symbol.Terminal (terminal_number terminal.Id) ∷ ss) w s v z
+pub passes_name : {ss : List Symbol} {w v : List Tok} {s z : Pile} → Trace (mark_symbol build.Name ∷ kind_symbol terminal.Id ∷ ss) w s v z
     → (x : List ℕ) × (takes (terminal_number terminal.Id) (number (entire (name x))) ≡ All) × (rest : List Tok) × Trace ss rest (made (tree (form_is.Name x) nowhere []) ∷ s) v z
 passes_name {ss = ss} {v = v} {s = s} {z = z} trace =
     let (x, form, taken, told, rest, behind) = passes_leaf build.Name (by_name (λ y. form_is.Name y)) refl refl refl refl trace in
     let (y, is, its) = name_told (read_as x) x form told in
     (y, subst (λ q. takes (terminal_number terminal.Id) (number (entire q)) ≡ All) is taken, rest, subst (λ f. Trace ss rest (made (tree f nowhere []) ∷ s) v z) its behind)
 
-pub passes_number : {ss : List Symbol} {w v : List Tok} {s z : Pile} → Trace (symbol.Mark (mark_number build.Number) ∷ symbol.Terminal (terminal_number terminal.Number) ∷ ss) w s v z
+pub passes_number : {ss : List Symbol} {w v : List Tok} {s z : Pile} → Trace (mark_symbol build.Number ∷ kind_symbol terminal.Number ∷ ss) w s v z
     → (n : ℕ) × (rest : List Tok) × Trace ss rest (made (tree (form_is.Number n) nowhere []) ∷ s) v z
 passes_number {ss = ss} {v = v} {s = s} {z = z} trace =
     let (x, form, taken, told, rest, behind) = passes_leaf build.Number (by_number (λ n. form_is.Number n)) refl refl refl refl trace in
     let (n, its) = number_told (read_as x) x form told in
     (n, rest, subst (λ f. Trace ss rest (made (tree f nowhere []) ∷ s) v z) its behind)
 
-pub passes_event : {ss : List Symbol} {w v : List Tok} {s z : Pile} → Trace (symbol.Mark (mark_number build.Event) ∷ symbol.Terminal (terminal_number terminal.Event) ∷ ss) w s v z
+pub passes_event : {ss : List Symbol} {w v : List Tok} {s z : Pile} → Trace (mark_symbol build.Event ∷ kind_symbol terminal.Event ∷ ss) w s v z
     → (h : Hook) × (rest : List Tok) × Trace ss rest (made (tree (form_is.Event (hook_name_of h)) nowhere []) ∷ s) v z
 passes_event {ss = ss} {v = v} {s = s} {z = z} trace =
     let (x, form, taken, told, rest, behind) = passes_leaf build.Event (by_event (λ h. form_is.Event h)) refl refl refl refl trace in
