@@ -69,7 +69,7 @@ declarations_again x ts k decl more v b =
     let rest = before (flat (lines_of (trees ts))) v in
     let words = before_both line (flat (lines_of (trees ts))) v ∙ ap (λ ws. before ws rest) (sym (line_words x)) in
     let reads = beside (decl None rest b (inl tt)) (beside (more v (made x ∷ b)) nothing) in
-    chosen (part_number Part.Decls) 0 (omega arith) refl (subst (λ z. Goes (part_symbol Part.Decl ∷ part_symbol Part.Decls ∷ []) z b v (pushed (x ∷ ts) b)) (sym words) reads)
+    chosen (part_number Part.Decls) 0 (omega arith) refl (subst (λ z. Goes (right own (part_number Part.Decls) 0) z b v (pushed (x ∷ ts) b)) (sym words) reads)
 
 pub declarations_shown : (w u : List Tok) (s t : Pile) → Trace (right own (part_number Part.Decls) 0) w s u t → Claim (part_number Part.Decls) w s t u
 unfolding own

@@ -122,7 +122,7 @@ else_again bs e came behind is_one same gather statement closes last v p q c may
     let under : Pile = made (row (trees bs)) ∷ started q ∷ c in
     let reads = whole refl (mark build.Row refl (gather (next (before body v)) p (started q ∷ c)) (beside (statement else_kind v under (subst (λ k. MayFollow (part_number Part.Other) k v) (sym same) may)) (mark build.IfStmt refl (closes (next v) q c) nothing))) in
     let built = subst (λ zs. Goes (kind_symbol terminal.Else ∷ mark_symbol build.Row ∷ part_symbol Part.Other ∷ mark_symbol build.IfStmt ∷ []) (entire (fixed (token.Keyword keyword.Else)) ∷ before body v) (pushed bs (started p ∷ started q ∷ c)) v (made (if_tree zs e) ∷ c)) (sym (append-nil bs)) reads in
-    chosen (part_number Part.OptElse) 1 (omega arith) refl (subst (λ z. Goes (kind_symbol terminal.Else ∷ mark_symbol build.Row ∷ part_symbol Part.Other ∷ mark_symbol build.IfStmt ∷ []) z (pushed bs (started p ∷ started q ∷ c)) v (made (if_tree (bs ++ []) e) ∷ c)) (sym words) built)
+    chosen (part_number Part.OptElse) 1 (omega arith) refl (subst (λ z. Goes (right own (part_number Part.OptElse) 1) z (pushed bs (started p ∷ started q ∷ c)) v (made (if_tree (bs ++ []) e) ∷ c)) (sym words) built)
 
 pub else_shown : (w u : List Tok) (s t : Pile) → Trace (right own (part_number Part.OptElse) 1) w s u t → Claim (part_number Part.OptElse) w s t u
 unfolding own

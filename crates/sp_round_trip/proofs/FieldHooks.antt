@@ -3,7 +3,6 @@ use Rattle.std.proofs.Common.{◌≡◌, ℕ, List, [], ◌∷◌, ◌++◌, Opt
 use Rattle.sp_parser.specs.Grammar.{right}
 use Rattle.sp_lex.specs.declared.kinds.TokenKind.{TokenKind}
 use Rattle.sp_grammar.specs.declared.marks.Mark.TheVariants as build
-use Rattle.sp_grammar.specs.Written.{part as part_symbol}
 use Rattle.sp_grammar.specs.Written.{mark as mark_symbol}
 use Rattle.sp_grammar.specs.Written.{Part, part_number}
 use Rattle.sp_grammar.specs.Own.{own}
@@ -38,7 +37,7 @@ hooks_again x us came i k l gather hook more semicolon last v s may =
     let words = ap (λ z. before (first ++ z) v) (nothing_between us behind) ∙ before_both first rest v in
     let inner : Pile = started (next (before first (before rest v))) ∷ s in
     let reads = beside (hook last (before rest v) inner (inl tt)) (beside (more behind v (made x ∷ inner) (inl tt)) (beside (semicolon behind v (pushed us (made x ∷ inner)) (inl tt)) (mark build.Row refl (gather (next v) _ s) nothing))) in
-    chosen (part_number Part.FieldEnd) 1 (omega arith) refl (subst (λ z. Goes (mark_symbol build.Begin ∷ part_symbol Part.FieldHook ∷ part_symbol Part.FieldHooks ∷ part_symbol Part.OptSemi ∷ mark_symbol build.Row ∷ []) z s v (made (in_row (x ∷ us)) ∷ s)) (sym words) (mark build.Begin refl refl reads))
+    chosen (part_number Part.FieldEnd) 1 (omega arith) refl (subst (λ z. Goes (right own (part_number Part.FieldEnd) 1) z s v (made (in_row (x ∷ us)) ∷ s)) (sym words) (mark build.Begin refl refl reads))
 
 pub hooks_shown : (w u : List Tok) (s t : Pile) → Trace (right own (part_number Part.FieldEnd) 1) w s u t → Claim (part_number Part.FieldEnd) w s t u
 unfolding own

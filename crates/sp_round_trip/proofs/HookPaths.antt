@@ -8,8 +8,6 @@ use Rattle.sp_lex.specs.declared.kinds.TokenKind.TheVariants as token
 use Rattle.sp_lex.specs.declared.kinds.Mark.TheVariants as sign
 use Rattle.sp_grammar.specs.declared.marks.Mark.TheVariants as build
 use Rattle.sp_grammar.specs.Written.{part as part_symbol}
-use Rattle.sp_grammar.specs.Written.{mark as mark_symbol}
-use Rattle.sp_grammar.specs.Written.{kind as kind_symbol}
 use Rattle.sp_grammar.specs.Written.{Part, part_number}
 use Rattle.sp_grammar.specs.Terminals.{terminal_number}
 use Rattle.sp_grammar.specs.declared.terminals.Terminal.TheVariants as terminal
@@ -73,7 +71,7 @@ event_again xs h closes last v q c =
     let under : Pile = made (path_of xs) ∷ c in
     let whole_path = ap (λ zs. made event ∷ made (path_of zs) ∷ c) (sym (append-nil xs)) in
     let reads = whole refl (mark build.Path refl (closes (telling_of word) q c) (mark build.Event refl (ap (λ k. Some (made (tree (form_is.Event (hook_name_of k)) nowhere []) ∷ under)) (hook_is h)) (whole refl nothing))) in
-    chosen (part_number Part.OnPath) 1 (omega arith) refl (subst (λ z. Goes (kind_symbol terminal.ColonColon ∷ mark_symbol build.Path ∷ mark_symbol build.Event ∷ kind_symbol terminal.Event ∷ []) (entire (fixed (token.Mark sign.ColonColon)) ∷ entire word ∷ v) (pushed xs (started q ∷ c)) v z) whole_path reads)
+    chosen (part_number Part.OnPath) 1 (omega arith) refl (subst (λ z. Goes (right own (part_number Part.OnPath) 1) (entire (fixed (token.Mark sign.ColonColon)) ∷ entire word ∷ v) (pushed xs (started q ∷ c)) v z) whole_path reads)
 
 pub path_event_shown : (w u : List Tok) (s t : Pile) → Trace (right own (part_number Part.OnPath) 1) w s u t → Claim (part_number Part.OnPath) w s t u
 unfolding own
@@ -87,7 +85,7 @@ no_event_again : (xs : List Tree) → Close name_slots form_is.Path xs → Rest 
 unfolding own
 no_event_again xs closes last v q c =
     let reads = mark build.Path refl (closes (next v) q c) (mark build.Absent refl refl nothing) in
-    chosen (part_number Part.OnPath) 2 (omega arith) refl (subst (λ z. Goes (mark_symbol build.Path ∷ mark_symbol build.Absent ∷ []) v (pushed xs (started q ∷ c)) v z) (ap (λ zs. made absent ∷ made (path_of zs) ∷ c) (sym (append-nil xs))) reads)
+    chosen (part_number Part.OnPath) 2 (omega arith) refl (subst (λ z. Goes (right own (part_number Part.OnPath) 2) v (pushed xs (started q ∷ c)) v z) (ap (λ zs. made absent ∷ made (path_of zs) ∷ c) (sym (append-nil xs))) reads)
 
 pub path_end_shown : (w u : List Tok) (s t : Pile) → Trace (right own (part_number Part.OnPath) 2) w s u t → Claim (part_number Part.OnPath) w s t u
 unfolding own
