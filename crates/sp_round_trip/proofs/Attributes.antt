@@ -27,11 +27,10 @@ use Rattle.sp_print.specs.Own.{attribute_token}
 use Rattle.sp_print.specs.Words.{Word, fixed}
 use Rattle.sp_round_trip.specs.Bare.{nowhere}
 use Rattle.sp_round_trip.proofs.Held.{Pile, started, made}
-use Rattle.sp_round_trip.proofs.Goes.{Tok, entire, telling_of, number, next, coming, before, pushed, Goes, nothing, whole, mark, part}
+use Rattle.sp_round_trip.proofs.Goes.{Tok, entire, telling_of, number, next, coming, before, pushed, Goes, nothing, whole, mark, part, before_both}
 use Rattle.sp_round_trip.proofs.Shown.{Claim, Trace, optional, listed, yielded, Shows, MayFollow}
 use Rattle.sp_round_trip.proofs.Leaves.{attribute_again}
 use Rattle.sp_round_trip.proofs.Steps.{CloseBy, passes_token, passes_begin, passes_trees, passes_attribute, passes_none, beside, reads_mark, reads_token, reads_nothing, unavoided, chosen}
-use Rattle.sp_round_trip.proofs.Words.{before_both}
 use Rattle.sp_round_trip.proofs.FieldHooks.{nothing_between}
 
 -- the word of an attribute

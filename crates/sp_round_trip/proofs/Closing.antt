@@ -1,7 +1,7 @@
 -- What the marks build of the trees on top of a pile, where these are all since one began, or as many as the mark wants.
 -- What is built, and whether it is, does not depend on what lies below.
 use Rattle.std.specs.Prelude.{option_map, if◌then◌else◌}
-use Rattle.std.proofs.Common.{◌≡◌, zero, suc, pred, List, [], ◌∷◌, ◌++◌, reverse, length, Bool, true, false, Option, Some, None, refl, sym, ap, subst, inl, inr, ◌∙◌}
+use Rattle.std.proofs.Common.{◌≡◌, zero, suc, pred, List, [], ◌∷◌, reverse, length, Bool, true, false, Option, Some, None, refl, sym, ap, subst, inl, inr, ◌∙◌}
 use mathlib.Core.List.{reverse_aux}
 use Rattle.std.proofs.lemmas.Bool.{cases_Bool}
 use Rattle.std.proofs.lemmas.List.{reverse-reverse, length-reverse}
@@ -19,10 +19,6 @@ use Rattle.sp_round_trip.proofs.Held.{Pile, started, made, After, after, after_d
 use Rattle.sp_round_trip.proofs.Goes.{pushed}
 use Rattle.sp_build.proofs.Standing.{not_some}
 use Rattle.sp_build.proofs.Told.{never}
-
-pub pushed_append : (ts us : List Tree) (s : Pile) → pushed (ts ++ us) s ≡ pushed us (pushed ts s)
-pushed_append [] us s = refl
-pushed_append (t ∷ ts) us s = pushed_append ts us (made t ∷ s)
 
 -- trees on top of a pile, the last one first
 abbrev heaped : List Tree → Pile → Pile

@@ -2,6 +2,8 @@
 -- build, and back.
 use Rattle.std.specs.Prelude.{option_map}
 use Rattle.std.proofs.Common.{◌≡◌, ℕ, suc, ◌+◌, get_or, arith, List, [], ◌∷◌, map, Bool, true, false, cond, ◌==◌, Option, Some, refl, ap, sym, ◌∙◌, subst}
+use Rattle.std.proofs.Math.ListN.{get_or-map}
+use Rattle.std.proofs.lemmas.Simd.{map-map}
 use Rattle.sp_lex.specs.Lexed.{Lexed}
 use Rattle.sp_parser.specs.declared.symbol.Symbol.{Symbol}
 use Rattle.sp_parser.specs.declared.symbol.Event.{Event}
@@ -30,7 +32,7 @@ use Rattle.sp_round_trip.proofs.Held.{Pile, made, does, does_all}
 use Rattle.sp_round_trip.proofs.Goes.{Tok, entire, half, tells, number, ending, next, Goes, telling_of, before}
 use Rattle.sp_round_trip.proofs.Goes as goes
 use Rattle.sp_round_trip.proofs.Machine.{piled, tell_at, all_held, of_bare}
-use Rattle.sp_round_trip.proofs.Telling.{get_map, map_of, one_left}
+use Rattle.sp_round_trip.proofs.Telling.{one_left}
 use Rattle.sp_build.proofs.Standing.{then_some}
 use Rattle.sp_build.proofs.Shapes.{and_then}
 use Rattle.sp_grammar.specs.Written.{part as part_symbol}
@@ -137,7 +139,7 @@ stand_if_told tell (w ∷ ws) i h = (ap tell (omega arith) ∙ h 0, stand_if_tol
 
 -- the words that the tokens of a text tell stand there
 told_stand : (lexed : Lexed) (ws : List Word) → told lexed ≡ map telling_of ws → Stands (tell_at lexed.text lexed.list) 0 (before ws [])
-told_stand lexed ws e = stand_if_told (tell_at lexed.text lexed.list) ws 0 (λ n. ap (tell_at lexed.text lexed.list) (omega arith) ∙ get_map (telling lexed.text) lexed.list n no_token ∙ ap (λ ts. get_or ts n ending) e)
+told_stand lexed ws e = stand_if_told (tell_at lexed.text lexed.list) ws 0 (λ n. ap (tell_at lexed.text lexed.list) (omega arith) ∙ sym (get_or-map (telling lexed.text) lexed.list n no_token) ∙ ap (λ ts. get_or ts n ending) e)
 
 numbers_before : (ws : List Word) → map (λ t. let x : Telling = t in number_of (terminal_of x.kind)) (map telling_of ws) ≡ map number (before ws [])
 numbers_before [] = refl
@@ -146,7 +148,7 @@ numbers_before (w ∷ ws) = ap (λ ks. number (entire w) ∷ ks) (numbers_before
 -- and their kinds are those of the tokens
 told_numbers : (lexed : Lexed) (ws : List Word) → told lexed ≡ map telling_of ws → numbers_of lexed.list ≡ map number (before ws [])
 told_numbers lexed ws e =
-    map_of (telling lexed.text) (λ t. let x : Telling = t in number_of (terminal_of x.kind)) lexed.list
+    sym (map-map (λ t. let x : Telling = t in number_of (terminal_of x.kind)) (telling lexed.text) lexed.list)
     ∙ ap (λ ts. map (λ t. let x : Telling = t in number_of (terminal_of x.kind)) ts) e ∙ numbers_before ws
 
 -- the reading of a module that reads all words and builds this

@@ -33,11 +33,9 @@ use Rattle.sp_print.specs.Words.{Word, fixed}
 use Rattle.sp_round_trip.specs.Bare.{nowhere}
 use Rattle.sp_round_trip.specs.Told.{Telling}
 use Rattle.sp_round_trip.proofs.Held.{Pile, started, made}
-use Rattle.sp_round_trip.proofs.Goes.{Tok, entire, number, next, coming, before, pushed, Goes, nothing, whole, mark, part}
+use Rattle.sp_round_trip.proofs.Goes.{Tok, entire, number, next, coming, before, pushed, Goes, nothing, whole, mark, part, before_both, pushed_append}
 use Rattle.sp_round_trip.proofs.Shown.{Claim, OptElseClaim, Trace, one, yielded, Shows, MayFollow}
 use Rattle.sp_round_trip.proofs.Steps.{Gather, Close, is_token, passes_token, passes_absent, passes_part, passes_one, passes_row, passes_closes, passes_none, beside, chosen}
-use Rattle.sp_round_trip.proofs.Closing.{pushed_append}
-use Rattle.sp_round_trip.proofs.Words.{before_both}
 use Rattle.sp_round_trip.proofs.Piles.{last_both}
 use Rattle.sp_build.proofs.Told.{never}
 

@@ -11,10 +11,9 @@ use Rattle.sp_print.specs.Canonical.{last_kind, parts_of}
 use Rattle.sp_print.specs.Canonical.{listed as written_listed, followed as written_followed}
 use Rattle.sp_print.specs.declared.layouts.Separator.TheVariants as separator
 use Rattle.sp_round_trip.proofs.Held.{Pile, started, made}
-use Rattle.sp_round_trip.proofs.Goes.{Tok, next, coming, before, pushed, Goes, nothing, whole, mark}
+use Rattle.sp_round_trip.proofs.Goes.{Tok, next, coming, before, pushed, Goes, nothing, whole, mark, before_both}
 use Rattle.sp_round_trip.proofs.Shown.{Claim, Trace, one, hooks, listed, silent, yielded, Shows}
 use Rattle.sp_round_trip.proofs.Steps.{Gather, passes_token, passes_one, passes_trees, passes_begin, passes_row, passes_none, beside, chosen}
-use Rattle.sp_round_trip.proofs.Words.{before_both}
 
 -- where nothing stands between them, trees are written alike behind another one
 pub nothing_between : (us : List Tree) (last : Option TokenKind) → written_followed separator.Nothing (parts_of (trees us)) last ≡ written_listed separator.Nothing (parts_of (trees us)) last

@@ -184,16 +184,12 @@ suits form slots = wants form slots && are_free (but_slot form slots) && rows_fr
 
 is_of_like : (g h : Group) (t : Tree) → same_group g h ≡ true → is_of h t ≡ true → is_of g t ≡ true
 is_of_like g h (node form span ts) e f = eq-eqb (group_number g) (group_number (group form)) (eqb-true (group_number g) (group_number h) e ∙ eqb-true (group_number h) (group_number (group form)) f)
-is_of_like g h (row ts) e f = cc
-is_of_like g h absent e f = cc
+is_of_like g h t e f = cc
 
 first_of : (g : Group) (slots : List Slot) (ts : List Tree) → is_in g (group_first slots) ≡ true → Fill slots ts → is_of g (first (trees ts)) ≡ true
 first_of g (part (one h) ∷ slots) (t ∷ ts) e fill = is_of_like g h t e fill.0
 first_of g (part (one h) ∷ slots) [] e fill = absurd fill
-first_of g (part (optional h) ∷ slots) ts e fill = cc
-first_of g (part (rows h) ∷ slots) ts e fill = cc
-first_of g (several h ∷ slots) ts e fill = cc
-first_of g [] ts e fill = cc
+first_of g slots ts e fill = cc
 
 second_of : (g : Group) (slots : List Slot) (ts : List Tree) → is_in g (group_second slots) ≡ true → Fill slots ts → is_of g (second (trees ts)) ≡ true
 second_of g (part sort ∷ slots) (t ∷ ts) e fill = first_of g slots ts e fill.2
@@ -204,27 +200,19 @@ second_of g [] ts e fill = cc
 -- a tree of a group is of an alternative of it
 path_is : (t : Tree) → is_of paths t ≡ true → is_path t ≡ true
 path_is (node form_is.Path span ts) e = refl
-path_is (node form span ts) e = cc
-path_is (row ts) e = cc
-path_is absent e = cc
+path_is t e = cc
 
 expression_is : (t : Tree) → is_of expressions t ≡ true → is_expression t ≡ true
 expression_is (node (form_is.Expr form) span ts) e = refl
-expression_is (node form span ts) e = cc
-expression_is (row ts) e = cc
-expression_is absent e = cc
+expression_is t e = cc
 
 pub name_is : (t : Tree) → is_of names t ≡ true → is_name t ≡ true
 name_is (node (form_is.Name x) span ts) e = refl
-name_is (node form span ts) e = cc
-name_is (row ts) e = cc
-name_is absent e = cc
+name_is t e = cc
 
 declaration_is : (t : Tree) → is_of declarations t ≡ true → is_declaration t ≡ true
 declaration_is (node (form_is.Decl form) span ts) e = refl
-declaration_is (node form span ts) e = cc
-declaration_is (row ts) e = cc
-declaration_is absent e = cc
+declaration_is t e = cc
 
 declarations_are : (g : Group) (ts : Trees) → same_group declarations g ≡ true → are_of g ts ≡ true → AreDeclarations ts
 declarations_are g none e all = tt

@@ -27,11 +27,10 @@ use Rattle.sp_print.specs.Words.{fixed, name}
 use Rattle.sp_round_trip.specs.Bare.{nowhere}
 use Rattle.sp_round_trip.specs.Told.{Telling}
 use Rattle.sp_round_trip.proofs.Held.{Pile, started, made}
-use Rattle.sp_round_trip.proofs.Goes.{Tok, entire, telling_of, number, next, before, pushed, Goes, nothing, whole, mark}
+use Rattle.sp_round_trip.proofs.Goes.{Tok, entire, telling_of, number, next, before, pushed, Goes, nothing, whole, mark, pushed_append}
 use Rattle.sp_round_trip.proofs.Shown.{Claim, Trace}
 use Rattle.sp_round_trip.proofs.Leaves.{hook_is}
 use Rattle.sp_round_trip.proofs.Steps.{Close, passes_token, passes_absent, passes_name, passes_event, passes_part, passes_closes, passes_none, beside, chosen}
-use Rattle.sp_round_trip.proofs.Closing.{pushed_append}
 
 abbrev pub named : List ℕ → Tree
 named x = tree (form_is.Name x) nowhere []

@@ -15,10 +15,9 @@ use Rattle.sp_print.specs.declared.layouts.Frame.TheVariants as frame
 use Rattle.sp_print.specs.declared.layouts.Separator.TheVariants as separator
 use Rattle.sp_print.specs.Words.{fixed}
 use Rattle.sp_round_trip.proofs.Held.{Pile, started, made}
-use Rattle.sp_round_trip.proofs.Goes.{Tok, entire, next, coming, before, Goes, nothing, whole, mark}
+use Rattle.sp_round_trip.proofs.Goes.{Tok, entire, next, coming, before, Goes, nothing, whole, mark, before_both}
 use Rattle.sp_round_trip.proofs.Shown.{Claim, OptElseClaim, Trace, one, yielded, Shows}
 use Rattle.sp_round_trip.proofs.Steps.{passes_token, passes_begin, passes_part, passes_one, passes_none, beside, chosen}
-use Rattle.sp_round_trip.proofs.Words.{before_both}
 use Rattle.sp_round_trip.proofs.ElseBranches.{if_tree, rest_words, Came, Rest, behind_branch, branch_then}
 
 if_again : (x : Tree) (cs : List Tree) (e : Tree) (came behind : ℕ) → Came cs e came behind → Shows (part_number Part.Branch) (one 1) (x ∷ []) came → Rest (x ∷ []) cs e behind → Shows (part_number Part.Stmt) (one 1) (if_tree (x ∷ cs) e ∷ []) behind

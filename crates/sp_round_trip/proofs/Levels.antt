@@ -18,9 +18,8 @@ use Rattle.sp_print.specs.Canonical.{enclosed, at_place, needs_parentheses, leve
 use Rattle.sp_print.specs.Words.{fixed}
 use Rattle.sp_round_trip.specs.Told.{Telling}
 use Rattle.sp_round_trip.proofs.Held.{Pile, started, made, does, after, after_do, put, start}
-use Rattle.sp_round_trip.proofs.Goes.{Tok, entire, next, Goes, nothing, whole, mark, before}
+use Rattle.sp_round_trip.proofs.Goes.{Tok, entire, next, Goes, nothing, whole, mark, before, before_both}
 use Rattle.sp_round_trip.proofs.Shown.{level_part, MayPass, Spells}
-use Rattle.sp_round_trip.proofs.Words.{before_both}
 use Rattle.sp_round_trip.proofs.Steps.{beside, chosen}
 use Rattle.sp_grammar.specs.Written.{part as part_symbol}
 

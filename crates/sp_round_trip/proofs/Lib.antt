@@ -43,4 +43,3 @@ pub mod Tells
 pub mod Tops
 pub mod TypedNumbers
 pub mod Worded
-pub mod Words

@@ -34,16 +34,14 @@ tell_at source tokens n = telling source (token_of tokens n)
 
 group_bare : (t : Tree) → tree_group (bare t) ≡ tree_group t
 group_bare absent = refl
-group_bare (row ts) = refl
-group_bare (node form span ts) = refl
+group_bare t = refl
 
 pub of_bare : (g : Group) (t : Tree) → is_of g (bare t) ≡ is_of g t
 of_bare g t = ap (λ h. is_in g h) (group_bare t)
 
 node_bare : (t : Tree) → is_node (bare t) ≡ is_node t
 node_bare absent = refl
-node_bare (row ts) = refl
-node_bare (node form span ts) = refl
+node_bare t = refl
 
 are_bare : (g : Group) (ts : Trees) → are_of g (bares ts) ≡ are_of g ts
 are_bare g none = refl
@@ -64,8 +62,7 @@ bare_trees (t ∷ ts) = ap (λ rest. more (bare t) rest) (bare_trees ts)
 
 respan_bare : (span : _) (t : Tree) → bare (respan span t) ≡ bare t
 respan_bare span absent = refl
-respan_bare span (row ts) = refl
-respan_bare span (node form old ts) = refl
+respan_bare span t = refl
 
 if_some : {A B : Type 0} (k : A → B) (b : Bool) (x : A) → option_map k (if b then Some x else None) ≡ (if b then Some (k x) else None)
 if_some k true x = refl
@@ -137,9 +134,8 @@ module _ (tell : ℕ → Telling) where
       ∙ ap (λ x. let found : After (List Tree) = x in filled slots found.value found.rest) (front_held (is_of g) (of_bare g) s ts)
 
   start_held : (s : Stack) → option_map (kept tell) (opened s) ≡ start (piled tell s)
-  start_held [] = refl
   start_held (begun n ∷ s) = refl
-  start_held (built t ∷ s) = refl
+  start_held s = refl
 
   start_then : (s : Stack) (go : ℕ → Stack → Option Stack) (on : Telling → Pile → Option Pile) → ((p : ℕ) (below : Stack) → option_map (piled tell) (go p below) ≡ on (tell p) (piled tell below))
       → option_map (piled tell) (then_do (opened s) go) ≡ after_do (start (piled tell s)) on

@@ -21,8 +21,8 @@ use Rattle.sp_print.specs.Words.{Word, fixed}
 use Rattle.sp_round_trip.specs.Bare.{nowhere}
 use Rattle.sp_round_trip.specs.Told.{Telling}
 use Rattle.sp_round_trip.proofs.Held.{Pile, started, made, does, form_told, put_if}
-use Rattle.sp_round_trip.proofs.Goes.{Tok, entire, tells, telling_of, number, pushed}
-use Rattle.sp_round_trip.proofs.Closing.{pushed_append, closed_all, gathered_all, joined_all, wrapped, are_parts}
+use Rattle.sp_round_trip.proofs.Goes.{Tok, entire, tells, telling_of, number, pushed, pushed_append}
+use Rattle.sp_round_trip.proofs.Closing.{closed_all, gathered_all, joined_all, wrapped, are_parts}
 use Rattle.sp_round_trip.proofs.Leaves.{LeafSays, is_always, leaf_again, EachForm, of_told}
 use Rattle.sp_round_trip.proofs.Shown.{one, optional, left_out, listed, followed, in_row as a_row, arguments, hooks, silent}
 use Rattle.sp_round_trip.proofs.Chunks.{Chunk, word, tree, built, is_new, node_chunk, is_token, Owns, chunk_words, Split, no_chunk, a_chunk, wrote, laid_as, row_chunks}
@@ -220,6 +220,9 @@ wrapped_here g form cs es σ {s = s} {t = t} x ok e (above ts p rest below sp is
       ),
     )
 
+stays_no_eat : {A : Type 0} {σ τ : State} → stays σ ≡ eats τ → A
+stays_no_eat e = absurd (let q : stays _ ≡ eats _ = e in cc)
+
 if_stays : (c : Bool) (σ τ : State) → (if c then stays σ else stuck) ≡ stays τ → (c ≡ true) × (σ ≡ τ)
 if_stays true σ τ e = (refl, cc)
 if_stays false σ τ e = absurd (let q : stuck ≡ stays _ = e in cc)
@@ -233,7 +236,7 @@ not_stays true σ τ e = absurd (let q : eats _ ≡ stays _ = e in cc)
 not_stays false σ τ e = absurd (let q : stuck ≡ stays _ = e in cc)
 
 not_eats : {A : Type 0} (c : Bool) (σ τ : State) → (if c then stays σ else stuck) ≡ eats τ → A
-not_eats true σ τ e = absurd (let q : stays _ ≡ eats _ = e in cc)
+not_eats true σ τ e = stays_no_eat e
 not_eats false σ τ e = absurd (let q : stuck ≡ eats _ = e in cc)
 
 no_stay : {A : Type 0} {τ : State} → stuck ≡ stays τ → A
@@ -241,6 +244,10 @@ no_stay e = absurd (let q : stuck ≡ stays _ = e in cc)
 
 no_eat : {A : Type 0} {τ : State} → stuck ≡ eats τ → A
 no_eat e = absurd (let q : stuck ≡ eats _ = e in cc)
+
+stuck_or_stays : {A : Type 0} (c : Bool) (σ τ : State) → (if c then stuck else stays σ) ≡ eats τ → A
+stuck_or_stays true σ τ e = no_eat e
+stuck_or_stays false σ τ e = stays_no_eat e
 
 -- a tree that is always the same
 always_stays : (form : Form) (σ : State) {b s t : Pile} → is_new form ≡ false → layout form ≡ [] → Some (made (node form nowhere none) ∷ s) ≡ Some t → (g : Piled σ b s) → Stays (takes (always form)) (add (node_chunk form) σ) g t
@@ -306,24 +313,13 @@ always_moves form [] coming σ τ {t = t} laid_so ok e g =
     not_new true e = no_stay e
     not_new false e = (refl, cc)
 always_moves form (piece.Word k ∷ []) (Some n) σ τ laid_so ok e g = not_stays (is_token k n && is_itself n && not (is_new form)) (add (node_chunk form) σ) τ ok
-always_moves form (piece.Word k ∷ []) None σ τ laid_so ok e g = no_stay ok
-always_moves form (piece.Word k ∷ p ∷ ps) coming σ τ laid_so ok e g = no_stay ok
-always_moves form (piece.Own ∷ ps) coming σ τ laid_so ok e g = no_stay ok
-always_moves form (piece.All by ∷ ps) coming σ τ laid_so ok e g = no_stay ok
-always_moves form (piece.Part p ∷ ps) coming σ τ laid_so ok e g = no_stay ok
+always_moves form ps coming σ τ laid_so ok e g = no_stay ok
 
 always_takes : (form : Form) (ps : List Piece) (n : ℕ) (σ τ : State) {b s t : Pile} → layout form ≡ ps → always_moved form ps (Some n) σ ≡ eats τ → Some (made (node form nowhere none) ∷ s) ≡ Some t → (g : Piled σ b s) → Eats (takes (always form)) n τ g t
 always_takes form (piece.Word k ∷ []) n σ τ {t = t} laid_so ok e g =
     let i = if_eats (is_token k n && is_itself n && not (is_new form)) (add (node_chunk form) σ) τ ok in subst (λ z. Eats (takes (always form)) n z g t) i.1 (always_eats form k n σ i.0 laid_so e g)
-always_takes form [] n σ τ laid_so ok e g = new_eats (is_new form) ok
-  where
-    new_eats : {A : Type 0} (c : Bool) → (if c then stuck else stays (add (node_chunk form) σ)) ≡ eats τ → A
-    new_eats true e = no_eat e
-    new_eats false e = absurd (let q : stays _ ≡ eats _ = e in cc)
-always_takes form (piece.Word k ∷ p ∷ ps) n σ τ laid_so ok e g = no_eat ok
-always_takes form (piece.Own ∷ ps) n σ τ laid_so ok e g = no_eat ok
-always_takes form (piece.All by ∷ ps) n σ τ laid_so ok e g = no_eat ok
-always_takes form (piece.Part p ∷ ps) n σ τ laid_so ok e g = no_eat ok
+always_takes form [] n σ τ laid_so ok e g = stuck_or_stays (is_new form) (add (node_chunk form) σ) τ ok
+always_takes form ps n σ τ laid_so ok e g = no_eat ok
 
 row_some : (o : Option (List Chunk)) (ds : List Chunk) (σ τ : State) → row_moved o ds σ ≡ stays τ → (es : List Chunk) × (o ≡ Some es) × (put_on es (ds ∷ σ) ≡ τ)
 row_some None ds σ τ e = no_stay e
@@ -354,18 +350,18 @@ leaf_takes l n σ τ {t = t} x other plain says ok passed e g =
 
 row_no_eat : {A : Type 0} (o : Option (List Chunk)) (ds : List Chunk) (σ τ : State) → row_moved o ds σ ≡ eats τ → A
 row_no_eat None ds σ τ e = no_eat e
-row_no_eat (Some es) ds σ τ e = absurd (let q : stays _ ≡ eats _ = e in cc)
+row_no_eat (Some es) ds σ τ e = stays_no_eat e
 
 moved_no_eat : {A : Type 0} (o : Option (List Chunk)) (σ τ : State) → moved o σ ≡ eats τ → A
 moved_no_eat None σ τ e = no_eat e
-moved_no_eat (Some es) σ τ e = absurd (let q : stays _ ≡ eats _ = e in cc)
+moved_no_eat (Some es) σ τ e = stays_no_eat e
 
 -- A mark that eats the token that comes does as its chunks say.
 pub ate : (r : Rule) → RulePlain r → (n : ℕ) (σ τ : State) {b s t : Pile} (x : Tok) → move r (Some n) σ ≡ eats τ → parser_takes n (number x) ≡ All → does r (tells x) s ≡ Some t → (g : Piled σ b s) → Eats r n τ g t
 ate (takes (always form)) plain n σ τ x ok passed e g = always_takes form (layout form) n σ τ refl ok e g
 ate (takes l) plain n σ τ x ok passed e g = leaf_takes l n σ τ x refl plain.0 plain.1 ok passed e g
-ate begins plain n σ τ x ok passed e g = absurd (let q : stays _ ≡ eats _ = ok in cc)
-ate leaves_out plain n σ τ x ok passed e g = absurd (let q : stays _ ≡ eats _ = ok in cc)
+ate begins plain n σ τ x ok passed e g = stays_no_eat ok
+ate leaves_out plain n σ τ x ok passed e g = stays_no_eat ok
 ate gathers plain n (cs ∷ ds ∷ σ) τ x ok passed e g = row_no_eat (row_chunks cs) ds σ τ ok
 ate (closes slots form) plain n (cs ∷ ds ∷ σ) τ x ok passed e g = not_eats (is_laid form cs) (add (node_chunk form) (ds ∷ σ)) τ ok
 ate (joins slots form) plain n (cs ∷ σ) τ x ok passed e g = not_eats (are_parts slots && one_each cs slots && is_laid form cs) ((node_chunk form ∷ []) ∷ σ) τ ok
@@ -376,21 +372,14 @@ ate r plain n σ τ x ok passed e g = no_eat ok
 always_itself : (form : Form) (ps : List Piece) (n : ℕ) (σ τ : State) → always_moved form ps (Some n) σ ≡ eats τ → is_itself n ≡ true
 always_itself form (piece.Word k ∷ []) n σ τ ok =
     (and_parts (is_token k n) (is_itself n) (and_parts (is_token k n && is_itself n) (not (is_new form)) (if_eats (is_token k n && is_itself n && not (is_new form)) (add (node_chunk form) σ) τ ok).0).0).1
-always_itself form [] n σ τ ok = new_eats (is_new form) ok
-  where
-    new_eats : {A : Type 0} (c : Bool) → (if c then stuck else stays (add (node_chunk form) σ)) ≡ eats τ → A
-    new_eats true e = no_eat e
-    new_eats false e = absurd (let q : stays _ ≡ eats _ = e in cc)
-always_itself form (piece.Word k ∷ p ∷ ps) n σ τ ok = no_eat ok
-always_itself form (piece.Own ∷ ps) n σ τ ok = no_eat ok
-always_itself form (piece.All by ∷ ps) n σ τ ok = no_eat ok
-always_itself form (piece.Part p ∷ ps) n σ τ ok = no_eat ok
+always_itself form [] n σ τ ok = stuck_or_stays (is_new form) (add (node_chunk form) σ) τ ok
+always_itself form ps n σ τ ok = no_eat ok
 
 pub eats_itself : (r : Rule) (n : ℕ) (σ τ : State) → move r (Some n) σ ≡ eats τ → is_itself n ≡ true
 eats_itself (takes (always form)) n σ τ ok = always_itself form (layout form) n σ τ ok
 eats_itself (takes l) n σ τ ok = (if_eats (is_itself n) (add (leaf_chunk l) σ) τ ok).0
-eats_itself begins n σ τ ok = absurd (let q : stays _ ≡ eats _ = ok in cc)
-eats_itself leaves_out n σ τ ok = absurd (let q : stays _ ≡ eats _ = ok in cc)
+eats_itself begins n σ τ ok = stays_no_eat ok
+eats_itself leaves_out n σ τ ok = stays_no_eat ok
 eats_itself gathers n (cs ∷ ds ∷ σ) τ ok = row_no_eat (row_chunks cs) ds σ τ ok
 eats_itself (closes slots form) n (cs ∷ ds ∷ σ) τ ok = not_eats (is_laid form cs) (add (node_chunk form) (ds ∷ σ)) τ ok
 eats_itself (joins slots form) n (cs ∷ σ) τ ok = not_eats (are_parts slots && one_each cs slots && is_laid form cs) ((node_chunk form ∷ []) ∷ σ) τ ok

@@ -26,9 +26,8 @@ use Rattle.sp_print.specs.Words.{Word, fixed}
 use Rattle.sp_round_trip.specs.Bare.{nowhere}
 use Rattle.sp_round_trip.specs.Told.{Telling}
 use Rattle.sp_round_trip.proofs.Held.{Pile, started, made}
-use Rattle.sp_round_trip.proofs.Goes.{Tok, entire, next, coming, Goes, nothing, whole, mark, part, before, pushed}
+use Rattle.sp_round_trip.proofs.Goes.{Tok, entire, next, coming, Goes, nothing, whole, mark, part, before, pushed, before_both}
 use Rattle.sp_round_trip.proofs.Shown.{one as one_at, listed, arguments, yielded, Avoids, Shows, Claim, Spells, Trace}
-use Rattle.sp_round_trip.proofs.Words.{before_both}
 use Rattle.sp_round_trip.proofs.Levels.{primary_at}
 use Rattle.sp_round_trip.proofs.Steps.{passes_token, passes_part, passes_trees, passes_one, passes_begin, passes_row, passes_closes, passes_none, beside, chosen, Gather, Close}
 use Rattle.sp_grammar.specs.Written.{part as part_symbol}

@@ -23,10 +23,9 @@ use Rattle.sp_print.specs.Words.{Word, fixed}
 use Rattle.sp_round_trip.specs.Bare.{nowhere}
 use Rattle.sp_round_trip.specs.Told.{Telling}
 use Rattle.sp_round_trip.proofs.Held.{Pile, started, made, does}
-use Rattle.sp_round_trip.proofs.Goes.{Tok, entire, next, Goes, nothing, whole, mark, before, pushed, coming}
+use Rattle.sp_round_trip.proofs.Goes.{Tok, entire, next, Goes, nothing, whole, mark, before, pushed, coming, before_both}
 use Rattle.sp_round_trip.proofs.Closing.{joined_all}
 use Rattle.sp_round_trip.proofs.Shown.{listed, yielded, Shows, Claim, MayPass, Spells, Trace}
-use Rattle.sp_round_trip.proofs.Words.{before_both}
 use Rattle.sp_round_trip.proofs.Levels.{at_level}
 use Rattle.sp_round_trip.proofs.Steps.{passes_token, passes_mark, passes_trees, passes_expression, passes_begin, passes_row, passes_none, beside, chosen, Gather}
 use Rattle.sp_grammar.specs.Written.{part as part_symbol}

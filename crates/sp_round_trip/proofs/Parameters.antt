@@ -14,10 +14,9 @@ use Rattle.sp_ast.specs.Trees.{Tree, in_row}
 use Rattle.sp_print.specs.declared.layouts.Separator.TheVariants as separator
 use Rattle.sp_print.specs.Words.{Word, fixed}
 use Rattle.sp_round_trip.proofs.Held.{Pile, started, made}
-use Rattle.sp_round_trip.proofs.Goes.{Tok, entire, next, coming, before, Goes, nothing, whole, mark}
+use Rattle.sp_round_trip.proofs.Goes.{Tok, entire, next, coming, before, Goes, nothing, whole, mark, before_both}
 use Rattle.sp_round_trip.proofs.Shown.{Claim, Trace, arguments, listed, yielded, Shows}
 use Rattle.sp_round_trip.proofs.Steps.{Gather, passes_token, passes_trees, passes_begin, passes_row, passes_none, beside, chosen}
-use Rattle.sp_round_trip.proofs.Words.{before_both}
 
 abbrev left_paren : Word
 left_paren = fixed (token.Mark sign.LeftParen)

@@ -7,8 +7,7 @@ use Rattle.sp_print.specs.Canonical.{Writing, chain, last_kind}
 use Rattle.sp_print.specs.Words.{Word, kind_of}
 use Rattle.sp_round_trip.specs.Told.{Telling}
 use Rattle.sp_round_trip.proofs.Held.{Pile, started}
-use Rattle.sp_round_trip.proofs.Goes.{pushed}
-use Rattle.sp_round_trip.proofs.Closing.{pushed_append}
+use Rattle.sp_round_trip.proofs.Goes.{pushed, pushed_append}
 use Rattle.sp_round_trip.proofs.Chunks.{Chunk, Owns, chunk_words, Split, no_chunk, a_chunk, wrote}
 use Rattle.sp_round_trip.proofs.Advance.{State, put_on}
 

@@ -10,7 +10,7 @@ use Rattle.sp_grammar.specs.Written.{Part, part_number}
 use Rattle.sp_ast.specs.Trees.{Tree}
 use Rattle.sp_round_trip.proofs.Held.{Pile}
 use Rattle.sp_round_trip.proofs.Goes.{Tok, number, before, Goes, nothing, whole, first_half, mark, part}
-use Rattle.sp_round_trip.proofs.Shown.{flat, Manner, plain, expression, in_lines, path_rest, if_rest, new_rest, other, manner_of, Claim, ClaimAs, Trace, ended, token_passed, half_passed, mark_passed, part_passed}
+use Rattle.sp_round_trip.proofs.Shown.{flat, Manner, other, manner_of, Claim, ClaimAs, Trace, ended, token_passed, half_passed, mark_passed, part_passed}
 use Rattle.sp_round_trip.proofs.Advance.{is_again}
 use Rattle.sp_round_trip.proofs.Declarations.{module_shown}
 use Rattle.sp_printed_words.specs.Modules.{module_lines}
@@ -42,12 +42,7 @@ shown_all = refl
 
 nothing_claimed : (m : Manner) (n : ℕ) (w u : List Tok) (s t : Pile) → is_other m ≡ true → ClaimAs m n w s t u
 nothing_claimed other n w u s t ok = tt
-nothing_claimed (plain y) n w u s t ok = never ok
-nothing_claimed (expression level) n w u s t ok = never ok
-nothing_claimed in_lines n w u s t ok = never ok
-nothing_claimed path_rest n w u s t ok = never ok
-nothing_claimed if_rest n w u s t ok = never ok
-nothing_claimed new_rest n w u s t ok = never ok
+nothing_claimed m n w u s t ok = never ok
 
 -- each production has its claim
 produced : (n p : ℕ) (w u : List Tok) (s t : Pile) → Applies own n p (map number w) → Trace (right own n p) w s u t → Claim n w s t u

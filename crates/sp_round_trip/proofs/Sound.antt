@@ -20,9 +20,8 @@ use Rattle.sp_build.specs.Rules.{rule}
 use Rattle.sp_print.specs.Canonical.{last_kind}
 use Rattle.sp_print.specs.Words.{Word, fixed}
 use Rattle.sp_round_trip.proofs.Held.{Pile, does}
-use Rattle.sp_round_trip.proofs.Goes.{Tok, entire, number, next, coming, before, pushed, Goes, nothing, whole, mark}
-use Rattle.sp_round_trip.proofs.Words.{before_both}
-use Rattle.sp_round_trip.proofs.Shown.{Yield, one, Manner, plain, expression, in_lines, path_rest, if_rest, new_rest, other, manner_of, avoided, is_kept, Avoids, Fits, Shows, yielded, ClaimAs, Trace, ended, token_passed, half_passed, mark_passed, part_passed}
+use Rattle.sp_round_trip.proofs.Goes.{Tok, entire, number, next, coming, before, pushed, Goes, nothing, whole, mark, before_both}
+use Rattle.sp_round_trip.proofs.Shown.{Yield, one, Manner, plain, expression, manner_of, avoided, is_kept, Avoids, Fits, Shows, yielded, ClaimAs, Trace, ended, token_passed, half_passed, mark_passed, part_passed}
 use Rattle.sp_round_trip.proofs.Expressions.{expression_shows}
 use Rattle.sp_round_trip.proofs.Singles.{kind_for}
 use Rattle.sp_round_trip.proofs.Chunks.{word, tree, wrote}
@@ -166,11 +165,7 @@ claimed (expression level) guard n ss σ τ w u s t is ok (x, on, spells) =
         → (level ≤ 14) × ((if next_fits (avoided n) guard n ss then advance guard ss (add (tree (one level)) σ) else None) ≡ Some τ)
     tighter true e h = let below : level < 15 = ltb-true level 15 e in (omega (arith, below), h)
     tighter false e h = not_some h
-claimed in_lines guard n ss σ τ w u s t is ok claim = not_some ok
-claimed path_rest guard n ss σ τ w u s t is ok claim = not_some ok
-claimed if_rest guard n ss σ τ w u s t is ok claim = not_some ok
-claimed new_rest guard n ss σ τ w u s t is ok claim = not_some ok
-claimed other guard n ss σ τ w u s t is ok claim = not_some ok
+claimed m guard n ss σ τ w u s t is ok claim = not_some ok
 
 part_on : (guard : Guard) (ss : List Symbol) (n : ℕ) {σ : State} (τ : State) (u1 u : List Tok) {b s t z : Pile} → Claimed guard n ss σ τ s t u1 → Trace ss u1 t u z → (g : Piled σ b s)
     → ((next_state : State) → advance guard ss next_state ≡ Some τ → (h : Piled next_state b t) → Sound guard ss u τ h z) → Sound guard (symbol.Nonterminal n ∷ ss) u τ g z

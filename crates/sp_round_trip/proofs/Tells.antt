@@ -22,7 +22,7 @@ use Rattle.sp_ast.specs.declared.forms.Form.{Form}
 use Rattle.sp_ast.specs.declared.words.IntWord.{IntWord}
 use Rattle.sp_ast.specs.declared.words.AttributeName.{AttributeName}
 use Rattle.sp_ast.specs.declared.words.HookName.{HookName}
-use Rattle.sp_ast.specs.Trees.{Tree, absent, row, node, trees, tree, in_row, respan, span_of}
+use Rattle.sp_ast.specs.Trees.{Tree, absent, trees, tree, in_row, respan, span_of}
 use Rattle.sp_build.specs.declared.stack.Item.TheVariants.{Begun as begun, Built as built}
 use Rattle.sp_build.specs.declared.groups.Group.TheVariants.{Expressions as expressions}
 use Rattle.sp_build.specs.declared.groups.Sort.{Sort}
@@ -177,8 +177,7 @@ module _ (P : Word → Type 0) (of_fixed : (k : TokenKind) → is_fixed k ≡ tr
 
   respan_tells : (span : _) (t : Tree) → TellsOnly P t → TellsOnly P (respan span t)
   respan_tells span absent h = h
-  respan_tells span (row ts) h = h
-  respan_tells span (node form old ts) h = h
+  respan_tells span t h = h
 
   -- it holds of the words of the alternative that a token is of, and of those that the token tells
   abbrev LeafHolds : Option Form → Type 0

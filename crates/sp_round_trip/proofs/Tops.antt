@@ -306,9 +306,7 @@ pending_by false k x w s e take is = pending_loose (tells x).word s is
 token_means : (st : State) (k : ℕ) (x : Tok) (w : List Tok) (s : Pile) → takes k (number x) ≡ All → Means st (x ∷ w) s → Means (after_token st k) w s
 token_means pending k x w s take is = pending_by (k == an_id) k x w s refl take is
 token_means any k x w s take is = is
-token_means named k x w s take is = is
-token_means loose k x w s take is = is
-token_means modular k x w s take is = is
+token_means st k x w s take is = is
 
 half_by : (b : Bool) (k : ℕ) (x : Word) (w : List Tok) (s : Pile) → (k == an_id) ≡ b → takes k (number (entire x)) ≡ First → IsPending x s → Means (if b then named else loose) w s
 half_by true k x w s e take is = absurd (never_first (an_id == number (entire x)) (subst (λ n. takes n (number (entire x)) ≡ First) (eqb-true k an_id e) take))
@@ -317,9 +315,7 @@ half_by false k x w s e take is = pending_loose x s is
 half_means : (st : State) (k : ℕ) (x : Word) (w : List Tok) (s : Pile) → takes k (number (entire x)) ≡ First → Means st (entire x ∷ w) s → Means (after_token st k) (half x ∷ w) s
 half_means pending k x w s take is = half_by (k == an_id) k x (half x ∷ w) s refl take is
 half_means any k x w s take is = is
-half_means named k x w s take is = is
-half_means loose k x w s take is = is
-half_means modular k x w s take is = is
+half_means st k x w s take is = is
 
 goes_on : {ss : List Symbol} {w v : List Tok} {s t : Pile} (st st' : State) → run st ss ≡ Some st' → Means st w s → Goes ss w s v t → Means st' v t
 goes_on st st' e is (nothing {w = w} {s = s}) = subst (λ x. Means x w s) (some_equal e) is
