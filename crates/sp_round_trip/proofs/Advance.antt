@@ -19,6 +19,7 @@ use Rattle.sp_ast.specs.declared.words.IntWord.TheVariants as integer
 use Rattle.sp_ast.specs.declared.words.HookName.TheVariants as hook_name
 use Rattle.sp_build.specs.declared.groups.Slot.{Slot}
 use Rattle.sp_build.specs.Rules.{Leaf, always, by_name, by_string, by_bytes, by_regex, by_number, by_integer, by_event, Rule, begins, leaves_out, takes as takes_leaf, gathers, closes, joins, wraps, rule}
+use Rattle.sp_build.proofs.Shapes.{and_then}
 use Rattle.sp_print.specs.declared.layouts.Piece.{Piece}
 use Rattle.sp_print.specs.declared.layouts.Piece.TheVariants as piece
 use Rattle.sp_print.specs.Layouts.{layout}
@@ -26,7 +27,6 @@ use Rattle.sp_round_trip.proofs.Closing.{are_parts}
 use Rattle.sp_round_trip.proofs.Singles.{kind_for}
 use Rattle.sp_round_trip.proofs.Shown.{Yield, one, optional, left_out, in_row, arguments, hooks, Manner, plain, expression, manner_of, avoided, is_kept, level_part}
 use Rattle.sp_round_trip.proofs.Chunks.{Chunk, word, tree, built, is_new, node_chunk, is_token, laid_as, ends_as, row_chunks}
-use Rattle.sp_build.proofs.Shapes.{and_then}
 
 -- The sets of the table, as they are for the parts of the grammar in its own words: there `Postfix` is an operand, and no
 -- tail of one.

@@ -3,15 +3,16 @@ use Rattle.std.specs.Prelude.{nat_lt, ◌&&◌, ◌||◌, ◌<◌, if◌then◌e
 use Rattle.std.proofs.Common.{◌≡◌, ℕ, List, [], ◌∷◌, ◌++◌, map, Bool, true, false, ◌==◌, Option, Some, None, refl, sym, ◌∙◌, ap, subst, inl, inr, arith}
 use Rattle.std.proofs.lemmas.Bool.{and_parts, or_cases, eqb-true, ltb-true}
 use Rattle.std.proofs.lemmas.List.{append-nil}
+use Rattle.sp_lex.specs.declared.kinds.TokenKind.{TokenKind}
 use Rattle.sp_parser.specs.declared.symbol.Symbol.{Symbol}
 use Rattle.sp_parser.specs.Grammar.{Applies, right, production_of}
-use Rattle.sp_lex.specs.declared.kinds.TokenKind.{TokenKind}
 use Rattle.sp_grammar.specs.declared.terminals.Terminal.TheVariants as token
 use Rattle.sp_grammar.specs.declared.terminals.Terminal.{Terminal}
 use Rattle.sp_grammar.specs.Terminals.{terminal_number}
 use Rattle.sp_grammar.specs.Own.{own}
 use Rattle.sp_grammar.specs.Written.{Part, part_number}
 use Rattle.sp_ast.specs.Trees.{Tree, node, trees}
+use Rattle.sp_build.proofs.Told.{never}
 use Rattle.sp_print.specs.Canonical.{spelled}
 use Rattle.sp_round_trip.specs.Bare.{nowhere}
 use Rattle.sp_round_trip.proofs.Held.{Pile, made}
@@ -23,7 +24,6 @@ use Rattle.sp_round_trip.proofs.Laid.{ends_again}
 use Rattle.sp_round_trip.proofs.Advance.{State, Guard, guard_of, unguarded, advance, is_yield, is_spelled, avoids_only, is_again}
 use Rattle.sp_round_trip.proofs.Piles.{Piled, bottom, above}
 use Rattle.sp_round_trip.proofs.Sound.{Guarded, Onward, sound}
-use Rattle.sp_build.proofs.Told.{never}
 use Rattle.sp_round_trip.proofs.Steps.{chosen}
 
 -- a production that may be taken before anything

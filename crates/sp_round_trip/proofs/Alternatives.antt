@@ -6,6 +6,7 @@ use Rattle.std.proofs.lemmas.Bool.{and_parts, cases_Bool, eqb-true}
 use Rattle.sp_parser.specs.Grammar.{Applies, right}
 use Rattle.sp_grammar.specs.Written.{Part, part_number}
 use Rattle.sp_grammar.specs.Own.{own}
+use Rattle.sp_build.proofs.Told.{never}
 use Rattle.sp_round_trip.proofs.Held.{Pile}
 use Rattle.sp_round_trip.proofs.Goes.{Tok, number}
 use Rattle.sp_round_trip.proofs.Shown.{Claim, Trace}
@@ -24,7 +25,6 @@ use Rattle.sp_round_trip.proofs.Operands.{divides, calls}
 use Rattle.sp_round_trip.proofs.Parameters.{parameters_shown, no_parameters_shown}
 use Rattle.sp_round_trip.proofs.Semicolons.{semicolon_shown, no_semicolon_shown}
 use Rattle.sp_round_trip.proofs.TypedNumbers.{types_number}
-use Rattle.sp_build.proofs.Told.{never}
 
 -- what is claimed of a part, where this alternative of it was read
 abbrev pub Claimed : ℕ → ℕ → Type 0

@@ -1,13 +1,11 @@
 -- Attributes of fields.
 use Rattle.std.specs.Prelude.{◌⊎◌}
 use Rattle.std.proofs.Common.{◌≡◌, ℕ, zero, suc, List, [], ◌∷◌, ◌++◌, Option, Some, refl, sym, ◌∙◌, arith, ap, subst, inl, inr, ◌==◌}
-use Rattle.sp_parser.specs.Grammar.{right, takes, All}
 use Rattle.sp_lex.specs.declared.kinds.TokenKind.{TokenKind}
 use Rattle.sp_lex.specs.declared.kinds.TokenKind.TheVariants as token
+use Rattle.sp_parser.specs.Grammar.{right, takes, All}
 use Rattle.sp_grammar.specs.declared.marks.Mark.TheVariants as build
-use Rattle.sp_grammar.specs.Written.{part as part_symbol}
-use Rattle.sp_grammar.specs.Written.{mark as mark_symbol}
-use Rattle.sp_grammar.specs.Written.{Part, part_number}
+use Rattle.sp_grammar.specs.Written.{part as part_symbol, mark as mark_symbol, Part, part_number}
 use Rattle.sp_grammar.specs.Terminals.{terminal_number}
 use Rattle.sp_grammar.specs.declared.terminals.Terminal.TheVariants as terminal
 use Rattle.sp_grammar.specs.Own.{own}

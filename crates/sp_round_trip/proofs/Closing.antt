@@ -2,9 +2,9 @@
 -- What is built, and whether it is, does not depend on what lies below.
 use Rattle.std.specs.Prelude.{option_map, if◌then◌else◌}
 use Rattle.std.proofs.Common.{◌≡◌, zero, suc, pred, List, [], ◌∷◌, reverse, length, Bool, true, false, Option, Some, None, refl, sym, ap, subst, inl, inr, ◌∙◌}
-use mathlib.Core.List.{reverse_aux}
 use Rattle.std.proofs.lemmas.Bool.{cases_Bool}
 use Rattle.std.proofs.lemmas.List.{reverse-reverse, length-reverse}
+use mathlib.Core.List.{reverse_aux}
 use Rattle.sp_ast.specs.declared.forms.Form.{Form}
 use Rattle.sp_ast.specs.Trees.{Tree, tree, in_row}
 use Rattle.sp_build.specs.declared.groups.Group.{Group}
@@ -13,12 +13,12 @@ use Rattle.sp_build.specs.declared.groups.Slot.{Slot}
 use Rattle.sp_build.specs.declared.groups.Slot.TheVariants.{Part as part, Several as several}
 use Rattle.sp_build.specs.Groups.{fits, is_of, is_node}
 use Rattle.sp_build.specs.Rules.{gathers, joins, wraps}
+use Rattle.sp_build.proofs.Standing.{not_some}
+use Rattle.sp_build.proofs.Told.{never}
 use Rattle.sp_round_trip.specs.Bare.{nowhere}
 use Rattle.sp_round_trip.specs.Told.{Telling}
 use Rattle.sp_round_trip.proofs.Held.{Pile, started, made, After, after, after_do, front, start, filled, put, closed, does}
 use Rattle.sp_round_trip.proofs.Goes.{pushed}
-use Rattle.sp_build.proofs.Standing.{not_some}
-use Rattle.sp_build.proofs.Told.{never}
 
 -- trees on top of a pile, the last one first
 abbrev heaped : List Tree → Pile → Pile

@@ -15,15 +15,17 @@ use Rattle.sp_grammar.specs.Own.{own}
 use Rattle.sp_grammar.specs.Reads.{Reads}
 use Rattle.sp_grammar.specs.Reads as reads
 use Rattle.sp_grammar.specs.Starts.{start_number}
-use Rattle.sp_grammar.specs.Written.{Part}
+use Rattle.sp_grammar.specs.Written.{Part, part as part_symbol}
 use Rattle.sp_grammar.specs.declared.language.Start.TheVariants.{Module}
 use Rattle.sp_grammar.proofs.OwnWords.{read_of_table, table_of_read}
-use Rattle.sp_ast.specs.Trees.{Tree}
 use Rattle.sp_runs.specs.Kinds.{numbers_of, number_of, terminal_of}
+use Rattle.sp_ast.specs.Trees.{Tree}
 use Rattle.sp_build.specs.Groups.{is_of}
 use Rattle.sp_build.specs.Starting.{group_of}
 use Rattle.sp_build.specs.Building.{all_done, no_token}
 use Rattle.sp_build.specs.Rules.{rule}
+use Rattle.sp_build.proofs.Standing.{then_some}
+use Rattle.sp_build.proofs.Shapes.{and_then}
 use Rattle.sp_print.specs.Words.{Word}
 use Rattle.sp_read_unit.specs.Modules.{IsModuleTree}
 use Rattle.sp_round_trip.specs.Bare.{bare}
@@ -33,9 +35,6 @@ use Rattle.sp_round_trip.proofs.Goes.{Tok, entire, half, tells, number, ending, 
 use Rattle.sp_round_trip.proofs.Goes as goes
 use Rattle.sp_round_trip.proofs.Machine.{piled, tell_at, all_held, of_bare}
 use Rattle.sp_round_trip.proofs.Telling.{one_left}
-use Rattle.sp_build.proofs.Standing.{then_some}
-use Rattle.sp_build.proofs.Shapes.{and_then}
-use Rattle.sp_grammar.specs.Written.{part as part_symbol}
 
 -- equal lists begin and end alike
 parts_same : {A : Type 0} (x y : A) (xs ys : List A) → x ∷ xs ≡ y ∷ ys → (x ≡ y) × (xs ≡ ys)

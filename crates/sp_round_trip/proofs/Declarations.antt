@@ -1,14 +1,12 @@
 -- Declarations, each a line, and the module of them.
 use Rattle.std.specs.Prelude.{nat_lt, ◌&&◌, ◌||◌, if◌then◌else◌}
 use Rattle.std.proofs.Common.{◌≡◌, ℕ, List, [], ◌∷◌, Bool, true, false, None, refl, sym, ◌∙◌, arith, ap, subst, inl}
-use Rattle.sp_parser.specs.Grammar.{right, takes, All}
 use Rattle.sp_lex.specs.declared.kinds.TokenKind.TheVariants as token
 use Rattle.sp_lex.specs.declared.kinds.Keyword.TheVariants as keyword
 use Rattle.sp_lex.specs.declared.kinds.Mark.TheVariants as sign
+use Rattle.sp_parser.specs.Grammar.{right, takes, All}
 use Rattle.sp_grammar.specs.declared.marks.Mark.TheVariants as build
-use Rattle.sp_grammar.specs.Written.{part as part_symbol}
-use Rattle.sp_grammar.specs.Written.{mark as mark_symbol}
-use Rattle.sp_grammar.specs.Written.{Part, part_number}
+use Rattle.sp_grammar.specs.Written.{part as part_symbol, mark as mark_symbol, Part, part_number}
 use Rattle.sp_grammar.specs.Terminals.{terminal_number}
 use Rattle.sp_grammar.specs.declared.terminals.Terminal.TheVariants as terminal
 use Rattle.sp_grammar.specs.Own.{own}

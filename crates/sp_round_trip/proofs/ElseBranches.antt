@@ -4,15 +4,12 @@ use Rattle.std.specs.Int.{bit_at}
 use Rattle.std.proofs.Common.{◌≡◌, ℕ, List, [], ◌∷◌, ◌++◌, map, true, false, Option, Some, refl, sym, ◌∙◌, arith, ap, subst, inl, inr, eq-eqb}
 use Rattle.std.proofs.lemmas.List.{append-nil, append_assoc}
 use Rattle.std.proofs.lemmas.Nat.Bits.{bit_at-pow_other, bit_at-pow_same}
-use Rattle.sp_parser.specs.Grammar.{right, Applies}
 use Rattle.sp_lex.specs.declared.kinds.TokenKind.{TokenKind}
 use Rattle.sp_lex.specs.declared.kinds.TokenKind.TheVariants as token
 use Rattle.sp_lex.specs.declared.kinds.Keyword.TheVariants as keyword
+use Rattle.sp_parser.specs.Grammar.{right, Applies}
 use Rattle.sp_grammar.specs.declared.marks.Mark.TheVariants as build
-use Rattle.sp_grammar.specs.Written.{part as part_symbol}
-use Rattle.sp_grammar.specs.Written.{mark as mark_symbol}
-use Rattle.sp_grammar.specs.Written.{kind as kind_symbol}
-use Rattle.sp_grammar.specs.Written.{Part, part_number}
+use Rattle.sp_grammar.specs.Written.{part as part_symbol, mark as mark_symbol, kind as kind_symbol, Part, part_number}
 use Rattle.sp_grammar.specs.Terminals.{terminal_number}
 use Rattle.sp_grammar.specs.declared.terminals.Terminal.TheVariants as terminal
 use Rattle.sp_grammar.specs.Own.{own}
@@ -25,8 +22,8 @@ use Rattle.sp_build.specs.declared.groups.Sort.TheVariants.{Rows as rows_of, Opt
 use Rattle.sp_build.specs.declared.groups.Slot.{Slot}
 use Rattle.sp_build.specs.declared.groups.Slot.TheVariants.{Part as slot}
 use Rattle.sp_build.specs.Groups.{is_node}
-use Rattle.sp_print.specs.Canonical.{last_kind, chain, framed, parts_of, part_of}
-use Rattle.sp_print.specs.Canonical.{followed as written_followed}
+use Rattle.sp_build.proofs.Told.{never}
+use Rattle.sp_print.specs.Canonical.{last_kind, chain, framed, parts_of, part_of, followed as written_followed}
 use Rattle.sp_print.specs.declared.layouts.Frame.TheVariants as frame
 use Rattle.sp_print.specs.declared.layouts.Separator.TheVariants as separator
 use Rattle.sp_print.specs.Words.{Word, fixed}
@@ -37,7 +34,6 @@ use Rattle.sp_round_trip.proofs.Goes.{Tok, entire, number, next, coming, before,
 use Rattle.sp_round_trip.proofs.Shown.{Claim, OptElseClaim, Trace, one, yielded, Shows, MayFollow}
 use Rattle.sp_round_trip.proofs.Steps.{Gather, Close, is_token, passes_token, passes_absent, passes_part, passes_one, passes_row, passes_closes, passes_none, beside, chosen}
 use Rattle.sp_round_trip.proofs.Piles.{last_both}
-use Rattle.sp_build.proofs.Told.{never}
 
 abbrev pub if_form : Form
 if_form = form_is.Stmt stmt_is.If

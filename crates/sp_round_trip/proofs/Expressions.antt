@@ -8,12 +8,12 @@ use Rattle.sp_grammar.specs.declared.terminals.Terminal.TheVariants as token
 use Rattle.sp_grammar.specs.Terminals.{terminal_number}
 use Rattle.sp_grammar.specs.Written.{Part, part_number, all_parts}
 use Rattle.sp_ast.specs.Trees.{Tree}
+use Rattle.sp_build.proofs.Told.{never}
 use Rattle.sp_print.specs.Canonical.{at_place, spelled}
 use Rattle.sp_round_trip.proofs.Held.{made}
 use Rattle.sp_round_trip.proofs.Goes.{Tok, coming, Goes, before}
 use Rattle.sp_round_trip.proofs.Shown.{Manner, expression, other, one, manner, avoids, keeps_else, manner_of, is_kept, Avoids, Shows, level_part, Spells}
 use Rattle.sp_round_trip.proofs.Levels.{at_level}
-use Rattle.sp_build.proofs.Told.{never}
 
 -- a part that reads expressions of a level: below the level of a Primary it is that of the level, and avoids a `(`
 abbrev is_left_paren : Option Terminal → Bool

@@ -1,14 +1,12 @@
 -- What ends a field: its hooks, or a semicolon. A semicolon behind hooks is left out canonically.
 use Rattle.std.proofs.Common.{◌≡◌, ℕ, List, [], ◌∷◌, ◌++◌, Option, refl, sym, arith, subst, inl, ap, ◌∙◌}
-use Rattle.sp_parser.specs.Grammar.{right}
 use Rattle.sp_lex.specs.declared.kinds.TokenKind.{TokenKind}
+use Rattle.sp_parser.specs.Grammar.{right}
 use Rattle.sp_grammar.specs.declared.marks.Mark.TheVariants as build
-use Rattle.sp_grammar.specs.Written.{mark as mark_symbol}
-use Rattle.sp_grammar.specs.Written.{Part, part_number}
+use Rattle.sp_grammar.specs.Written.{mark as mark_symbol, Part, part_number}
 use Rattle.sp_grammar.specs.Own.{own}
 use Rattle.sp_ast.specs.Trees.{Tree, trees, in_row}
-use Rattle.sp_print.specs.Canonical.{last_kind, parts_of}
-use Rattle.sp_print.specs.Canonical.{listed as written_listed, followed as written_followed}
+use Rattle.sp_print.specs.Canonical.{last_kind, parts_of, listed as written_listed, followed as written_followed}
 use Rattle.sp_print.specs.declared.layouts.Separator.TheVariants as separator
 use Rattle.sp_round_trip.proofs.Held.{Pile, started, made}
 use Rattle.sp_round_trip.proofs.Goes.{Tok, next, coming, before, pushed, Goes, nothing, whole, mark, before_both}

@@ -8,10 +8,10 @@ use Rattle.sp_grammar.specs.declared.terminals.Terminal.TheVariants as token
 use Rattle.sp_grammar.specs.Terminals.{terminal_number}
 use Rattle.sp_grammar.specs.Own.{own}
 use Rattle.sp_grammar.proofs.Spans.{every_production, one_production}
+use Rattle.sp_build.proofs.Told.{never}
 use Rattle.sp_round_trip.proofs.Held.{Pile}
 use Rattle.sp_round_trip.proofs.Goes.{Tok, entire, number, coming, Goes, nothing, whole, first_half, mark, part}
 use Rattle.sp_round_trip.proofs.Advance.{may_be_empty, is_taken, comes_first, begins_with, is_nullable}
-use Rattle.sp_build.proofs.Told.{never}
 
 -- the sets of the table hold for a production
 abbrev first_holds : ℕ → ℕ → Production → Bool

@@ -2,6 +2,7 @@
 use Rattle.std.specs.Prelude.{if◌then◌else◌, ◌&&◌, not, option_map}
 use Rattle.std.proofs.Common.{◌≡◌, List, [], ◌∷◌, ◌++◌, reverse, Bool, true, false, Option, Some, None, refl, sym, subst, ap, ◌∙◌, eq-eqb, eqb-true}
 use Rattle.std.proofs.lemmas.List.{reverse-append, append-nil}
+use Rattle.std.proofs.lemmas.Bool.{and_parts}
 use Rattle.sp_grammar.specs.declared.marks.Mark.{Mark}
 use Rattle.sp_grammar.specs.declared.marks.Mark.TheVariants as build
 use Rattle.sp_ast.specs.declared.words.IntWord.{IntWord}
@@ -26,7 +27,6 @@ use Rattle.sp_printed_words.specs.Formed.{is_expression, is_path, is_declaration
 use Rattle.sp_round_trip.specs.Bare.{nowhere}
 use Rattle.sp_round_trip.specs.Told.{Telling}
 use Rattle.sp_round_trip.proofs.Held.{started, made, Pile, After, after, after_do, top, front, start, filled, put, put_if, closed, does, form_told}
-use Rattle.std.proofs.lemmas.Bool.{and_parts}
 use Rattle.sp_round_trip.proofs.Leaves.{EachForm, of_told}
 
 -- What is known of a tree on a pile. A row may still have bases in it, and a name is no `skip`.

@@ -1,19 +1,19 @@
 -- Readings in the grammar in its own words, over the words that tokens tell, with what the marks build. Places are
 -- forgotten.
 use Rattle.std.proofs.Common.{◌++◌, refl, ap, ◌≡◌, ℕ, List, [], ◌∷◌, map, Some}
+use Rattle.sp_lex.specs.declared.kinds.Mark.TheVariants as sign
+use Rattle.sp_lex.specs.declared.kinds.TokenKind.TheVariants as token
 use Rattle.sp_parser.specs.declared.symbol.Symbol.{Symbol}
 use Rattle.sp_parser.specs.declared.symbol.Symbol.TheVariants as symbol
 use Rattle.sp_parser.specs.Grammar.{right, takes, First, All, Applies, SECOND, ahead}
-use Rattle.sp_lex.specs.declared.kinds.Mark.TheVariants as sign
-use Rattle.sp_lex.specs.declared.kinds.TokenKind.TheVariants as token
 use Rattle.sp_grammar.specs.Marks.{mark_with}
 use Rattle.sp_grammar.specs.Own.{own}
 use Rattle.sp_runs.specs.Kinds.{number_of, terminal_of}
+use Rattle.sp_ast.specs.Trees.{Tree}
 use Rattle.sp_build.specs.Rules.{rule}
 use Rattle.sp_print.specs.Words.{Word, fixed}
 use Rattle.sp_printed_words.specs.Sound.{read_as}
 use Rattle.sp_round_trip.specs.Told.{Telling}
-use Rattle.sp_ast.specs.Trees.{Tree}
 use Rattle.sp_round_trip.proofs.Held.{Pile, made, does}
 
 -- a word as it is read, or the second half of a `>>`, the first of which is passed

@@ -15,10 +15,10 @@ use Rattle.sp_build.specs.declared.groups.Slot.TheVariants.{Part as part, Severa
 use Rattle.sp_build.specs.Groups.{fits, is_of, is_node}
 use Rattle.sp_build.specs.Rules.{rule, Leaf, always, by_name, by_string, by_bytes, by_regex, by_number, by_integer, by_event, Rule, begins, leaves_out, takes, gathers, closes, closes_integer, closes_attribute, encloses, joins, wraps}
 use Rattle.sp_build.specs.Tokens.{integer_of, attribute_of, hook_name_of}
+use Rattle.sp_build.proofs.Shapes.{and_then}
 use Rattle.sp_print.specs.Words.{Word, name, text, bytes, regex, number}
 use Rattle.sp_round_trip.specs.Bare.{nowhere}
 use Rattle.sp_round_trip.specs.Told.{Telling}
-use Rattle.sp_build.proofs.Shapes.{and_then}
 
 -- the alternative that a token is of, by what it tells
 abbrev pub form_told : Leaf → TokenKind → Word → Option Form

@@ -1,13 +1,11 @@
 -- A hook that is declared by itself.
 use Rattle.std.proofs.Common.{◌≡◌, ℕ, List, [], ◌∷◌, ◌++◌, Some, refl, sym, ◌∙◌, arith, ap, subst, inl}
 use Rattle.std.proofs.lemmas.List.{append-nil}
-use Rattle.sp_parser.specs.Grammar.{right, takes, All}
 use Rattle.sp_lex.specs.declared.kinds.TokenKind.TheVariants as token
 use Rattle.sp_lex.specs.declared.kinds.Keyword.TheVariants as keyword
+use Rattle.sp_parser.specs.Grammar.{right, takes, All}
 use Rattle.sp_grammar.specs.declared.marks.Mark.TheVariants as build
-use Rattle.sp_grammar.specs.Written.{part as part_symbol}
-use Rattle.sp_grammar.specs.Written.{mark as mark_symbol}
-use Rattle.sp_grammar.specs.Written.{Part, part_number}
+use Rattle.sp_grammar.specs.Written.{part as part_symbol, mark as mark_symbol, Part, part_number}
 use Rattle.sp_grammar.specs.Terminals.{terminal_number}
 use Rattle.sp_grammar.specs.declared.terminals.Terminal.TheVariants as terminal
 use Rattle.sp_grammar.specs.Own.{own}
@@ -18,8 +16,7 @@ use Rattle.sp_build.specs.declared.groups.Group.TheVariants.{Paths as paths, Eve
 use Rattle.sp_build.specs.declared.groups.Sort.TheVariants.{One as one_of, Optional as may_be}
 use Rattle.sp_build.specs.declared.groups.Slot.{Slot}
 use Rattle.sp_build.specs.declared.groups.Slot.TheVariants.{Part as slot}
-use Rattle.sp_print.specs.Canonical.{last_kind, framed, parts_of, part_of}
-use Rattle.sp_print.specs.Canonical.{followed as written_followed}
+use Rattle.sp_print.specs.Canonical.{last_kind, framed, parts_of, part_of, followed as written_followed}
 use Rattle.sp_print.specs.declared.layouts.Frame.TheVariants as frame
 use Rattle.sp_print.specs.declared.layouts.Separator.TheVariants as separator
 use Rattle.sp_print.specs.Words.{Word, fixed, name}

@@ -1,14 +1,13 @@
 -- The path of a hook that is declared by itself, and the event behind it.
 use Rattle.std.proofs.Common.{◌≡◌, ℕ, List, [], ◌∷◌, ◌++◌, Option, Some, refl, sym, ◌∙◌, arith, ap, subst}
 use Rattle.std.proofs.lemmas.List.{append-nil, append_assoc}
-use Rattle.sp_parser.specs.Grammar.{right, takes, All}
 use Rattle.sp_lex.specs.declared.kinds.Hook.{Hook}
 use Rattle.sp_lex.specs.declared.kinds.TokenKind.{TokenKind}
 use Rattle.sp_lex.specs.declared.kinds.TokenKind.TheVariants as token
 use Rattle.sp_lex.specs.declared.kinds.Mark.TheVariants as sign
+use Rattle.sp_parser.specs.Grammar.{right, takes, All}
 use Rattle.sp_grammar.specs.declared.marks.Mark.TheVariants as build
-use Rattle.sp_grammar.specs.Written.{part as part_symbol}
-use Rattle.sp_grammar.specs.Written.{Part, part_number}
+use Rattle.sp_grammar.specs.Written.{part as part_symbol, Part, part_number}
 use Rattle.sp_grammar.specs.Terminals.{terminal_number}
 use Rattle.sp_grammar.specs.declared.terminals.Terminal.TheVariants as terminal
 use Rattle.sp_grammar.specs.Own.{own}
@@ -18,8 +17,7 @@ use Rattle.sp_build.specs.declared.groups.Group.TheVariants.{Names as names}
 use Rattle.sp_build.specs.declared.groups.Slot.{Slot}
 use Rattle.sp_build.specs.declared.groups.Slot.TheVariants.{Several as several}
 use Rattle.sp_build.specs.Tokens.{hook_name_of}
-use Rattle.sp_print.specs.Canonical.{chain, framed, parts_of, part_of}
-use Rattle.sp_print.specs.Canonical.{followed as written_followed}
+use Rattle.sp_print.specs.Canonical.{chain, framed, parts_of, part_of, followed as written_followed}
 use Rattle.sp_print.specs.declared.layouts.Frame.TheVariants as frame
 use Rattle.sp_print.specs.declared.layouts.Separator.TheVariants as separator
 use Rattle.sp_print.specs.Own.{hook_token}

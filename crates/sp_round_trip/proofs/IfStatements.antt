@@ -1,16 +1,14 @@
 -- An `if` with its branches.
 use Rattle.std.proofs.Common.{ℕ, List, [], ◌∷◌, ◌++◌, Option, Some, refl, sym, ◌∙◌, arith, ap, subst}
-use Rattle.sp_parser.specs.Grammar.{right}
 use Rattle.sp_lex.specs.declared.kinds.TokenKind.{TokenKind}
 use Rattle.sp_lex.specs.declared.kinds.TokenKind.TheVariants as token
 use Rattle.sp_lex.specs.declared.kinds.Keyword.TheVariants as keyword
+use Rattle.sp_parser.specs.Grammar.{right}
 use Rattle.sp_grammar.specs.declared.marks.Mark.TheVariants as build
-use Rattle.sp_grammar.specs.Written.{part as part_symbol}
-use Rattle.sp_grammar.specs.Written.{Part, part_number}
+use Rattle.sp_grammar.specs.Written.{part as part_symbol, Part, part_number}
 use Rattle.sp_grammar.specs.Own.{own}
 use Rattle.sp_ast.specs.Trees.{Tree, trees}
-use Rattle.sp_print.specs.Canonical.{last_kind, framed, parts_of, part_of}
-use Rattle.sp_print.specs.Canonical.{followed as written_followed}
+use Rattle.sp_print.specs.Canonical.{last_kind, framed, parts_of, part_of, followed as written_followed}
 use Rattle.sp_print.specs.declared.layouts.Frame.TheVariants as frame
 use Rattle.sp_print.specs.declared.layouts.Separator.TheVariants as separator
 use Rattle.sp_print.specs.Words.{fixed}

@@ -1,8 +1,8 @@
 -- The words of integer types as bases of fields: by themselves, and before a number.
 use Rattle.std.proofs.Common.{◌≡◌, ℕ, List, [], ◌∷◌, refl, sym, arith}
-use Rattle.sp_parser.specs.Grammar.{right, takes, All}
 use Rattle.sp_lex.specs.declared.kinds.TokenKind.TheVariants as token
 use Rattle.sp_lex.specs.declared.kinds.Mark.TheVariants as sign
+use Rattle.sp_parser.specs.Grammar.{right, takes, All}
 use Rattle.sp_grammar.specs.declared.marks.Mark.TheVariants as build
 use Rattle.sp_grammar.specs.Written.{Part, part_number}
 use Rattle.sp_grammar.specs.Terminals.{terminal_number}
@@ -20,8 +20,7 @@ use Rattle.sp_build.specs.declared.groups.Sort.TheVariants.{One as one_of}
 use Rattle.sp_build.specs.declared.groups.Slot.TheVariants.{Part as slot}
 use Rattle.sp_build.specs.Tokens.{integer_of}
 use Rattle.sp_print.specs.Own.{integer_keyword}
-use Rattle.sp_print.specs.Words.{Word, fixed}
-use Rattle.sp_print.specs.Words.{number as numeral}
+use Rattle.sp_print.specs.Words.{Word, fixed, number as numeral}
 use Rattle.sp_round_trip.specs.Bare.{nowhere}
 use Rattle.sp_round_trip.proofs.Held.{Pile}
 use Rattle.sp_round_trip.proofs.Goes.{Tok, entire, telling_of, number, next, coming, nothing, whole, mark}

@@ -13,6 +13,8 @@ use Rattle.sp_ast.specs.declared.forms.Form.{Form}
 use Rattle.sp_ast.specs.declared.forms.Form.TheVariants as form_is
 use Rattle.sp_ast.specs.Trees.{Tree, absent, row, node, trees}
 use Rattle.sp_build.specs.Groups.{is_node}
+use Rattle.sp_build.proofs.Standing.{some_equal, not_some, if_some}
+use Rattle.sp_build.proofs.Told.{never}
 use Rattle.sp_print.specs.declared.layouts.Frame.{Frame}
 use Rattle.sp_print.specs.declared.layouts.Frame.TheVariants as frame
 use Rattle.sp_print.specs.declared.layouts.Separator.{Separator}
@@ -30,8 +32,6 @@ use Rattle.sp_round_trip.proofs.Singles.{kind_for, is_single, kind_again}
 use Rattle.sp_round_trip.proofs.Shown.{Yield, one, optional, left_out, listed, followed, in_row, arguments, hooks, silent, yielded, Fits, IsOneNode, IsOneRow}
 use Rattle.sp_round_trip.proofs.Chunks.{Chunk, word, tree, is_new, Owns, chunk_words, Split, no_chunk, a_chunk, wrote, node_chunk, frame_number, separator_number, same_frame, same_separator, is_token, is_end, is_treeless, words_come, one_comes, is_between, more_come, list_comes, optional_comes, part_comes, own_comes, laid_as, ends_as, row_chunks}
 use Rattle.sp_round_trip.proofs.Piles.{chain_both}
-use Rattle.sp_build.proofs.Standing.{some_equal, not_some, if_some}
-use Rattle.sp_build.proofs.Told.{never}
 
 chain_groups : (x y z : Writing) → chain (chain x y) z ≡ chain x (chain y z)
 chain_groups x y z = fun_ext (chain_both x y z)

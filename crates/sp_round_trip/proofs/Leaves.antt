@@ -4,25 +4,24 @@ use Rattle.std.proofs.Common.{◌≡◌, ℕ, List, [], ◌∷◌, Bool, true, f
 use Rattle.sp_lex.specs.declared.kinds.Hook.{Hook}
 use Rattle.sp_lex.specs.declared.kinds.Hook.TheVariants as hook
 use Rattle.sp_lex.specs.declared.kinds.Keyword.TheVariants as keyword
-use Rattle.sp_ast.specs.declared.words.IntWord.TheVariants as integer
-use Rattle.sp_ast.specs.declared.words.AttributeName.TheVariants as attribute_name
 use Rattle.sp_lex.specs.declared.kinds.TokenKind.{TokenKind}
 use Rattle.sp_lex.specs.declared.kinds.TokenKind.TheVariants as token
 use Rattle.sp_parser.specs.Grammar.{takes, Nothing, All, SECOND}
+use Rattle.sp_runs.specs.Kinds.{number_of, terminal_of}
+use Rattle.sp_ast.specs.declared.words.IntWord.TheVariants as integer
+use Rattle.sp_ast.specs.declared.words.AttributeName.TheVariants as attribute_name
 use Rattle.sp_ast.specs.declared.forms.Form.{Form}
 use Rattle.sp_ast.specs.declared.words.IntWord.{IntWord}
 use Rattle.sp_ast.specs.declared.words.AttributeName.{AttributeName}
 use Rattle.sp_ast.specs.declared.words.HookName.{HookName}
 use Rattle.sp_build.specs.Rules.{Leaf, always, by_name, by_string, by_bytes, by_regex, by_number, by_integer, by_event}
 use Rattle.sp_build.specs.Tokens.{integer_of, attribute_of, hook_name_of}
+use Rattle.sp_build.proofs.Standing.{some_equal, not_some}
 use Rattle.sp_print.specs.Own.{own_words, integer_keyword, attribute_token, hook_token}
-use Rattle.sp_print.specs.Words.{Word, fixed, name, text, bytes, regex}
-use Rattle.sp_print.specs.Words.{number as numeral}
+use Rattle.sp_print.specs.Words.{Word, fixed, name, text, bytes, regex, number as numeral}
 use Rattle.sp_printed_words.specs.Sound.{read_as}
-use Rattle.sp_runs.specs.Kinds.{number_of, terminal_of}
 use Rattle.sp_round_trip.proofs.Held.{form_told}
 use Rattle.sp_round_trip.proofs.Goes.{Tok, entire, half, tells, number}
-use Rattle.sp_build.proofs.Standing.{some_equal, not_some}
 
 -- the word that an alternative tells which is of a token
 abbrev pub LeafSays : Leaf → Type 0

@@ -3,12 +3,12 @@
 use Rattle.std.specs.Prelude.{◌≤◌, nat_lt, ◌&&◌, ◌||◌, not, if◌then◌else◌}
 use Rattle.std.proofs.Common.{◌≡◌, ℕ, zero, suc, List, [], ◌∷◌, Bool, true, Option, Some, None, refl, ap, sym, subst, inl, inr, ⊎_elim, arith}
 use Rattle.std.proofs.lemmas.Bool.{cases_Bool, ltb-true, ltb-false, or_parts}
-use Rattle.sp_parser.specs.declared.symbol.Symbol.TheVariants as symbol
 use Rattle.sp_lex.specs.declared.kinds.Mark.TheVariants as sign
 use Rattle.sp_lex.specs.declared.kinds.TokenKind.{TokenKind}
 use Rattle.sp_lex.specs.declared.kinds.TokenKind.TheVariants as kind
+use Rattle.sp_parser.specs.declared.symbol.Symbol.TheVariants as symbol
 use Rattle.sp_grammar.specs.declared.marks.Mark.TheVariants as build
-use Rattle.sp_grammar.specs.Written.{Part, part_number}
+use Rattle.sp_grammar.specs.Written.{Part, part_number, part as part_symbol}
 use Rattle.sp_grammar.specs.Own.{own}
 use Rattle.sp_ast.specs.Trees.{Tree}
 use Rattle.sp_build.specs.declared.groups.Group.TheVariants.{Expressions as expressions}
@@ -21,7 +21,6 @@ use Rattle.sp_round_trip.proofs.Held.{Pile, started, made, does, after, after_do
 use Rattle.sp_round_trip.proofs.Goes.{Tok, entire, next, Goes, nothing, whole, mark, before, before_both}
 use Rattle.sp_round_trip.proofs.Shown.{level_part, MayPass, Spells}
 use Rattle.sp_round_trip.proofs.Steps.{beside, chosen}
-use Rattle.sp_grammar.specs.Written.{part as part_symbol}
 
 -- what the part of the next level reads is read by the part of a level
 loosen : (level : ℕ) → 1 ≤ level → level ≤ 14 → {w v : List Tok} {s t : Pile} → Goes (symbol.Nonterminal (part_number (level_part (suc level))) ∷ []) w s v t → Goes (symbol.Nonterminal (part_number (level_part level)) ∷ []) w s v t

@@ -23,10 +23,10 @@ use Rattle.sp_build.specs.Groups.{fits, is_of, is_in, are_of, is_node, tree_grou
 use Rattle.sp_build.specs.Rules.{Leaf, always, by_name, by_string, by_bytes, by_regex, by_number, by_integer, by_event, Rule, begins, leaves_out, takes, gathers, closes, closes_integer, closes_attribute, encloses, joins, wraps, rule}
 use Rattle.sp_build.specs.Tokens.{form_of, integer_of, attribute_of}
 use Rattle.sp_build.specs.Building.{Stack, Left, left, then_do, popped, gathered, popped_all, opened, parts_of, popped_parts, close_with, push, push_if, worded, token_of, stretch, stretch_from, done_by, marked, with_mark, go_on, all_done}
+use Rattle.sp_build.proofs.Shapes.{and_then}
 use Rattle.sp_round_trip.specs.Bare.{bare, bares, nowhere}
 use Rattle.sp_round_trip.specs.Told.{Telling, telling, word_of}
 use Rattle.sp_round_trip.proofs.Held.{Held, started, made, Pile, After, after, after_do, top, front, start, filled, put, put_if, closed, form_told, does, does_all}
-use Rattle.sp_build.proofs.Shapes.{and_then}
 
 -- what the token at a place tells
 abbrev pub tell_at : List ℕ → List Token → ℕ → Telling

@@ -3,16 +3,18 @@ use Rattle.std.specs.Prelude.{length, not, ◌&&◌, if◌then◌else◌}
 use Rattle.std.proofs.Common.{◌≡◌, ℕ, suc, List, [], ◌∷◌, ◌++◌, Bool, true, false, ◌==◌, Option, Some, None, refl, sym, ◌∙◌, ap, subst}
 use Rattle.std.proofs.lemmas.Bool.{and_parts, eqb-true, not-true}
 use Rattle.std.proofs.lemmas.List.{append-nil, append_assoc}
-use Rattle.sp_parser.specs.Grammar.{Take, Nothing, First, All, takes as parser_takes, SECOND}
 use Rattle.sp_lex.specs.declared.kinds.TokenKind.{TokenKind}
-use Rattle.sp_runs.specs.Kinds.{number_of, terminal_of}
+use Rattle.sp_parser.specs.Grammar.{Take, Nothing, First, All, takes as parser_takes, SECOND}
 use Rattle.sp_grammar.specs.declared.marks.Mark.{Mark}
 use Rattle.sp_grammar.specs.declared.marks.Mark.TheVariants as build
+use Rattle.sp_runs.specs.Kinds.{number_of, terminal_of}
 use Rattle.sp_ast.specs.declared.forms.Form.{Form}
 use Rattle.sp_ast.specs.Trees.{Tree, absent, node, none, trees, in_row}
 use Rattle.sp_build.specs.declared.groups.Group.{Group}
 use Rattle.sp_build.specs.declared.groups.Slot.{Slot}
 use Rattle.sp_build.specs.Rules.{Leaf, always, Rule, begins, leaves_out, takes, gathers, closes, joins, wraps, rule}
+use Rattle.sp_build.proofs.Standing.{some_equal, not_some, if_some}
+use Rattle.sp_build.proofs.Told.{never}
 use Rattle.sp_print.specs.declared.layouts.Piece.{Piece}
 use Rattle.sp_print.specs.declared.layouts.Piece.TheVariants as piece
 use Rattle.sp_print.specs.Canonical.{Writing, nothing, chain, last_kind, laid, spelled}
@@ -29,8 +31,6 @@ use Rattle.sp_round_trip.proofs.Chunks.{Chunk, word, tree, built, is_new, node_c
 use Rattle.sp_round_trip.proofs.Laid.{laid_again, row_again, node_again}
 use Rattle.sp_round_trip.proofs.Advance.{State, put_on, add, stays, eats, stuck, leaf_chunk, is_itself, is_taken, is_all, always_moved, is_one, one_each, is_laid, put_before, wrapped_last, moved, row_moved, move}
 use Rattle.sp_round_trip.proofs.Piles.{Same, chain_same, alone, Piled, bottom, above, said, Copies, grown}
-use Rattle.sp_build.proofs.Standing.{some_equal, not_some, if_some}
-use Rattle.sp_build.proofs.Told.{never}
 use Rattle.sp_round_trip.proofs.Steps.{was_put}
 
 -- a token's tree is written by its own word alone

@@ -2,15 +2,15 @@
 use Rattle.std.proofs.Common.{◌≡◌, ◌≢◌, ℕ, List, [], ◌∷◌, ◌++◌, true, false, Option, Some, refl, sym, ◌∙◌, subst, inl, ⊎_elim, arith}
 use Rattle.std.proofs.lemmas.Bool.{eq-eqb, ltb-true}
 use Rattle.std.proofs.lemmas.Nat.Bits.{bit_at-pow_other}
-use Rattle.sp_parser.specs.Grammar.{right}
 use Rattle.sp_lex.specs.declared.kinds.Keyword.TheVariants as keyword
 use Rattle.sp_lex.specs.declared.kinds.Mark.TheVariants as sign
 use Rattle.sp_lex.specs.declared.kinds.TokenKind.{TokenKind}
 use Rattle.sp_lex.specs.declared.kinds.TokenKind.TheVariants as kind
+use Rattle.sp_parser.specs.Grammar.{right}
 use Rattle.sp_grammar.specs.declared.marks.Mark.TheVariants as build
 use Rattle.sp_grammar.specs.declared.terminals.Terminal.TheVariants as token
 use Rattle.sp_grammar.specs.Terminals.{terminal_number}
-use Rattle.sp_grammar.specs.Written.{Part, part_number}
+use Rattle.sp_grammar.specs.Written.{Part, part_number, part as part_symbol, mark as mark_symbol}
 use Rattle.sp_grammar.specs.Own.{own}
 use Rattle.sp_ast.specs.declared.forms.Form.{Form}
 use Rattle.sp_ast.specs.declared.forms.Form.TheVariants as form_is
@@ -30,8 +30,6 @@ use Rattle.sp_round_trip.proofs.Goes.{Tok, entire, next, coming, Goes, nothing, 
 use Rattle.sp_round_trip.proofs.Shown.{one as one_at, listed, arguments, yielded, Avoids, Shows, Claim, Spells, Trace}
 use Rattle.sp_round_trip.proofs.Levels.{primary_at}
 use Rattle.sp_round_trip.proofs.Steps.{passes_token, passes_part, passes_trees, passes_one, passes_begin, passes_row, passes_closes, passes_none, beside, chosen, Gather, Close}
-use Rattle.sp_grammar.specs.Written.{part as part_symbol}
-use Rattle.sp_grammar.specs.Written.{mark as mark_symbol}
 
 -- no arguments: nothing stands there
 without_arguments : (v : List Tok) (s : Pile) → Avoids (Some token.LeftParen) v → Goes (part_symbol Part.NewArgs ∷ []) v s v (made (row none) ∷ s)

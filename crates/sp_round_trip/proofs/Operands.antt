@@ -1,11 +1,11 @@
 -- The alternatives of expressions whose operands stand at places of their own: a division, a call, a `new`, and a number
 -- with its type.
 use Rattle.std.proofs.Common.{◌≡◌, ℕ, List, [], ◌∷◌, ◌++◌, true, false, Some, refl, sym, ◌∙◌, subst, inl, inr, ⊎_elim, arith}
-use Rattle.sp_parser.specs.Grammar.{right}
 use Rattle.sp_lex.specs.declared.kinds.Mark.TheVariants as sign
 use Rattle.sp_lex.specs.declared.kinds.TokenKind.TheVariants as kind
+use Rattle.sp_parser.specs.Grammar.{right}
 use Rattle.sp_grammar.specs.declared.marks.Mark.TheVariants as build
-use Rattle.sp_grammar.specs.Written.{Part, part_number}
+use Rattle.sp_grammar.specs.Written.{Part, part_number, part as part_symbol}
 use Rattle.sp_grammar.specs.Own.{own}
 use Rattle.sp_ast.specs.declared.forms.Form.{Form}
 use Rattle.sp_ast.specs.declared.forms.Form.TheVariants as form_is
@@ -28,7 +28,6 @@ use Rattle.sp_round_trip.proofs.Closing.{joined_all}
 use Rattle.sp_round_trip.proofs.Shown.{listed, yielded, Shows, Claim, MayPass, Spells, Trace}
 use Rattle.sp_round_trip.proofs.Levels.{at_level}
 use Rattle.sp_round_trip.proofs.Steps.{passes_token, passes_mark, passes_trees, passes_expression, passes_begin, passes_row, passes_none, beside, chosen, Gather}
-use Rattle.sp_grammar.specs.Written.{part as part_symbol}
 
 abbrev division : Form
 division = form_is.Expr (expr_is.Binary binary.Divide)

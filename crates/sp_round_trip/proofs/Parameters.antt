@@ -1,13 +1,10 @@
 -- Parameters in parentheses: where there are none, canonically there are no parentheses.
 use Rattle.std.proofs.Common.{List, [], ◌∷◌, Some, refl, sym, arith, subst, inl}
-use Rattle.sp_parser.specs.Grammar.{right}
 use Rattle.sp_lex.specs.declared.kinds.TokenKind.TheVariants as token
 use Rattle.sp_lex.specs.declared.kinds.Mark.TheVariants as sign
+use Rattle.sp_parser.specs.Grammar.{right}
 use Rattle.sp_grammar.specs.declared.marks.Mark.TheVariants as build
-use Rattle.sp_grammar.specs.Written.{part as part_symbol}
-use Rattle.sp_grammar.specs.Written.{mark as mark_symbol}
-use Rattle.sp_grammar.specs.Written.{kind as kind_symbol}
-use Rattle.sp_grammar.specs.Written.{Part, part_number}
+use Rattle.sp_grammar.specs.Written.{part as part_symbol, mark as mark_symbol, kind as kind_symbol, Part, part_number}
 use Rattle.sp_grammar.specs.declared.terminals.Terminal.TheVariants as terminal
 use Rattle.sp_grammar.specs.Own.{own}
 use Rattle.sp_ast.specs.Trees.{Tree, in_row}

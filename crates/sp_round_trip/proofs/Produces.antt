@@ -7,18 +7,18 @@ use Rattle.sp_parser.specs.declared.symbol.Symbol.{Symbol}
 use Rattle.sp_parser.specs.Grammar.{Applies, right, production_of, productions_of}
 use Rattle.sp_grammar.specs.Own.{own}
 use Rattle.sp_grammar.specs.Written.{Part, part_number}
+use Rattle.sp_grammar.proofs.Spans.{below, below_all}
 use Rattle.sp_ast.specs.Trees.{Tree}
+use Rattle.sp_build.proofs.Told.{never}
+use Rattle.sp_printed_words.specs.Modules.{module_lines}
 use Rattle.sp_round_trip.proofs.Held.{Pile}
 use Rattle.sp_round_trip.proofs.Goes.{Tok, number, before, Goes, nothing, whole, first_half, mark, part}
 use Rattle.sp_round_trip.proofs.Shown.{flat, Manner, other, manner_of, Claim, ClaimAs, Trace, ended, token_passed, half_passed, mark_passed, part_passed}
 use Rattle.sp_round_trip.proofs.Advance.{is_again}
 use Rattle.sp_round_trip.proofs.Declarations.{module_shown}
-use Rattle.sp_printed_words.specs.Modules.{module_lines}
 use Rattle.sp_round_trip.proofs.Converted.{ReadsModule}
 use Rattle.sp_round_trip.proofs.Again.{test_again}
 use Rattle.sp_round_trip.proofs.Alternatives.{alternatives, is_among, claimed_among}
-use Rattle.sp_grammar.proofs.Spans.{below, below_all}
-use Rattle.sp_build.proofs.Told.{never}
 
 abbrev is_other : Manner → Bool
 is_other other = true

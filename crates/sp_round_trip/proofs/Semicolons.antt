@@ -1,8 +1,8 @@
 -- Semicolons that may be left out: canonically they are.
 use Rattle.std.proofs.Common.{◌≡◌, List, [], refl, sym, arith}
+use Rattle.sp_parser.specs.Grammar.{right}
 use Rattle.sp_grammar.specs.Written.{Part, part_number}
 use Rattle.sp_grammar.specs.Own.{own}
-use Rattle.sp_parser.specs.Grammar.{right}
 use Rattle.sp_round_trip.proofs.Held.{Pile}
 use Rattle.sp_round_trip.proofs.Goes.{Tok, nothing}
 use Rattle.sp_round_trip.proofs.Shown.{Claim, Trace}

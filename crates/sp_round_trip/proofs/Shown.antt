@@ -2,17 +2,17 @@
 -- built is read from these words.
 use Rattle.std.specs.Prelude.{◌≤◌, ◌⊎◌, if◌then◌else◌}
 use Rattle.std.proofs.Common.{◌≡◌, ℕ, List, [], ◌∷◌, ◌++◌, map, get_or, Bool, true, false, ◌==◌, Option, Some, None}
-use Rattle.sp_parser.specs.declared.symbol.Symbol.{Symbol}
-use Rattle.sp_parser.specs.declared.symbol.Symbol.TheVariants as symbol
-use Rattle.sp_parser.specs.Grammar.{takes, First, All}
 use Rattle.sp_lex.specs.declared.kinds.Mark.TheVariants as sign
 use Rattle.sp_lex.specs.declared.kinds.TokenKind.{TokenKind}
 use Rattle.sp_lex.specs.declared.kinds.TokenKind.TheVariants as kind
+use Rattle.sp_parser.specs.declared.symbol.Symbol.{Symbol}
+use Rattle.sp_parser.specs.declared.symbol.Symbol.TheVariants as symbol
+use Rattle.sp_parser.specs.Grammar.{takes, First, All}
 use Rattle.sp_grammar.specs.declared.terminals.Terminal.{Terminal}
 use Rattle.sp_grammar.specs.declared.terminals.Terminal.TheVariants as token
 use Rattle.sp_grammar.specs.Marks.{mark_with}
 use Rattle.sp_grammar.specs.Terminals.{terminal_number}
-use Rattle.sp_grammar.specs.Written.{Part, part_number, all_parts}
+use Rattle.sp_grammar.specs.Written.{Part, part_number, all_parts, part as part_symbol}
 use Rattle.sp_ast.specs.declared.forms.Form.TheVariants as form_is
 use Rattle.sp_ast.specs.declared.forms.StmtForm.TheVariants as stmt_is
 use Rattle.sp_ast.specs.Trees.{Tree, absent, row, trees, tree}
@@ -23,15 +23,13 @@ use Rattle.sp_print.specs.declared.layouts.Frame.{Frame}
 use Rattle.sp_print.specs.declared.layouts.Frame.TheVariants as frame
 use Rattle.sp_print.specs.declared.layouts.Separator.{Separator}
 use Rattle.sp_print.specs.declared.layouts.Separator.TheVariants as separator
-use Rattle.sp_print.specs.Canonical.{Writing, nothing as no_words, chain, kinds, enclosed, at_place, framed, is_empty_row, level_of, spelled, rowed, parts_of, part_of}
-use Rattle.sp_print.specs.Canonical.{listed as written_listed, followed as written_followed}
+use Rattle.sp_print.specs.Canonical.{Writing, nothing as no_words, chain, kinds, enclosed, at_place, framed, is_empty_row, level_of, spelled, rowed, parts_of, part_of, listed as written_listed, followed as written_followed}
 use Rattle.sp_print.specs.Words.{Word}
 use Rattle.sp_printed_words.specs.Modules.{lines_of}
 use Rattle.sp_round_trip.specs.Bare.{nowhere}
 use Rattle.sp_round_trip.specs.Told.{Telling}
 use Rattle.sp_round_trip.proofs.Held.{Pile, started, made, does}
 use Rattle.sp_round_trip.proofs.Goes.{Tok, entire, half, number, next, coming, Goes, before, pushed}
-use Rattle.sp_grammar.specs.Written.{part as part_symbol}
 
 -- how trees are written
 pub data Yield : Type 0 where

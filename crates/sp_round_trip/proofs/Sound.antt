@@ -3,10 +3,10 @@ use Rattle.std.specs.Prelude.{not, nat_lt, ◌&&◌, ◌||◌, ◌⊎◌, ◌≤
 use Rattle.std.proofs.Common.{◌≡◌, ℕ, List, [], ◌∷◌, ◌++◌, Bool, true, false, ◌==◌, Option, Some, None, cond, refl, sym, ◌∙◌, ap, subst, inl, inr, arith}
 use Rattle.std.proofs.lemmas.Bool.{and_parts, cases_Bool, eqb-true, ltb-true, not-true}
 use Rattle.std.proofs.lemmas.List.{append-nil, append_assoc}
+use Rattle.sp_lex.specs.declared.kinds.TokenKind.{TokenKind}
 use Rattle.sp_parser.specs.declared.symbol.Symbol.{Symbol}
 use Rattle.sp_parser.specs.declared.symbol.Symbol.TheVariants as symbol
 use Rattle.sp_parser.specs.Grammar.{Nothing, First, All, takes, CLOSE, SECOND}
-use Rattle.sp_lex.specs.declared.kinds.TokenKind.{TokenKind}
 use Rattle.sp_grammar.specs.declared.marks.Mark.{Mark}
 use Rattle.sp_grammar.specs.declared.terminals.Terminal.{Terminal}
 use Rattle.sp_grammar.specs.declared.terminals.Terminal.TheVariants as token
@@ -17,6 +17,9 @@ use Rattle.sp_ast.specs.Trees.{Tree, node, absent, row}
 use Rattle.sp_build.specs.declared.groups.Group.TheVariants.{Expressions as expressions}
 use Rattle.sp_build.specs.Groups.{is_of, is_node}
 use Rattle.sp_build.specs.Rules.{rule}
+use Rattle.sp_build.proofs.Standing.{some_equal, not_some, if_some}
+use Rattle.sp_build.proofs.Told.{never}
+use Rattle.sp_build.proofs.Shapes.{and_then}
 use Rattle.sp_print.specs.Canonical.{last_kind}
 use Rattle.sp_print.specs.Words.{Word, fixed}
 use Rattle.sp_round_trip.proofs.Held.{Pile, does}
@@ -29,10 +32,7 @@ use Rattle.sp_round_trip.proofs.Advance.{State, add, Move, stays, eats, stuck, G
 use Rattle.sp_round_trip.proofs.Firsts.{first_tested, paren_tested, else_tested, comes_behind, follows}
 use Rattle.sp_round_trip.proofs.Piles.{chain_same, alone, Piled, said, Copies, grown}
 use Rattle.sp_round_trip.proofs.Moves.{rule_plain, stayed, ate, eats_itself, not_second, all_taken}
-use Rattle.sp_build.proofs.Standing.{some_equal, not_some, if_some}
-use Rattle.sp_build.proofs.Told.{never}
 use Rattle.sp_round_trip.proofs.Steps.{beside, never_first, taken_by}
-use Rattle.sp_build.proofs.Shapes.{and_then}
 
 -- what may come behind the symbols
 abbrev pub Guarded : Guard → ℕ → List Tok → Type 0

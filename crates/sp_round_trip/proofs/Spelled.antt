@@ -3,8 +3,8 @@
 use Rattle.std.specs.Prelude.{◌≤◌, ◌||◌}
 use Rattle.std.proofs.Common.{◌≡◌, ℕ, List, [], ◌∷◌, true, false, ◌==◌, Option, refl, sym, subst, inl, inr, arith}
 use Rattle.std.proofs.lemmas.Bool.{cases_Bool, eqb-true}
-use Rattle.sp_parser.specs.declared.symbol.Symbol.TheVariants as symbol
 use Rattle.sp_lex.specs.declared.kinds.TokenKind.{TokenKind}
+use Rattle.sp_parser.specs.declared.symbol.Symbol.TheVariants as symbol
 use Rattle.sp_grammar.specs.Written.{Part, part_number}
 use Rattle.sp_ast.specs.Operators.{level}
 use Rattle.sp_ast.specs.declared.operators.BinaryOp.{BinaryOp}
@@ -15,6 +15,7 @@ use Rattle.sp_ast.specs.declared.forms.ExprForm.TheVariants as expr_is
 use Rattle.sp_ast.specs.Trees.{Tree, Trees, node, none, trees}
 use Rattle.sp_build.specs.declared.groups.Group.TheVariants.{Expressions as expressions}
 use Rattle.sp_build.specs.Groups.{is_of}
+use Rattle.sp_build.proofs.Told.{never}
 use Rattle.sp_print.specs.Canonical.{form_level, spelled}
 use Rattle.sp_round_trip.specs.Bare.{nowhere}
 use Rattle.sp_round_trip.proofs.Held.{Pile, made}
@@ -22,7 +23,6 @@ use Rattle.sp_round_trip.proofs.Goes.{Tok, Goes, before}
 use Rattle.sp_round_trip.proofs.Shown.{level_part, MayPass, Spells}
 use Rattle.sp_round_trip.proofs.Chunks.{is_expression, is_new}
 use Rattle.sp_round_trip.proofs.Levels.{primary_at}
-use Rattle.sp_build.proofs.Told.{never}
 
 abbrev IsLevel : ℕ → Type 0
 IsLevel n = (1 ≤ n) × (n ≤ 15)

@@ -4,6 +4,8 @@ use Rattle.std.specs.Int.{bit_at}
 use Rattle.std.proofs.Common.{◌≡◌, ℕ, List, [], ◌∷◌, map, Bool, true, false, ◌==◌, Option, Some, None, refl, sym, ◌∙◌, ap, subst, inl, inr}
 use Rattle.std.proofs.lemmas.Bool.{cases_Bool, eqb-true, cond-false}
 use Rattle.std.proofs.lemmas.Nat.Bits.{bit_at-zero}
+use Rattle.sp_lex.specs.declared.kinds.TokenKind.{TokenKind}
+use Rattle.sp_lex.specs.declared.kinds.Hook.{Hook}
 use Rattle.sp_parser.specs.declared.symbol.Symbol.{Symbol}
 use Rattle.sp_parser.specs.declared.symbol.Symbol.TheVariants as symbol
 use Rattle.sp_parser.specs.Grammar.{right, takes, First, All, Nothing, CLOSE, SECOND, production_of, productions_of, ahead}
@@ -13,33 +15,28 @@ use Rattle.sp_grammar.specs.Terminals.{terminal_number}
 use Rattle.sp_grammar.specs.declared.terminals.Terminal.TheVariants as terminal
 use Rattle.sp_grammar.specs.Own.{own}
 use Rattle.sp_grammar.specs.declared.marks.Mark.TheVariants as build
+use Rattle.sp_grammar.specs.Written.{mark as mark_symbol, kind as kind_symbol}
 use Rattle.sp_ast.specs.declared.forms.Form.{Form}
 use Rattle.sp_ast.specs.declared.forms.Form.TheVariants as form_is
-use Rattle.sp_lex.specs.declared.kinds.TokenKind.{TokenKind}
-use Rattle.sp_print.specs.Words.{Word, name}
-use Rattle.sp_print.specs.Words.{number as numeral}
-use Rattle.sp_printed_words.specs.Sound.{read_as}
-use Rattle.sp_round_trip.proofs.Held.{form_told}
 use Rattle.sp_ast.specs.Trees.{Tree, absent, tree, in_row}
 use Rattle.sp_ast.specs.declared.words.IntWord.{IntWord}
 use Rattle.sp_ast.specs.declared.words.AttributeName.{AttributeName}
 use Rattle.sp_build.specs.Tokens.{integer_of, attribute_of, hook_name_of}
-use Rattle.sp_lex.specs.declared.kinds.Hook.{Hook}
 use Rattle.sp_build.specs.declared.groups.Group.{Group}
 use Rattle.sp_build.specs.declared.groups.Slot.{Slot}
-use Rattle.sp_round_trip.specs.Bare.{nowhere}
-use Rattle.sp_round_trip.specs.Told.{Telling}
-use Rattle.sp_round_trip.proofs.Leaves.{mapped, event_told}
-use Rattle.sp_round_trip.proofs.Closing.{gathered_all, closed_all, wrapped}
 use Rattle.sp_build.specs.Groups.{is_node}
 use Rattle.sp_build.specs.Rules.{Leaf, by_name, by_number, by_event, rule, gathers, closes, closes_integer, closes_attribute, wraps, takes as takes_leaf}
-use Rattle.sp_round_trip.proofs.Held.{Pile, started, made, put_if, closed, does}
-use Rattle.sp_round_trip.proofs.Goes.{Tok, entire, half, tells, number, next, coming, pushed, Goes, nothing, whole, first_half, mark, part}
-use Rattle.sp_round_trip.proofs.Shown.{Spells, expression, Claim, ClaimAs, Yield, Fits, Shows, MayFollow, Avoids, avoided, is_kept, plain, one, manner_of, Trace, ended, token_passed, half_passed, mark_passed, part_passed}
 use Rattle.sp_build.proofs.Standing.{not_some, some_equal}
 use Rattle.sp_build.proofs.Told.{never}
-use Rattle.sp_grammar.specs.Written.{mark as mark_symbol}
-use Rattle.sp_grammar.specs.Written.{kind as kind_symbol}
+use Rattle.sp_print.specs.Words.{Word, name, number as numeral}
+use Rattle.sp_printed_words.specs.Sound.{read_as}
+use Rattle.sp_round_trip.specs.Bare.{nowhere}
+use Rattle.sp_round_trip.specs.Told.{Telling}
+use Rattle.sp_round_trip.proofs.Held.{form_told, Pile, started, made, put_if, closed, does}
+use Rattle.sp_round_trip.proofs.Leaves.{mapped, event_told}
+use Rattle.sp_round_trip.proofs.Closing.{gathered_all, closed_all, wrapped}
+use Rattle.sp_round_trip.proofs.Goes.{Tok, entire, half, tells, number, next, coming, pushed, Goes, nothing, whole, first_half, mark, part}
+use Rattle.sp_round_trip.proofs.Shown.{Spells, expression, Claim, ClaimAs, Yield, Fits, Shows, MayFollow, Avoids, avoided, is_kept, plain, one, manner_of, Trace, ended, token_passed, half_passed, mark_passed, part_passed}
 
 pub never_first : (b : Bool) → cond b All Nothing ≡ First → ⊥
 never_first true h = absurd cc

@@ -9,8 +9,8 @@ use Rattle.sp_parser.specs.Grammar.{Derives}
 use Rattle.sp_grammar.specs.Language.{language}
 use Rattle.sp_grammar.specs.Starts.{start_number}
 use Rattle.sp_grammar.specs.declared.language.Start.TheVariants.{Module}
-use Rattle.sp_ast.specs.Trees.{Tree}
 use Rattle.sp_runs.specs.Kinds.{numbers_of, number_of, terminal_of}
+use Rattle.sp_ast.specs.Trees.{Tree}
 use Rattle.sp_build.specs.declared.stack.Item.TheVariants.{Begun as begun, Built as built}
 use Rattle.sp_build.specs.Groups.{is_of}
 use Rattle.sp_build.specs.Starting.{group_of}

@@ -4,6 +4,7 @@ use Rattle.std.specs.List.{AllByRecursion}
 use Rattle.std.proofs.Common.{◌≡◌, ℕ, ◌<◌, length, option_map, inl, inr, ⊎_elim, List, [], ◌∷◌, reverse, Bool, true, false, Option, Some, None, refl, sym, subst}
 use Rattle.std.proofs.Math.ListN.{get_or-eq_default}
 use Rattle.std.proofs.lemmas.List.{get_or_default}
+use Rattle.std.proofs.lemmas.Bool.{and_parts, cases_lt}
 use Rattle.sp_lex.specs.declared.kinds.TokenKind.{TokenKind}
 use Rattle.sp_lex.specs.declared.kinds.TokenKind.TheVariants as token
 use Rattle.sp_lex.specs.declared.kinds.Absent.TheVariants as absent_word
@@ -13,7 +14,6 @@ use Rattle.sp_lex.specs.Lexed.{Lexed}
 use Rattle.sp_lex.specs.Literals.{number_value}
 use Rattle.sp_lex.specs.Readings.{bytes_of, token_at}
 use Rattle.sp_literals.specs.Values.{string_value, bytes_value, numbered, regex_text}
-use Rattle.sp_read_unit.specs.Modules.{IsModuleTree}
 use Rattle.sp_parser.specs.declared.symbol.Event.{Event}
 use Rattle.sp_grammar.specs.declared.marks.Mark.{Mark}
 use Rattle.sp_grammar.specs.declared.marks.Mark.TheVariants as build
@@ -35,10 +35,10 @@ use Rattle.sp_build.specs.Tokens.{form_of, integer_of, attribute_of, hook_name_o
 use Rattle.sp_build.specs.Building.{Stack, Left, left, then_do, popped, gathered, popped_all, opened, parts_of, popped_parts, close_with, push, push_if, worded, token_of, no_token, stretch, stretch_from, done_by, marked, with_mark, go_on, all_done}
 use Rattle.sp_print.specs.Own.{own_words}
 use Rattle.sp_print.specs.Words.{Word, fixed, name, text, bytes, regex, number}
+use Rattle.sp_read_unit.specs.Modules.{IsModuleTree}
 use Rattle.sp_printed_words.specs.Sound.{is_fixed}
 use Rattle.sp_printed_words.specs.Trees.{TellsOnly, TellOnly}
 use Rattle.sp_printed_words.specs.Told.{IsTold}
-use Rattle.std.proofs.lemmas.Bool.{and_parts, cases_lt}
 
 -- words of one text each, that the profile has
 abbrev all_fixed : List Word → Bool

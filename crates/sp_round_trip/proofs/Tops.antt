@@ -1,20 +1,20 @@
 -- A module that was read is formed, by what stands on top of the pile from symbol to symbol of the grammar.
 use Rattle.std.specs.Prelude.{if◌then◌else◌, ◌==◌, ◌&&◌, ◌||◌}
 use Rattle.std.proofs.Common.{append-nil, ◌≡◌, ℕ, zero, suc, ◌<◌, length, get_or, eqb-true, arith, List, [], ◌∷◌, ◌++◌, reverse, Bool, true, false, Option, Some, None, refl, sym, subst, ap, ◌∙◌, rules, tests}
-use Rattle.sp_parser.specs.declared.symbol.Symbol.{Symbol}
-use Rattle.sp_parser.specs.declared.symbol.Symbol.TheVariants as symbol
-use Rattle.sp_parser.specs.Grammar.{takes, First, All, SECOND, right, Production, at_production}
+use Rattle.std.proofs.lemmas.Bool.{and_parts}
 use Rattle.sp_lex.specs.Signs.{word_kind}
 use Rattle.sp_lex.specs.declared.kinds.TokenKind.{TokenKind}
 use Rattle.sp_lex.specs.declared.kinds.TokenKind.TheVariants as token
+use Rattle.sp_parser.specs.declared.symbol.Symbol.{Symbol}
+use Rattle.sp_parser.specs.declared.symbol.Symbol.TheVariants as symbol
+use Rattle.sp_parser.specs.Grammar.{takes, First, All, SECOND, right, Production, at_production}
 use Rattle.sp_grammar.specs.declared.marks.Mark.{Mark}
 use Rattle.sp_grammar.specs.declared.marks.Mark.TheVariants as build
 use Rattle.sp_grammar.specs.declared.terminals.Terminal.TheVariants as terminal
 use Rattle.sp_grammar.specs.Marks.{mark_with}
 use Rattle.sp_grammar.specs.Terminals.{terminal_number}
 use Rattle.sp_grammar.specs.Own.{own}
-use Rattle.sp_grammar.specs.Written.{Part, part_number}
-use Rattle.sp_grammar.specs.Written.{part as part_symbol}
+use Rattle.sp_grammar.specs.Written.{Part, part_number, part as part_symbol}
 use Rattle.sp_runs.specs.Kinds.{number_of, terminal_of}
 use Rattle.sp_ast.specs.declared.forms.Form.TheVariants as form_is
 use Rattle.sp_ast.specs.declared.forms.ExprForm.TheVariants as expr_is
@@ -25,17 +25,15 @@ use Rattle.sp_build.specs.declared.groups.Slot.TheVariants.{Part as part, Severa
 use Rattle.sp_build.specs.Groups.{is_of}
 use Rattle.sp_build.specs.Rules.{by_name, rule}
 use Rattle.sp_build.proofs.Standing.{some_equal, not_some, if_some, then_some}
+use Rattle.sp_build.proofs.Shapes.{and_then}
 use Rattle.sp_print.specs.Words.{Word, name}
 use Rattle.sp_printed_words.specs.Sound.{read_as}
 use Rattle.sp_printed_words.specs.Formed.{is_name, IsId, AreIds, first, IsFormedModule}
 use Rattle.sp_round_trip.specs.Bare.{nowhere}
 use Rattle.sp_round_trip.specs.Told.{Telling}
 use Rattle.sp_round_trip.proofs.Held.{started, made, Pile, After, after, after_do, top, front, start, filled, put, put_if, does, form_told}
-use Rattle.sp_round_trip.proofs.Goes.{Tok, entire, half, number, next, tells, Goes, nothing, whole, first_half, mark}
-use Rattle.sp_round_trip.proofs.Goes.{part as read_part}
+use Rattle.sp_round_trip.proofs.Goes.{Tok, entire, half, number, next, tells, Goes, nothing, whole, first_half, mark, part as read_part}
 use Rattle.sp_round_trip.proofs.Formed.{Nearly, Good, On, OnSome, OnAfter, AllOf, Fill, Fitting, name_is, top_on, front_on, start_on, then_on, then_after, free_of, formed_of, free_parts, formed_parts, mark_suits, RuleSuits, does_on}
-use Rattle.std.proofs.lemmas.Bool.{and_parts}
-use Rattle.sp_build.proofs.Shapes.{and_then}
 use Rattle.sp_round_trip.proofs.Steps.{never_first}
 
 -- What stands on top of the pile: anything, a name that is an ID, a name of which the token comes next, a name that may be
