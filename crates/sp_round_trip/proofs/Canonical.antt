@@ -21,15 +21,15 @@ use Rattle.sp_printed_words.proofs.Told.{told_no_zero, told_sound}
 use Rattle.sp_printed_words.proofs.Trees.{module_holds}
 use Rattle.sp_round_trip.specs.Bare.{bare}
 use Rattle.sp_round_trip.specs.Told.{told}
-use Rattle.sp_round_trip.proofs.Converted.{ReadsModule, goes_of_tree, tree_of_goes}
+use Rattle.sp_round_trip.proofs.TextReadings.{ReadsModule, goes_of_tree, tree_of_goes}
 use Rattle.sp_round_trip.proofs.Goes.{telling_of, before}
 use Rattle.sp_round_trip.proofs.Machine.{of_bare}
 use Rattle.sp_round_trip.proofs.Shown.{flat}
-use Rattle.sp_round_trip.proofs.Nowhere.{lines_same}
+use Rattle.sp_round_trip.proofs.Placeless.{lines_same}
 use Rattle.sp_round_trip.proofs.Tells.{module_tells}
-use Rattle.sp_round_trip.proofs.Placed.{words_placed}
-use Rattle.sp_round_trip.proofs.Produces.{again}
-use Rattle.sp_round_trip.proofs.Worded.{told_words, lines_told}
+use Rattle.sp_round_trip.proofs.PlacedWords.{words_placed}
+use Rattle.sp_round_trip.proofs.Productions.{again}
+use Rattle.sp_round_trip.proofs.ToldWords.{told_words, lines_told}
 
 -- each word of a module that was read can be read again, where it stands
 lines_sound : (lexed : Lexed) (m : Tree) → IsLexed lexed.text lexed.list → IsModuleTree lexed m → AreSound (module_lines m)

@@ -33,7 +33,7 @@ use Rattle.sp_round_trip.specs.Bare.{nowhere}
 use Rattle.sp_round_trip.specs.Told.{Telling}
 use Rattle.sp_round_trip.proofs.Held.{started, made, Pile, After, after, after_do, top, front, start, filled, put, put_if, does, form_told}
 use Rattle.sp_round_trip.proofs.Goes.{Tok, entire, half, number, next, tells, Goes, nothing, whole, first_half, mark, part as read_part}
-use Rattle.sp_round_trip.proofs.Formed.{Nearly, Good, On, OnSome, OnAfter, AllOf, Fill, Fitting, name_is, top_on, front_on, start_on, then_on, then_after, free_of, formed_of, free_parts, formed_parts, mark_suits, RuleSuits, does_on}
+use Rattle.sp_round_trip.proofs.FormedTrees.{Nearly, Good, On, OnSome, OnAfter, AllOf, Fill, Fitting, name_is, top_on, front_on, start_on, then_on, then_after, free_of, formed_of, free_parts, formed_parts, mark_suits, RuleSuits, does_on}
 use Rattle.sp_round_trip.proofs.Steps.{never_first}
 
 -- What stands on top of the pile: anything, a name that is an ID, a name of which the token comes next, a name that may be

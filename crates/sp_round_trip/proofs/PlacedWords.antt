@@ -10,11 +10,11 @@ use Rattle.sp_printed_words.specs.Trees.{TellsOnly, TellOnly}
 use Rattle.sp_printed_words.proofs.Placed.{module_placed}
 use Rattle.sp_printed_words.proofs.Told.{told_sound}
 use Rattle.sp_round_trip.specs.Bare.{bare, bares}
-use Rattle.sp_round_trip.proofs.Converted.{goes_of_tree}
-use Rattle.sp_round_trip.proofs.Nowhere.{lines_same}
+use Rattle.sp_round_trip.proofs.TextReadings.{goes_of_tree}
+use Rattle.sp_round_trip.proofs.Placeless.{lines_same}
 use Rattle.sp_round_trip.proofs.Tells.{module_tells}
-use Rattle.sp_round_trip.proofs.Tops.{module_formed}
-use Rattle.sp_round_trip.proofs.Worded.{told_words}
+use Rattle.sp_round_trip.proofs.FormedModules.{module_formed}
+use Rattle.sp_round_trip.proofs.ToldWords.{told_words}
 
 -- a tree apart from places tells what the tree tells
 mutual

@@ -34,7 +34,7 @@ use Rattle.sp_round_trip.proofs.Held.{Pile, made, does, does_all}
 use Rattle.sp_round_trip.proofs.Goes.{Tok, entire, half, tells, number, ending, next, Goes, telling_of, before}
 use Rattle.sp_round_trip.proofs.Goes as goes
 use Rattle.sp_round_trip.proofs.Machine.{piled, tell_at, all_held, of_bare}
-use Rattle.sp_round_trip.proofs.Telling.{one_left}
+use Rattle.sp_round_trip.proofs.AlikeTexts.{one_left}
 
 -- equal lists begin and end alike
 parts_same : {A : Type 0} (x y : A) (xs ys : List A) → x ∷ xs ≡ y ∷ ys → (x ≡ y) × (xs ≡ ys)

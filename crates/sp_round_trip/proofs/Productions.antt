@@ -16,9 +16,9 @@ use Rattle.sp_round_trip.proofs.Goes.{Tok, number, before, Goes, nothing, whole,
 use Rattle.sp_round_trip.proofs.Shown.{flat, Manner, other, manner_of, Claim, ClaimAs, Trace, ended, token_passed, half_passed, mark_passed, part_passed}
 use Rattle.sp_round_trip.proofs.Advance.{is_again}
 use Rattle.sp_round_trip.proofs.Declarations.{module_shown}
-use Rattle.sp_round_trip.proofs.Converted.{ReadsModule}
-use Rattle.sp_round_trip.proofs.Again.{test_again}
-use Rattle.sp_round_trip.proofs.Alternatives.{alternatives, is_among, claimed_among}
+use Rattle.sp_round_trip.proofs.TextReadings.{ReadsModule}
+use Rattle.sp_round_trip.proofs.Tested.{test_again}
+use Rattle.sp_round_trip.proofs.SpecialAlternatives.{alternatives, is_among, claimed_among}
 
 abbrev is_other : Manner → Bool
 is_other other = true

@@ -19,9 +19,9 @@ use Rattle.sp_round_trip.proofs.HookDeclarations.{on_shown}
 use Rattle.sp_round_trip.proofs.HookPaths.{more_path_shown, path_event_shown, path_end_shown}
 use Rattle.sp_round_trip.proofs.IfStatements.{if_shown}
 use Rattle.sp_round_trip.proofs.IntegerBases.{number_base_shown, integer_base_shown}
-use Rattle.sp_round_trip.proofs.Keeping.{kept, keeps_parentheses}
-use Rattle.sp_round_trip.proofs.News.{makes_new, has_arguments, has_no_arguments}
-use Rattle.sp_round_trip.proofs.Operands.{divides, calls}
+use Rattle.sp_round_trip.proofs.KeptTrees.{kept, keeps_parentheses}
+use Rattle.sp_round_trip.proofs.NewExpressions.{makes_new, has_arguments, has_no_arguments}
+use Rattle.sp_round_trip.proofs.DivisionsAndCalls.{divides, calls}
 use Rattle.sp_round_trip.proofs.Parameters.{parameters_shown, no_parameters_shown}
 use Rattle.sp_round_trip.proofs.Semicolons.{semicolon_shown, no_semicolon_shown}
 use Rattle.sp_round_trip.proofs.TypedNumbers.{types_number}
