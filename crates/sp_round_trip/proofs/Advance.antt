@@ -30,7 +30,7 @@ use Rattle.sp_round_trip.proofs.Chunks.{Chunk, word, tree, built, is_new, node_c
 
 -- The sets of the table, as they are for the parts of the grammar in its own words: there `Postfix` is an operand, and no
 -- tail of one.
-abbrev pub table_part : ℕ → ℕ
+abbrev table_part : ℕ → ℕ
 table_part n = if n == part_number Part.Postfix then part_number Part.Primary else n
 
 abbrev pub begins_with : ℕ → ℕ → Bool

@@ -1,4 +1,4 @@
--- Texts that tell the same.
+-- Texts that tell the same are the same module, apart from places.
 use Rattle.std.specs.Prelude.{option_map}
 use Rattle.std.proofs.Common.{◌≡◌, ℕ, [], ◌∷◌, map, get_or, Option, Some, None, true, refl, ap, sym, ◌∙◌, subst}
 use Rattle.std.proofs.Math.Path.{fun_ext}

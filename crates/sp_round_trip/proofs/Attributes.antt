@@ -1,4 +1,4 @@
--- Attributes of fields.
+-- Attributes of fields: each is of the word at which it began, with a value or none.
 use Rattle.std.specs.Prelude.{◌⊎◌}
 use Rattle.std.proofs.Common.{◌≡◌, ℕ, zero, suc, List, [], ◌∷◌, ◌++◌, Option, Some, refl, sym, ◌∙◌, arith, ap, subst, inl, inr, ◌==◌}
 use Rattle.sp_lex.specs.declared.kinds.TokenKind.{TokenKind}

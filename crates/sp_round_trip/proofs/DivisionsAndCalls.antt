@@ -1,5 +1,4 @@
--- The alternatives of expressions whose operands stand at places of their own: a division, a call, a `new`, and a number
--- with its type.
+-- A division, the left operand of which stands such that a `/` behind it divides; and a call.
 use Rattle.std.proofs.Common.{◌≡◌, ℕ, List, [], ◌∷◌, ◌++◌, true, false, Some, refl, sym, ◌∙◌, subst, inl, inr, ⊎_elim, arith}
 use Rattle.sp_lex.specs.declared.kinds.Mark.TheVariants as sign
 use Rattle.sp_lex.specs.declared.kinds.TokenKind.TheVariants as kind

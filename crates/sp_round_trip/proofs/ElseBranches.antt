@@ -35,7 +35,7 @@ use Rattle.sp_round_trip.proofs.Shown.{Claim, OptElseClaim, Trace, one, yielded,
 use Rattle.sp_round_trip.proofs.Steps.{Gather, Close, is_token, passes_token, passes_absent, passes_part, passes_one, passes_row, passes_closes, passes_none, beside, chosen}
 use Rattle.sp_round_trip.proofs.Piles.{last_both}
 
-abbrev pub if_form : Form
+abbrev if_form : Form
 if_form = form_is.Stmt stmt_is.If
 
 abbrev if_slots : List Slot

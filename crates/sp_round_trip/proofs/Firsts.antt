@@ -29,7 +29,7 @@ unfolding own
 else_tested = refl
 
 -- it doesn't come, or comes behind them
-abbrev pub IsBehind : ℕ → List Symbol → List Tok → List Tok → Type 0
+abbrev IsBehind : ℕ → List Symbol → List Tok → List Tok → Type 0
 IsBehind e ss w v = ((coming w == e) ≡ false) ⊎ ((w ≡ v) × (may_be_empty ss ≡ true))
 
 other_kind : (e f k : ℕ) (take : Take) → takes f k ≡ take → is_taken take ≡ true → is_taken (takes f e) ≡ false → (k == e) ≡ false

@@ -1,4 +1,4 @@
--- A tree that is built of formed trees is formed.
+-- What a rule builds of formed trees is formed, unless it is the rule of names or that of paths.
 use Rattle.std.specs.Prelude.{if◌then◌else◌, ◌&&◌, not, option_map}
 use Rattle.std.proofs.Common.{◌≡◌, List, [], ◌∷◌, ◌++◌, reverse, Bool, true, false, Option, Some, None, refl, sym, subst, ap, ◌∙◌, eq-eqb, eqb-true}
 use Rattle.std.proofs.lemmas.List.{reverse-append, append-nil}
@@ -166,7 +166,7 @@ but_slot (form_is.Base base_is.Group) (part b ∷ slots) = slots
 but_slot form slots = slots
 
 -- the slots want what the alternative wants of its parts
-abbrev pub wants : Form → List Slot → Bool
+abbrev wants : Form → List Slot → Bool
 wants (form_is.Name x) slots = false
 wants form_is.Path slots = false
 wants (form_is.Expr expr_is.Path) slots = is_in paths (group_first slots)

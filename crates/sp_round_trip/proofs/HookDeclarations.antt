@@ -1,4 +1,4 @@
--- A hook that is declared by itself.
+-- A hook that is declared by itself: the path of what it belongs to, an event if there is one, and its body.
 use Rattle.std.proofs.Common.{◌≡◌, ℕ, List, [], ◌∷◌, ◌++◌, Some, refl, sym, ◌∙◌, arith, ap, subst, inl}
 use Rattle.std.proofs.lemmas.List.{append-nil}
 use Rattle.sp_lex.specs.declared.kinds.TokenKind.TheVariants as token

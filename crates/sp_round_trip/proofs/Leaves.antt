@@ -50,7 +50,7 @@ is_always (always form) = true
 is_always _ = false
 
 -- a token that tells an integer type is its word
-pub integer_is : (kind : TokenKind) (w : IntWord) → integer_of kind ≡ Some w → kind ≡ token.Keyword (integer_keyword w)
+integer_is : (kind : TokenKind) (w : IntWord) → integer_of kind ≡ Some w → kind ≡ token.Keyword (integer_keyword w)
 integer_is (token.Keyword keyword.Uint8) integer.Uint8 e = refl
 integer_is (token.Keyword keyword.Uint16) integer.Uint16 e = refl
 integer_is (token.Keyword keyword.Uint32) integer.Uint32 e = refl
@@ -74,7 +74,7 @@ attribute_again attribute_name.Size = refl
 attribute_again a = refl
 
 -- the word that the tree of a token tells, which tells the same, and is of the same kind
-abbrev pub Again : Leaf → Form → Word → Type 0
+abbrev Again : Leaf → Form → Word → Type 0
 Again l form x = (w : Word) × (own_words form ≡ w ∷ []) × (number (entire w) ≡ number (entire x)) × (form_told l (read_as w) w ≡ Some form)
 
 pub mapped : {A B : Type 0} (f : A → B) (o : Option A) (y : B) → option_map f o ≡ Some y → (x : A) × (o ≡ Some x) × (f x ≡ y)

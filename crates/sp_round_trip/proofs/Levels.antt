@@ -43,7 +43,7 @@ loosen (suc (suc (suc (suc (suc (suc (suc (suc (suc (suc (suc (suc (suc (suc zer
 loosen (suc (suc (suc (suc (suc (suc (suc (suc (suc (suc (suc (suc (suc (suc (suc level))))))))))))))) low high g = absurd (omega (arith, high))
 
 -- what the part of a tighter level reads is read by the part of a looser one
-pub looser : (tight level : ℕ) → 1 ≤ level → level ≤ tight → tight ≤ 15 → {w v : List Tok} {s t : Pile} → Goes (symbol.Nonterminal (part_number (level_part tight)) ∷ []) w s v t → Goes (symbol.Nonterminal (part_number (level_part level)) ∷ []) w s v t
+looser : (tight level : ℕ) → 1 ≤ level → level ≤ tight → tight ≤ 15 → {w v : List Tok} {s t : Pile} → Goes (symbol.Nonterminal (part_number (level_part tight)) ∷ []) w s v t → Goes (symbol.Nonterminal (part_number (level_part level)) ∷ []) w s v t
 looser zero level low fits high g = absurd (omega (arith, low, fits))
 looser (suc tight) level low fits high {w} {v} {s} {t} g = elim (cases_Bool (nat_lt tight level)) [
   | inl y ↦

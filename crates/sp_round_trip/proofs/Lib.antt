@@ -5,6 +5,10 @@ pub mod Closing
 pub mod Leaves
 pub mod Shown
 pub mod Steps
+-- Expressions at their places.
+pub mod Levels
+pub mod Expressions
+pub mod Spelled
 -- A production that passes a test has its claim.
 pub mod Singles
 pub mod Chunks
@@ -15,16 +19,13 @@ pub mod Firsts
 pub mod Moves
 pub mod Sound
 pub mod Tested
--- Expressions.
-pub mod Levels
-pub mod Expressions
-pub mod Spelled
+-- The productions of expressions that are proved one by one.
 pub mod KeptTrees
 pub mod DivisionsAndCalls
 pub mod IntegerBases
 pub mod TypedNumbers
 pub mod NewExpressions
--- The other productions that are proved one by one.
+-- The others that are.
 pub mod HookPaths
 pub mod HookDeclarations
 pub mod Parameters

@@ -37,7 +37,7 @@ use Rattle.sp_round_trip.proofs.Steps.{was_put}
 abbrev Plainly : Leaf → Form → Type 0
 Plainly l form = (leaf_chunk l ≡ node_chunk form) × (layout form ≡ piece.Own ∷ []) × (is_new form ≡ false)
 
-abbrev pub RulePlain : Rule → Type 0
+abbrev RulePlain : Rule → Type 0
 RulePlain (takes (always form)) = Unit {0}
 RulePlain (takes l) = EachForm (Plainly l) l × LeafSays l
 RulePlain _ = Unit {0}
@@ -59,12 +59,12 @@ rule_plain build.RegexExpr = (λ x. (refl, refl, refl), λ x. refl)
 rule_plain m = tt
 
 -- A mark by itself: it writes nothing, and does the same on each copy, whatever token comes.
-abbrev pub Stays : Rule → State → {σ : State} {b s : Pile} → Piled σ b s → Pile → Type 0
+abbrev Stays : Rule → State → {σ : State} {b s : Pile} → Piled σ b s → Pile → Type 0
 Stays r next {b = b} g t =
     (now : Piled next b t) × Same (said now) (said g) × ((c z : Pile) (x : Telling) → Copies g c z → (y : Pile) × (does r x z ≡ Some y) × Copies now c y)
 
 -- A mark with the token that comes: it writes one word, which is such a token, and does the same on each copy where that word comes.
-abbrev pub Eats : Rule → ℕ → State → {σ : State} {b s : Pile} → Piled σ b s → Pile → Type 0
+abbrev Eats : Rule → ℕ → State → {σ : State} {b s : Pile} → Piled σ b s → Pile → Type 0
 Eats r e next {b = b} g t =
     (now : Piled next b t) × (w : Word) × Same (said now) (chain (said g) (λ last. w ∷ [])) × (parser_takes e (number (entire w)) ≡ All)
     × ((c z : Pile) → Copies g c z → (y : Pile) × (does r (telling_of w) z ≡ Some y) × Copies now c y)

@@ -29,7 +29,7 @@ pub chain_same : (x y z : Writing) → Same y z → Same (chain x y) (chain x z)
 chain_same x y z same last = ap (λ ws. x last ++ ws) (same (last_kind last (x last)))
 
 -- chunks behind others
-pub joined : {cs ds : List Chunk} {ts us : List Tree} (x : Split cs ts) (y : Split ds us) → (both : Split (cs ++ ds) (ts ++ us)) × Same (wrote both) (chain (wrote x) (wrote y))
+joined : {cs ds : List Chunk} {ts us : List Tree} (x : Split cs ts) (y : Split ds us) → (both : Split (cs ++ ds) (ts ++ us)) × Same (wrote both) (chain (wrote x) (wrote y))
 joined no_chunk y = (y, λ last. refl)
 joined {cs = c ∷ cs} {ds = ds} {us = us} (a_chunk {ts = ts} vs owns rest) y =
     let more = joined rest y in

@@ -59,7 +59,7 @@ produced n p w u s t a trace =
     ]
 
 -- a reading, with the claim of each part
-pub traced : {ss : List Symbol} {w v : List Tok} {s t : Pile} → Goes ss w s v t → Trace ss w s v t
+traced : {ss : List Symbol} {w v : List Tok} {s t : Pile} → Goes ss w s v t → Trace ss w s v t
 traced nothing = ended
 traced (whole passed g) = token_passed passed (traced g)
 traced (first_half passed g) = half_passed passed (traced g)

@@ -243,7 +243,7 @@ pub record Spells (t : Tree) : Type 0 where
   pub reads : (last : Option TokenKind) (v : List Tok) (s : Pile) → MayPass (level_of t) v → Goes (symbol.Nonterminal (part_number (level_part (level_of t))) ∷ []) (before (spelled t last) v) s v (made t ∷ s)
 
 -- The rest of a path of a hook, behind the names xs: more names, and an event or none.
-abbrev pub OnPathClaim : Pile → Pile → Type 0
+abbrev OnPathClaim : Pile → Pile → Type 0
 OnPathClaim s t =
     (xs : List Tree) (p : Telling) (b : Pile) → s ≡ pushed xs (started p ∷ b)
     → (ys : List Tree) × (e : Tree) × (t ≡ made e ∷ made (tree form_is.Path nowhere (xs ++ ys)) ∷ b)
@@ -260,7 +260,7 @@ OptElseClaim w s t u =
     → Goes (part_symbol Part.OptElse ∷ []) (before (chain (written_followed separator.ElseIf (parts_of (trees cs))) (framed frame.Else (part_of e)) last) v) (pushed bs (started x ∷ started y ∷ c)) v (made (tree (form_is.Stmt stmt_is.If) nowhere (row (trees (bs ++ cs)) ∷ e ∷ [])) ∷ c))
 
 -- The arguments of a `new`: a row of trees. Where it is empty nothing stands there, and then no `(` may come behind.
-abbrev pub NewArgsClaim : Pile → Pile → Type 0
+abbrev NewArgsClaim : Pile → Pile → Type 0
 NewArgsClaim s t =
     (us : List Tree) × (t ≡ made (row (trees us)) ∷ s)
     × ((last : Option TokenKind) (v : List Tok) (b : Pile) → (us ≡ [] → Avoids (Some token.LeftParen) v)
@@ -272,7 +272,7 @@ flat [] = []
 flat (ws ∷ lines) = ws ++ flat lines
 
 -- declarations, each as a line
-abbrev pub DeclsClaim : Pile → Pile → Type 0
+abbrev DeclsClaim : Pile → Pile → Type 0
 DeclsClaim s t =
     (ts : List Tree) × (t ≡ pushed ts s)
     × ((v : List Tok) (b : Pile) → Goes (part_symbol Part.Decls ∷ []) (before (flat (lines_of (trees ts))) v) b v (pushed ts b))

@@ -1,4 +1,4 @@
--- The kind of token that each terminal of the grammar is, where it is just one.
+-- The kind of token that each terminal of the grammar is, where it is only one.
 use Rattle.std.proofs.Common.{◌≡◌, ℕ, List, [], ◌∷◌, get_or, Bool, true, false, refl}
 use Rattle.sp_lex.specs.declared.kinds.Attribute.TheVariants as attribute
 use Rattle.sp_lex.specs.declared.kinds.Keyword.TheVariants as keyword

@@ -1,5 +1,5 @@
--- The alternatives of parts of which it is proved one by one that they can be read again, to be found by their part and
--- their place in it.
+-- The alternatives of which the test does not hold, as their canonical text has other tokens or parentheses, or as their
+-- trees are no plain list: each by its part and its place in it, with the proof that it has its claim.
 use Rattle.std.specs.Prelude.{◌&&◌, ◌||◌}
 use Rattle.std.proofs.Common.{◌≡◌, ℕ, List, [], ◌∷◌, map, Bool, true, false, ◌==◌, subst, inl, inr, refl}
 use Rattle.std.proofs.lemmas.Bool.{and_parts, cases_Bool, eqb-true}

@@ -129,7 +129,7 @@ number_told k (numeral n) form h = (n, sym (some_equal h))
 number_told k x form h = absurd cc
 
 -- a tree of one token, by the word that told it
-pub passes_leaf : {n e : ℕ} (m : Mark) (l : Leaf) {ss : List Symbol} {w v : List Tok} {s z : Pile} → mark_with n ≡ Some m → rule m ≡ takes_leaf l → (e == CLOSE) ≡ false → takes e SECOND ≡ Nothing → Trace (symbol.Mark n ∷ symbol.Terminal e ∷ ss) w s v z
+passes_leaf : {n e : ℕ} (m : Mark) (l : Leaf) {ss : List Symbol} {w v : List Tok} {s z : Pile} → mark_with n ≡ Some m → rule m ≡ takes_leaf l → (e == CLOSE) ≡ false → takes e SECOND ≡ Nothing → Trace (symbol.Mark n ∷ symbol.Terminal e ∷ ss) w s v z
     → (x : Word) × (form : Form) × (takes e (number (entire x)) ≡ All) × (form_told l (read_as x) x ≡ Some form) × (rest : List Tok) × Trace ss rest (made (tree form nowhere []) ∷ s) v z
 passes_leaf {e = e} m l {ss = ss} {w = w} {v = v} {s = s} {z = z} is does_so itself second trace =
     let (t, done, behind) = passes_mark m is trace in

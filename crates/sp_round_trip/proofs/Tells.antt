@@ -225,7 +225,7 @@ module _ (P : Word → Type 0) (of_fixed : (k : TokenKind) → is_fixed k ≡ tr
   none_told its (regex x) told = let e = told.0 in absurd cc
 
   -- it holds of the words that each token of a text tells
-  abbrev pub EachTells : List ℕ → List Token → Type 0
+  abbrev EachTells : List ℕ → List Token → Type 0
   EachTells source tokens = (n : ℕ) → n < length tokens → TokenTells (numbered tokens n).kind (bytes_of source (numbered tokens n))
 
   token_tells : (source : List ℕ) (tokens : List Token) → EachTells source tokens → (n : ℕ) → TokenTells (token_of tokens n).kind (bytes_of source (token_of tokens n))
