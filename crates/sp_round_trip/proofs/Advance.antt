@@ -25,7 +25,7 @@ use Rattle.sp_print.specs.declared.layouts.Piece.TheVariants as piece
 use Rattle.sp_print.specs.Layouts.{layout}
 use Rattle.sp_round_trip.proofs.Closing.{are_parts}
 use Rattle.sp_round_trip.proofs.Singles.{kind_for}
-use Rattle.sp_round_trip.proofs.Shown.{Yield, one, optional, left_out, in_row, arguments, hooks, Manner, plain, expression, manner_of, avoided, is_kept, level_part}
+use Rattle.sp_round_trip.proofs.Shown.{Yield, one, optional, left_out, in_row, arguments, hooks, Manner, plain, expression, manner_of, avoided, is_kept, level_part, is_avoided}
 use Rattle.sp_round_trip.proofs.Chunks.{Chunk, word, tree, built, is_new, node_chunk, is_token, laid_as, ends_as, row_chunks}
 
 -- The sets of the table, as they are for the parts of the grammar in its own words: there `Postfix` is an operand, and no
@@ -72,10 +72,6 @@ abbrev pub are_marks : List Symbol → Bool
 are_marks [] = true
 are_marks (symbol.Mark m ∷ ss) = are_marks ss
 are_marks _ = false
-
-abbrev pub is_avoided : Option Terminal → Terminal → Bool
-is_avoided None e = false
-is_avoided (Some f) e = terminal_number f == terminal_number e
 
 -- the tokens that parts avoid
 abbrev pub is_watched : Terminal → Bool

@@ -29,7 +29,7 @@ use Rattle.sp_round_trip.proofs.Goes.{Tok, entire, telling_of, number, next, com
 use Rattle.sp_round_trip.proofs.Shown.{Claim, Trace, optional, listed, yielded, Shows, MayFollow}
 use Rattle.sp_round_trip.proofs.Leaves.{attribute_again}
 use Rattle.sp_round_trip.proofs.Steps.{CloseBy, passes_token, passes_begin, passes_trees, passes_attribute, passes_none, beside, reads_mark, reads_token, reads_nothing, unavoided, chosen}
-use Rattle.sp_round_trip.proofs.FieldHooks.{nothing_between}
+use Rattle.sp_round_trip.proofs.Laid.{nothing_between}
 
 -- the word of an attribute
 abbrev attribute_word : AttributeName → Word
@@ -65,7 +65,7 @@ attributes_again a value us came k closes show_value more last v s may =
     let first = yielded (optional frame.Equal) (value ∷ []) kind in
     let behind = last_kind kind (first ++ []) in
     let rest = yielded (listed separator.Nothing) us behind in
-    let words = ap (λ z. before ((first ++ []) ++ z) v) (nothing_between us behind) ∙ before_both (first ++ []) rest v ∙ before_both first [] (before rest v) in
+    let words = ap (λ z. before ((first ++ []) ++ z behind) v) (sym (nothing_between us)) ∙ before_both (first ++ []) rest v ∙ before_both first [] (before rest v) in
     let inner : Pile = started (telling_of (attribute_word a)) ∷ s in
     let reads_more = more behind v (made (attribute_of_value a value) ∷ s) may in
     let reads = beside (show_value kind (before rest v) inner (behind_value k came (before rest v) v may (attributes_begin reads_more))) (mark build.Attribute refl (closes (telling_of (attribute_word a)) s (attribute_again a)) (beside reads_more nothing)) in

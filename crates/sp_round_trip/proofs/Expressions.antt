@@ -5,23 +5,17 @@ use Rattle.std.proofs.lemmas.Bool.{and_parts, eqb-true, ltb-true, le-ltb, not-tr
 use Rattle.sp_parser.specs.declared.symbol.Symbol.TheVariants as symbol
 use Rattle.sp_grammar.specs.declared.terminals.Terminal.{Terminal}
 use Rattle.sp_grammar.specs.declared.terminals.Terminal.TheVariants as token
-use Rattle.sp_grammar.specs.Terminals.{terminal_number}
 use Rattle.sp_grammar.specs.Written.{Part, part_number, all_parts}
 use Rattle.sp_ast.specs.Trees.{Tree}
-use Rattle.sp_build.proofs.Told.{never}
 use Rattle.sp_print.specs.Canonical.{at_place, spelled}
 use Rattle.sp_round_trip.proofs.Held.{made}
-use Rattle.sp_round_trip.proofs.Goes.{Tok, coming, Goes, before}
-use Rattle.sp_round_trip.proofs.Shown.{Manner, expression, other, one, manner, avoids, keeps_else, manner_of, is_kept, Avoids, Shows, level_part, Spells}
+use Rattle.sp_round_trip.proofs.Goes.{Tok, Goes, before}
+use Rattle.sp_round_trip.proofs.Shown.{Manner, expression, other, one, manner, avoids, keeps_else, manner_of, is_kept, Avoids, Shows, level_part, Spells, is_avoided, avoided_there}
 use Rattle.sp_round_trip.proofs.Levels.{at_level}
 
 -- a part that reads expressions of a level: below the level of a Primary it is that of the level, and avoids a `(`
-abbrev is_left_paren : Option Terminal → Bool
-is_left_paren None = false
-is_left_paren (Some e) = terminal_number e == terminal_number token.LeftParen
-
 abbrev is_of_level : ℕ → Option Terminal → Bool → Manner → Bool
-is_of_level n avoid keeps (expression level) = nat_lt 14 level || (n == part_number (level_part level) && nat_lt 0 level && is_left_paren avoid && not keeps)
+is_of_level n avoid keeps (expression level) = nat_lt 14 level || (n == part_number (level_part level) && nat_lt 0 level && is_avoided avoid token.LeftParen && not keeps)
 is_of_level n avoid keeps _ = true
 
 abbrev all_of_levels : ℕ → List Part → Bool
@@ -31,18 +25,14 @@ all_of_levels n (p ∷ ps) = is_of_level n (avoids p) (keeps_else p) (manner p) 
 abbrev IsOfLevel : ℕ → Option Terminal → Bool → ℕ → Type 0
 IsOfLevel n avoid keeps level = (n ≡ part_number (level_part level)) × (1 ≤ level) × ((v : List Tok) → Avoids avoid v → Avoids (Some token.LeftParen) v) × (keeps ≡ false)
 
-avoided_paren : (o : Option Terminal) → is_left_paren o ≡ true → (v : List Tok) → Avoids o v → Avoids (Some token.LeftParen) v
-avoided_paren None h v a = never h
-avoided_paren (Some e) h v a = subst (λ n. (coming v == n) ≡ false) (eqb-true (terminal_number e) (terminal_number token.LeftParen) h) a
-
 of_level : (n level : ℕ) (avoid : Option Terminal) (keeps : Bool) (m : Manner) → is_of_level n avoid keeps m ≡ true → m ≡ expression level → level ≤ 14 → IsOfLevel n avoid keeps level
 of_level n level avoid keeps m h e high =
-    let h : (nat_lt 14 level || (n == part_number (level_part level) && nat_lt 0 level && is_left_paren avoid && not keeps)) ≡ true = subst (λ x. is_of_level n avoid keeps x ≡ true) e h in
-    let h : (n == part_number (level_part level) && nat_lt 0 level && is_left_paren avoid && not keeps) ≡ true = subst (λ b. (b || (n == part_number (level_part level) && nat_lt 0 level && is_left_paren avoid && not keeps)) ≡ true) (le-ltb 14 level high) h in
-    let last = and_parts (n == part_number (level_part level) && nat_lt 0 level && is_left_paren avoid) (not keeps) h in
-    let third = and_parts (n == part_number (level_part level) && nat_lt 0 level) (is_left_paren avoid) last.0 in
+    let h : (nat_lt 14 level || (n == part_number (level_part level) && nat_lt 0 level && is_avoided avoid token.LeftParen && not keeps)) ≡ true = subst (λ x. is_of_level n avoid keeps x ≡ true) e h in
+    let h : (n == part_number (level_part level) && nat_lt 0 level && is_avoided avoid token.LeftParen && not keeps) ≡ true = subst (λ b. (b || (n == part_number (level_part level) && nat_lt 0 level && is_avoided avoid token.LeftParen && not keeps)) ≡ true) (le-ltb 14 level high) h in
+    let last = and_parts (n == part_number (level_part level) && nat_lt 0 level && is_avoided avoid token.LeftParen) (not keeps) h in
+    let third = and_parts (n == part_number (level_part level) && nat_lt 0 level) (is_avoided avoid token.LeftParen) last.0 in
     let first = and_parts (n == part_number (level_part level)) (nat_lt 0 level) third.0 in
-    (eqb-true n (part_number (level_part level)) first.0, ltb-true 0 level first.1, avoided_paren avoid third.1, not-true keeps last.1)
+    (eqb-true n (part_number (level_part level)) first.0, ltb-true 0 level first.1, (λ v. avoided_there avoid token.LeftParen v third.1), not-true keeps last.1)
 
 all_of : (n k level : ℕ) (ps : List Part) → all_of_levels n ps ≡ true → get_or (map manner ps) k other ≡ expression level → level ≤ 14 → IsOfLevel (n + k) (get_or (map avoids ps) k None) (get_or (map keeps_else ps) k false) level
 all_of n k level [] h m high = absurd (let q : other ≡ expression level = m in cc)

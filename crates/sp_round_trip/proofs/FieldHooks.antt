@@ -1,22 +1,17 @@
 -- What ends a field: its hooks, or a semicolon. A semicolon behind hooks is left out canonically.
-use Rattle.std.proofs.Common.{◌≡◌, ℕ, List, [], ◌∷◌, ◌++◌, Option, refl, sym, arith, subst, inl, ap, ◌∙◌}
-use Rattle.sp_lex.specs.declared.kinds.TokenKind.{TokenKind}
+use Rattle.std.proofs.Common.{ℕ, List, [], ◌∷◌, ◌++◌, refl, sym, arith, subst, inl, ap, ◌∙◌}
 use Rattle.sp_parser.specs.Grammar.{right}
 use Rattle.sp_grammar.specs.declared.marks.Mark.TheVariants as build
 use Rattle.sp_grammar.specs.Written.{mark as mark_symbol, Part, part_number}
 use Rattle.sp_grammar.specs.Own.{own}
-use Rattle.sp_ast.specs.Trees.{Tree, trees, in_row}
-use Rattle.sp_print.specs.Canonical.{last_kind, parts_of, listed as written_listed, followed as written_followed}
+use Rattle.sp_ast.specs.Trees.{Tree, in_row}
+use Rattle.sp_print.specs.Canonical.{last_kind}
 use Rattle.sp_print.specs.declared.layouts.Separator.TheVariants as separator
 use Rattle.sp_round_trip.proofs.Held.{Pile, started, made}
 use Rattle.sp_round_trip.proofs.Goes.{Tok, next, coming, before, pushed, Goes, nothing, whole, mark, before_both}
 use Rattle.sp_round_trip.proofs.Shown.{Claim, Trace, one, hooks, listed, silent, yielded, Shows}
 use Rattle.sp_round_trip.proofs.Steps.{Gather, passes_token, passes_one, passes_trees, passes_begin, passes_row, passes_none, beside, chosen}
-
--- where nothing stands between them, trees are written alike behind another one
-pub nothing_between : (us : List Tree) (last : Option TokenKind) → written_followed separator.Nothing (parts_of (trees us)) last ≡ written_listed separator.Nothing (parts_of (trees us)) last
-nothing_between [] last = refl
-nothing_between (x ∷ us) last = refl
+use Rattle.sp_round_trip.proofs.Laid.{nothing_between}
 
 pub no_hooks_shown : (w u : List Tok) (s t : Pile) → Trace (right own (part_number Part.FieldEnd) 0) w s u t → Claim (part_number Part.FieldEnd) w s t u
 unfolding own
@@ -31,7 +26,7 @@ hooks_again x us came i k l gather hook more semicolon last v s may =
     let first = yielded (one 1) (x ∷ []) last in
     let behind = last_kind last first in
     let rest = yielded (listed separator.Nothing) us behind in
-    let words = ap (λ z. before (first ++ z) v) (nothing_between us behind) ∙ before_both first rest v in
+    let words = ap (λ z. before (first ++ z behind) v) (sym (nothing_between us)) ∙ before_both first rest v in
     let inner : Pile = started (next (before first (before rest v))) ∷ s in
     let reads = beside (hook last (before rest v) inner (inl tt)) (beside (more behind v (made x ∷ inner) (inl tt)) (beside (semicolon behind v (pushed us (made x ∷ inner)) (inl tt)) (mark build.Row refl (gather (next v) _ s) nothing))) in
     chosen (part_number Part.FieldEnd) 1 (omega arith) refl (subst (λ z. Goes (right own (part_number Part.FieldEnd) 1) z s v (made (in_row (x ∷ us)) ∷ s)) (sym words) (mark build.Begin refl refl reads))

@@ -177,7 +177,7 @@ between_one separator.Scope e h = ap (λ k. kinds (k ∷ [])) (is_kind (kind.Mar
 between_one separator.ElseIf e h = never (and_parts (is_token (kind.Keyword keyword.Else) e) false h).1
 
 -- rows with nothing between the trees follow a tree as they stand alone
-nothing_between : (us : List Tree) → yielded (listed separator.Nothing) us ≡ yielded (followed separator.Nothing) us
+pub nothing_between : (us : List Tree) → yielded (listed separator.Nothing) us ≡ yielded (followed separator.Nothing) us
 nothing_between [] = refl
 nothing_between (t ∷ us) = refl
 

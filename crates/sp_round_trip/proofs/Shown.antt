@@ -1,7 +1,7 @@
 -- How the trees of each part of the grammar are written, and what is claimed of a part that was read: that what it
 -- built is read from these words.
 use Rattle.std.specs.Prelude.{◌≤◌, ◌⊎◌, if◌then◌else◌}
-use Rattle.std.proofs.Common.{◌≡◌, ℕ, List, [], ◌∷◌, ◌++◌, map, get_or, Bool, true, false, ◌==◌, Option, Some, None}
+use Rattle.std.proofs.Common.{◌≡◌, ℕ, List, [], ◌∷◌, ◌++◌, map, get_or, Bool, true, false, ◌==◌, Option, Some, None, subst, eqb-true}
 use Rattle.sp_lex.specs.declared.kinds.Mark.TheVariants as sign
 use Rattle.sp_lex.specs.declared.kinds.TokenKind.{TokenKind}
 use Rattle.sp_lex.specs.declared.kinds.TokenKind.TheVariants as kind
@@ -30,6 +30,7 @@ use Rattle.sp_round_trip.specs.Bare.{nowhere}
 use Rattle.sp_round_trip.specs.Told.{Telling}
 use Rattle.sp_round_trip.proofs.Held.{Pile, started, made, does}
 use Rattle.sp_round_trip.proofs.Goes.{Tok, entire, half, number, next, coming, Goes, before, pushed}
+use Rattle.sp_build.proofs.Told.{never}
 
 -- how trees are written
 pub data Yield : Type 0 where
@@ -218,6 +219,15 @@ is_kept n = get_or (map keeps_else all_parts) n false
 abbrev pub Avoids : Option Terminal → List Tok → Type 0
 Avoids None v = Unit {0}
 Avoids (Some e) v = (coming v == terminal_number e) ≡ false
+
+-- whether it is this token that is avoided
+abbrev pub is_avoided : Option Terminal → Terminal → Bool
+is_avoided None e = false
+is_avoided (Some f) e = terminal_number f == terminal_number e
+
+pub avoided_there : (o : Option Terminal) (e : Terminal) (v : List Tok) → is_avoided o e ≡ true → Avoids o v → Avoids (Some e) v
+avoided_there None e v ok avoids = never ok
+avoided_there (Some f) e v ok avoids = subst (λ n. (coming v == n) ≡ false) (eqb-true (terminal_number f) (terminal_number e) ok) avoids
 
 -- what may come behind a part, behind which this kind came in the original
 abbrev pub MayFollow : ℕ → ℕ → List Tok → Type 0

@@ -1,7 +1,7 @@
 -- What the test of a production finds is so: its trees can be read again, from what the chunks on the pile are written as.
 use Rattle.std.specs.Prelude.{not, nat_lt, ◌&&◌, ◌||◌, ◌⊎◌, ◌≤◌, ◌<◌, if◌then◌else◌}
 use Rattle.std.proofs.Common.{◌≡◌, ℕ, List, [], ◌∷◌, ◌++◌, Bool, true, false, ◌==◌, Option, Some, None, cond, refl, sym, ◌∙◌, ap, subst, inl, inr, arith}
-use Rattle.std.proofs.lemmas.Bool.{and_parts, cases_Bool, eqb-true, ltb-true, not-true}
+use Rattle.std.proofs.lemmas.Bool.{and_parts, cases_Bool, ltb-true, not-true}
 use Rattle.std.proofs.lemmas.List.{append-nil, append_assoc}
 use Rattle.sp_lex.specs.declared.kinds.TokenKind.{TokenKind}
 use Rattle.sp_parser.specs.declared.symbol.Symbol.{Symbol}
@@ -24,11 +24,11 @@ use Rattle.sp_print.specs.Canonical.{last_kind}
 use Rattle.sp_print.specs.Words.{Word, fixed}
 use Rattle.sp_round_trip.proofs.Held.{Pile, does}
 use Rattle.sp_round_trip.proofs.Goes.{Tok, entire, number, next, coming, before, pushed, Goes, nothing, whole, mark, before_both}
-use Rattle.sp_round_trip.proofs.Shown.{Yield, one, Manner, plain, expression, manner_of, avoided, is_kept, Avoids, Fits, Shows, yielded, ClaimAs, Trace, ended, token_passed, half_passed, mark_passed, part_passed}
+use Rattle.sp_round_trip.proofs.Shown.{Yield, one, Manner, plain, expression, manner_of, avoided, is_kept, Avoids, Fits, Shows, yielded, ClaimAs, Trace, ended, token_passed, half_passed, mark_passed, part_passed, is_avoided, avoided_there}
 use Rattle.sp_round_trip.proofs.Expressions.{expression_shows}
 use Rattle.sp_round_trip.proofs.Singles.{kind_for}
 use Rattle.sp_round_trip.proofs.Chunks.{word, tree, wrote}
-use Rattle.sp_round_trip.proofs.Advance.{State, add, Move, stays, eats, stuck, Guard, is_watched, are_marks, is_avoided, may_be_empty, comes_first, next_fits, move, move_at, then_go, yield_of, is_read, shown_number, advance}
+use Rattle.sp_round_trip.proofs.Advance.{State, add, Move, stays, eats, stuck, Guard, is_watched, are_marks, may_be_empty, comes_first, next_fits, move, move_at, then_go, yield_of, is_read, shown_number, advance}
 use Rattle.sp_round_trip.proofs.Firsts.{first_tested, paren_tested, else_tested, comes_behind, follows}
 use Rattle.sp_round_trip.proofs.Piles.{chain_same, alone, Piled, said, Copies, grown}
 use Rattle.sp_round_trip.proofs.Moves.{rule_plain, stayed, ate, eats_itself, not_second, all_taken}
@@ -119,10 +119,6 @@ marks_only [] ok ended = refl
 marks_only (symbol.Mark m ∷ ss) ok (mark_passed n is done more) = marks_only ss ok more
 marks_only (symbol.Terminal e ∷ ss) ok tr = never ok
 marks_only (symbol.Nonterminal e ∷ ss) ok tr = never ok
-
-avoided_there : (o : Option Terminal) (e : Terminal) (v : List Tok) → is_avoided o e ≡ true → Avoids o v → Avoids (Some e) v
-avoided_there None e v ok avoids = never ok
-avoided_there (Some f) e v ok avoids = subst (λ n. (coming v == n) ≡ false) (eqb-true (terminal_number f) (terminal_number e) ok) avoids
 
 -- what may come behind a part is what comes there
 may_come : (o : Option Terminal) (guard : Guard) (n : ℕ) (ss : List Symbol) {u1 u r v : List Tok} {s t y z : Pile} → next_fits o guard n ss ≡ true → Goes ss r y v z → Trace ss u1 s u t → Guarded guard (coming u) v
