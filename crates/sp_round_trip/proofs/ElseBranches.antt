@@ -90,6 +90,10 @@ branch_again bs cs e x came behind before_rest branch rest last v p q c may =
     let reads = beside (branch if_kind words (pushed bs (started p ∷ started q ∷ c)) (behind_branch cs e after came behind v before_rest may)) (beside behind_it nothing) in
     chosen (part_number Part.OptElse) 0 (omega arith) refl (whole refl (whole refl (subst (λ z. Goes (part_symbol Part.Branch ∷ part_symbol Part.OptElse ∷ []) z (pushed bs (started p ∷ started q ∷ c)) v (made (if_tree (bs ++ x ∷ cs) e) ∷ c)) (sym (branch_then x cs e if_kind v)) reads)))
 
+-- the branches so far, and one more
+more_built : (bs cs : List Tree) (x e : Tree) (b r t : Pile) → r ≡ t → r ≡ made (if_tree (bs ++ x ∷ [] ++ cs) e) ∷ b → t ≡ made (if_tree (bs ++ x ∷ cs) e) ∷ b
+more_built bs cs x e b r t same built = sym same ∙ built ∙ ap (λ zs. made (if_tree zs e) ∷ b) (append_assoc bs (x ∷ []) cs)
+
 pub else_if_shown : (w u : List Tok) (s t : Pile) → Trace (right own (part_number Part.OptElse) 0) w s u t → Claim (part_number Part.OptElse) w s t u
 unfolding own
 else_if_shown w u s t trace bs p q b same =
@@ -99,7 +103,7 @@ else_if_shown w u s t trace bs p q b same =
     let (g, t', claim, ends) = passes_part more in
     let (none_left, pile) = passes_none ends in
     let (cs, e, built, came, reads) = subst (λ l. OptElseClaim f (made z ∷ s) t' l) none_left claim (bs ++ z ∷ []) p q b (ap (λ r. made z ∷ r) same ∙ sym (pushed_append bs (z ∷ []) (started p ∷ started q ∷ b))) in
-    (z ∷ cs, e, sym pile ∙ built ∙ ap (λ zs. made (if_tree zs e) ∷ b) (append_assoc bs (z ∷ []) cs), inl (ap coming is ∙ is_token (terminal_number terminal.Else) x refl taken), branch_again bs cs e z (coming f) (coming u) came shows reads)
+    (z ∷ cs, e, more_built bs cs z e b t' t pile built, inl (ap coming is ∙ is_token (terminal_number terminal.Else) x refl taken), branch_again bs cs e z (coming f) (coming u) came shows reads)
 
 -- a part that isn't left out stands behind its `else`
 else_words : (e : Tree) (last : Option TokenKind) → is_node e ≡ true → rest_words [] e last ≡ fixed (token.Keyword keyword.Else) ∷ (yielded (one 1) (e ∷ []) (Some (token.Keyword keyword.Else)) ++ [])

@@ -1,13 +1,12 @@
 -- A module that was read is formed, by what stands on top of the pile from symbol to symbol of the grammar.
-use Rattle.std.specs.Prelude.{if◌then◌else◌, ◌==◌, ◌&&◌, ◌||◌}
-use Rattle.std.proofs.Common.{append-nil, ◌≡◌, ℕ, zero, suc, ◌<◌, length, get_or, eqb-true, arith, List, [], ◌∷◌, ◌++◌, reverse, Bool, true, false, Option, Some, None, refl, sym, subst, ap, ◌∙◌, rules, tests}
-use Rattle.std.proofs.lemmas.Bool.{and_parts}
+use Rattle.std.specs.Prelude.{if◌then◌else◌, ◌==◌, ◌||◌}
+use Rattle.std.proofs.Common.{append-nil, ◌≡◌, ℕ, eqb-true, List, [], ◌∷◌, ◌++◌, reverse, Bool, true, false, Option, Some, None, refl, sym, subst, ap, ◌∙◌, rules, tests}
 use Rattle.sp_lex.specs.Signs.{word_kind}
 use Rattle.sp_lex.specs.declared.kinds.TokenKind.{TokenKind}
 use Rattle.sp_lex.specs.declared.kinds.TokenKind.TheVariants as token
 use Rattle.sp_parser.specs.declared.symbol.Symbol.{Symbol}
 use Rattle.sp_parser.specs.declared.symbol.Symbol.TheVariants as symbol
-use Rattle.sp_parser.specs.Grammar.{takes, First, All, SECOND, right, Production, at_production}
+use Rattle.sp_parser.specs.Grammar.{takes, First, All, SECOND, right, Production}
 use Rattle.sp_grammar.specs.declared.marks.Mark.{Mark}
 use Rattle.sp_grammar.specs.declared.marks.Mark.TheVariants as build
 use Rattle.sp_grammar.specs.declared.terminals.Terminal.TheVariants as terminal
@@ -15,6 +14,7 @@ use Rattle.sp_grammar.specs.Marks.{mark_with}
 use Rattle.sp_grammar.specs.Terminals.{terminal_number}
 use Rattle.sp_grammar.specs.Own.{own}
 use Rattle.sp_grammar.specs.Written.{Part, part_number, part as part_symbol}
+use Rattle.sp_grammar.proofs.Spans.{every_production, one_production}
 use Rattle.sp_runs.specs.Kinds.{number_of, terminal_of}
 use Rattle.sp_ast.specs.declared.forms.Form.TheVariants as form_is
 use Rattle.sp_ast.specs.declared.forms.ExprForm.TheVariants as expr_is
@@ -243,27 +243,12 @@ ends_in None st = false
 ends_in (Some st') st = covers st' st
 
 -- the productions of a part keep to it
-abbrev keep : State → State → List Production → Bool
-keep st st' [] = true
-keep st st' (p ∷ ps) = ends_in (run st p.symbols) st' && keep st st' ps
+abbrev keeps : ℕ → Production → Bool
+keeps n r = ends_in (run (before_part n) r.symbols) (after_part n)
 
-abbrev all_keep : (ℕ → State) → (ℕ → State) → List (List Production) → Bool
-all_keep front behind [] = true
-all_keep front behind (ps ∷ pss) = keep (front 0) (behind 0) ps && all_keep (λ n. front (suc n)) (λ n. behind (suc n)) pss
-
-own_keeps : all_keep before_part after_part own.productions ≡ true
+own_keeps : every_production own keeps ≡ true
 unfolding own
 own_keeps = refl
-
-kept : (st st' : State) (ps : List Production) (p : ℕ) → keep st st' ps ≡ true → p < length ps → ends_in (run st (at_production ps p).symbols) st' ≡ true
-kept st st' [] p e below = absurd (omega arith)
-kept st st' (q ∷ ps) zero e below = (and_parts (ends_in (run st q.symbols) st') (keep st st' ps) e).0
-kept st st' (q ∷ ps) (suc p) e below = kept st st' ps p (and_parts (ends_in (run st q.symbols) st') (keep st st' ps) e).1 (omega arith)
-
-all_kept : (front behind : ℕ → State) (pss : List (List Production)) (n p : ℕ) → all_keep front behind pss ≡ true → p < length (get_or pss n []) → ends_in (run (front n) (at_production (get_or pss n []) p).symbols) (behind n) ≡ true
-all_kept front behind [] n p e below = absurd (omega arith)
-all_kept front behind (ps ∷ pss) zero p e below = kept (front 0) (behind 0) ps p (and_parts (keep (front 0) (behind 0) ps) (all_keep (λ n. front (suc n)) (λ n. behind (suc n)) pss) e).0 below
-all_kept front behind (ps ∷ pss) (suc n) p e below = all_kept (λ n. front (suc n)) (λ n. behind (suc n)) pss n p (and_parts (keep (front 0) (behind 0) ps) (all_keep (λ n. front (suc n)) (λ n. behind (suc n)) pss) e).1 below
 
 ended : (o : Option State) (st : State) → ends_in o st ≡ true → (x : State) × (o ≡ Some x) × (covers x st ≡ true)
 ended None st e = cc
@@ -326,7 +311,7 @@ goes_on st st' e is (mark {n = n} {ss = ss} {w = w} {s = s} {t = t} m there d re
 goes_on st st' e is (read_part {n = n} {ss = ss} {w = w} {u = u} {s = s} {t = t} p applies inner rest) =
     let h = then_some (if covers st (before_part n) then Some (after_part n) else None) (λ after. run after ss) st' e in
     let g = if_some (covers st (before_part n)) (Some (after_part n)) h.0 h.1 in
-    let k = ended (run (before_part n) (right own n p)) (after_part n) (all_kept before_part after_part own.productions n p own_keeps applies.below) in
+    let k = ended (run (before_part n) (right own n p)) (after_part n) (one_production own keeps n p own_keeps applies.below) in
     let left = cover_means k.0 (after_part n) u t k.2 (goes_on (before_part n) k.0 k.1 (cover_means st (before_part n) w s g.0 is) inner) in
     goes_on h.0 st' h.2 (subst (λ x. Means x u t) (some_equal g.1) left) rest
 
