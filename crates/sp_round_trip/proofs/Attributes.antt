@@ -78,7 +78,7 @@ attribute_with w u b s t ts (value, one) shows trace =
     let (a, closes, rest) = passes_attribute build.Attribute value_slot (λ name. form_is.Attribute name) (value ∷ []) (next w) refl refl marked in
     let (d, us, fits, more, ends) = passes_trees (part_number Part.Attrs) (listed separator.Nothing) refl rest in
     let (same, pile) = passes_none ends in
-    (attribute_of_value a value ∷ us, sym pile, tt, attributes_again a value us (coming u) (coming b) closes (subst (λ z. Shows (part_number Part.OptValue) (optional frame.Equal) z (coming b)) one shows) (subst (λ z. Shows (part_number Part.Attrs) (listed separator.Nothing) us (coming z)) same more))
+    (attribute_of_value a value ∷ us, pile, tt, attributes_again a value us (coming u) (coming b) closes (subst (λ z. Shows (part_number Part.OptValue) (optional frame.Equal) z (coming b)) one shows) (subst (λ z. Shows (part_number Part.Attrs) (listed separator.Nothing) us (coming z)) same more))
 
 pub attributes_shown : (w u : List Tok) (s t : Pile) → Trace (right own (part_number Part.Attrs) 0) w s u t → Claim (part_number Part.Attrs) w s t u
 unfolding own

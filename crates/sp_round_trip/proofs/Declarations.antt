@@ -73,11 +73,11 @@ unfolding own
 declarations_shown w u s t trace =
     let (a, x, whole_tree, shows, more) = passes_one (part_number Part.Decl) 1 refl trace in
     let (b, t', (ts, pile, reads), ends) = passes_part more in
-    (x ∷ ts, sym (passes_none ends).1 ∙ pile, declarations_again x ts (coming a) shows reads)
+    (x ∷ ts, (passes_none ends).1 ∙ pile, declarations_again x ts (coming a) shows reads)
 
 pub no_declarations_shown : (w u : List Tok) (s t : Pile) → Trace (right own (part_number Part.Decls) 1) w s u t → Claim (part_number Part.Decls) w s t u
 unfolding own
-no_declarations_shown w u s t trace = ([], sym (passes_none trace).1, λ v b. chosen (part_number Part.Decls) 1 (omega arith) refl nothing)
+no_declarations_shown w u s t trace = ([], (passes_none trace).1, λ v b. chosen (part_number Part.Decls) 1 (omega arith) refl nothing)
 
 abbrev module_slots : List Slot
 module_slots = slot (one_of names) ∷ slot (rows_of declarations) ∷ []

@@ -60,7 +60,7 @@ divides {s = s} g =
     let (w, y, y_spells, g) = passes_expression (part_number Part.Prefix) 13 refl g in
     let (t, d, g) = passes_mark build.Divide refl g in
     let (is, joined) = joined_all operands division (x ∷ y ∷ []) s t (next w) refl refl d in
-    (tree division nowhere (x ∷ y ∷ []), sym (passes_none g).1 ∙ is, divided x y x_spells y_spells joined)
+    (tree division nowhere (x ∷ y ∷ []), (passes_none g).1 ∙ is, divided x y x_spells y_spells joined)
 
 -- a call
 abbrev call : Form
@@ -99,4 +99,4 @@ calls {s = s} g =
     let (gathered, g) = passes_row ts (next inside) g in
     let (t, d, g) = passes_mark build.Call refl g in
     let (is, joined) = joined_all callee_and_arguments call (x ∷ in_row ts ∷ []) s t (next w) refl refl d in
-    (tree call nowhere (x ∷ in_row ts ∷ []), sym (passes_none g).1 ∙ is, called x ts (coming behind) x_spells shows gathered joined)
+    (tree call nowhere (x ∷ in_row ts ∷ []), (passes_none g).1 ∙ is, called x ts (coming behind) x_spells shows gathered joined)

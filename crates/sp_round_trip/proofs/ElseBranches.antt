@@ -91,8 +91,8 @@ branch_again bs cs e x came behind before_rest branch rest last v p q c may =
     chosen (part_number Part.OptElse) 0 (omega arith) refl (whole refl (whole refl (subst (λ z. Goes (part_symbol Part.Branch ∷ part_symbol Part.OptElse ∷ []) z (pushed bs (started p ∷ started q ∷ c)) v (made (if_tree (bs ++ x ∷ cs) e) ∷ c)) (sym (branch_then x cs e if_kind v)) reads)))
 
 -- the branches so far, and one more
-more_built : (bs cs : List Tree) (x e : Tree) (b r t : Pile) → r ≡ t → r ≡ made (if_tree (bs ++ x ∷ [] ++ cs) e) ∷ b → t ≡ made (if_tree (bs ++ x ∷ cs) e) ∷ b
-more_built bs cs x e b r t same built = sym same ∙ built ∙ ap (λ zs. made (if_tree zs e) ∷ b) (append_assoc bs (x ∷ []) cs)
+more_built : (bs cs : List Tree) (x e : Tree) (b r t : Pile) → t ≡ r → r ≡ made (if_tree (bs ++ x ∷ [] ++ cs) e) ∷ b → t ≡ made (if_tree (bs ++ x ∷ cs) e) ∷ b
+more_built bs cs x e b r t same built = same ∙ built ∙ ap (λ zs. made (if_tree zs e) ∷ b) (append_assoc bs (x ∷ []) cs)
 
 pub else_if_shown : (w u : List Tok) (s t : Pile) → Trace (right own (part_number Part.OptElse) 0) w s u t → Claim (part_number Part.OptElse) w s t u
 unfolding own
@@ -130,7 +130,7 @@ else_shown w u s t trace bs p q b same =
     let (f, e, is_one, shows, if_mark) = passes_one (part_number Part.Other) 1 refl statement in
     let (closes, ends) = passes_closes build.IfStmt if_slots if_form (row (trees bs) ∷ e ∷ []) q refl refl if_mark in
     let (none_left, pile) = passes_none ends in
-    ([], e, sym pile ∙ ap (λ zs. made (if_tree zs e) ∷ b) (sym (append-nil bs)), inl (ap coming is ∙ is_token (terminal_number terminal.Else) x refl taken), else_again bs e (coming f) (coming u) is_one (ap coming none_left) gather shows closes)
+    ([], e, pile ∙ ap (λ zs. made (if_tree zs e) ∷ b) (sym (append-nil bs)), inl (ap coming is ∙ is_token (terminal_number terminal.Else) x refl taken), else_again bs e (coming f) (coming u) is_one (ap coming none_left) gather shows closes)
 
 -- no `else` comes where none came
 no_else_comes : (came : ℕ) (v : List Tok) → bit_at (2 ^ terminal_number terminal.Else) came ≡ 0 → MayFollow (part_number Part.Stmt) came v → bit_at (2 ^ terminal_number terminal.Else) (coming v) ≡ 0
@@ -150,4 +150,4 @@ no_else_shown w u s t applies trace bs p q b same =
     let (closes, ends) = passes_closes build.IfStmt if_slots if_form (row (trees bs) ∷ absent ∷ []) q refl refl (passes_absent absent_mark) in
     let (none_left, pile) = passes_none ends in
     let none_came : bit_at (2 ^ terminal_number terminal.Else) (coming u) ≡ 0 = ap (λ z. bit_at (2 ^ terminal_number terminal.Else) (coming z)) (sym none_left) ∙ applies.allowed in
-    ([], absent, sym pile ∙ ap (λ zs. made (if_tree zs absent) ∷ b) (sym (append-nil bs)), inr (refl, refl, ap coming none_left), no_else_again bs (coming u) none_came gather closes)
+    ([], absent, pile ∙ ap (λ zs. made (if_tree zs absent) ∷ b) (sym (append-nil bs)), inr (refl, refl, ap coming none_left), no_else_again bs (coming u) none_came gather closes)

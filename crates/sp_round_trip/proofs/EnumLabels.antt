@@ -1,5 +1,5 @@
 -- Labels of enums behind the first: a comma behind the last one is left out canonically.
-use Rattle.std.proofs.Common.{◌≡◌, List, [], refl, sym, arith}
+use Rattle.std.proofs.Common.{◌≡◌, List, [], refl, arith}
 use Rattle.sp_parser.specs.Grammar.{right}
 use Rattle.sp_grammar.specs.Written.{Part, part_number}
 use Rattle.sp_grammar.specs.Own.{own}
@@ -9,9 +9,9 @@ use Rattle.sp_round_trip.proofs.Shown.{Claim, Trace}
 use Rattle.sp_round_trip.proofs.Steps.{passes_token, passes_none, chosen}
 
 -- no more labels
-no_labels : (w u : List Tok) (s t : Pile) → s ≡ t → Claim (part_number Part.Labels) w s t u
+no_labels : (w u : List Tok) (s t : Pile) → t ≡ s → Claim (part_number Part.Labels) w s t u
 unfolding own
-no_labels w u s t same = ([], sym same, tt, λ last v b h. chosen (part_number Part.Labels) 2 (omega arith) refl nothing)
+no_labels w u s t same = ([], same, tt, λ last v b h. chosen (part_number Part.Labels) 2 (omega arith) refl nothing)
 
 pub last_comma_shown : (w u : List Tok) (s t : Pile) → Trace (right own (part_number Part.Labels) 1) w s u t → Claim (part_number Part.Labels) w s t u
 unfolding own

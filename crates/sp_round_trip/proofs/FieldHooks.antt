@@ -18,7 +18,7 @@ unfolding own
 no_hooks_shown w u s t trace =
     let (x, a, is, taken, row_mark) = passes_token refl (passes_begin trace) in
     let (gather, ends) = passes_row [] (next w) row_mark in
-    (in_row [] ∷ [], sym (passes_none ends).1, ([], refl), λ last v b h. chosen (part_number Part.FieldEnd) 0 (omega arith) refl (mark build.Begin refl refl (whole refl (mark build.Row refl refl nothing))))
+    (in_row [] ∷ [], (passes_none ends).1, ([], refl), λ last v b h. chosen (part_number Part.FieldEnd) 0 (omega arith) refl (mark build.Begin refl refl (whole refl (mark build.Row refl refl nothing))))
 
 hooks_again : (x : Tree) (us : List Tree) (came i k l : ℕ) → Gather (x ∷ us) → Shows (part_number Part.FieldHook) (one 1) (x ∷ []) i → Shows (part_number Part.FieldHooks) (listed separator.Nothing) us k → Shows (part_number Part.OptSemi) silent [] l → Shows (part_number Part.FieldEnd) hooks (in_row (x ∷ us) ∷ []) came
 unfolding own
@@ -39,4 +39,4 @@ hooks_shown w u s t trace =
     let (c, ts, is_none, show_none, row_mark) = passes_trees (part_number Part.OptSemi) silent refl semicolon in
     let pile = subst (λ z. Trace (mark_symbol build.Row ∷ []) c (pushed z (pushed (x ∷ us) (started (next w) ∷ s))) u t) is_none row_mark in
     let (gather, ends) = passes_row (x ∷ us) (next w) pile in
-    (in_row (x ∷ us) ∷ [], sym (passes_none ends).1, (x ∷ us, refl), hooks_again x us (coming u) (coming a) (coming b) (coming c) gather show_first show_rest (subst (λ z. Shows (part_number Part.OptSemi) silent z (coming c)) is_none show_none))
+    (in_row (x ∷ us) ∷ [], (passes_none ends).1, (x ∷ us, refl), hooks_again x us (coming u) (coming a) (coming b) (coming c) gather show_first show_rest (subst (λ z. Shows (part_number Part.OptSemi) silent z (coming c)) is_none show_none))

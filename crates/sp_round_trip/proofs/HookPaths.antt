@@ -58,7 +58,7 @@ more_path_shown w u s t trace xs p b same =
     let (x, is_name, d, rest) = passes_name name_mark in
     let (f, t', claim, ends) = passes_part rest in
     let (ys, e, pile, reads) = claim (xs ++ named x ∷ []) p b (ap (λ z. made (named x) ∷ z) same ∙ sym (pushed_append xs (named x ∷ []) (started p ∷ b))) in
-    (named x ∷ ys, e, sym (passes_none ends).1 ∙ pile ∙ ap (λ zs. made e ∷ made (path_of zs) ∷ b) (append_assoc xs (named x ∷ []) ys), name_again xs ys e x is_name reads)
+    (named x ∷ ys, e, (passes_none ends).1 ∙ pile ∙ ap (λ zs. made e ∷ made (path_of zs) ∷ b) (append_assoc xs (named x ∷ []) ys), name_again xs ys e x is_name reads)
 
 event_again : (xs : List Tree) (h : Hook) → Close name_slots form_is.Path xs → Rest xs [] (tree (form_is.Event (hook_name_of h)) nowhere [])
 unfolding own
@@ -76,7 +76,7 @@ path_event_shown w u s t trace xs p b same =
     let (c, a, is, taken, path_mark) = passes_token refl (subst (λ z. Trace (right own (part_number Part.OnPath) 1) w z u t) same trace) in
     let (closes, event_mark) = passes_closes build.Path name_slots form_is.Path xs p refl refl path_mark in
     let (h, d, ends) = passes_event event_mark in
-    ([], tree (form_is.Event (hook_name_of h)) nowhere [], sym (passes_none ends).1 ∙ ap (λ zs. made (tree (form_is.Event (hook_name_of h)) nowhere []) ∷ made (path_of zs) ∷ b) (sym (append-nil xs)), event_again xs h closes)
+    ([], tree (form_is.Event (hook_name_of h)) nowhere [], (passes_none ends).1 ∙ ap (λ zs. made (tree (form_is.Event (hook_name_of h)) nowhere []) ∷ made (path_of zs) ∷ b) (sym (append-nil xs)), event_again xs h closes)
 
 no_event_again : (xs : List Tree) → Close name_slots form_is.Path xs → Rest xs [] absent
 unfolding own
@@ -88,4 +88,4 @@ pub path_end_shown : (w u : List Tok) (s t : Pile) → Trace (right own (part_nu
 unfolding own
 path_end_shown w u s t trace xs p b same =
     let (closes, absent_mark) = passes_closes build.Path name_slots form_is.Path xs p refl refl (subst (λ z. Trace (right own (part_number Part.OnPath) 2) w z u t) same trace) in
-    ([], absent, sym (passes_none (passes_absent absent_mark)).1 ∙ ap (λ zs. made absent ∷ made (path_of zs) ∷ b) (sym (append-nil xs)), no_event_again xs closes)
+    ([], absent, (passes_none (passes_absent absent_mark)).1 ∙ ap (λ zs. made absent ∷ made (path_of zs) ∷ b) (sym (append-nil xs)), no_event_again xs closes)

@@ -1,5 +1,5 @@
 -- The words of integer types as bases of fields: by themselves, and before a number.
-use Rattle.std.proofs.Common.{◌≡◌, ℕ, List, [], ◌∷◌, refl, sym, arith}
+use Rattle.std.proofs.Common.{◌≡◌, ℕ, List, [], ◌∷◌, refl, arith}
 use Rattle.sp_lex.specs.declared.kinds.TokenKind.TheVariants as token
 use Rattle.sp_lex.specs.declared.kinds.Mark.TheVariants as sign
 use Rattle.sp_parser.specs.Grammar.{right, takes, All}
@@ -57,7 +57,7 @@ number_base_shown w u s t trace =
     let (z, d, last_is, shut, base) = passes_token refl closing in
     let (i, closes, ends) = passes_integer build.NumberBase (slot (one_of numbers) ∷ []) number_base (tree (form_is.Number n) nowhere [] ∷ []) (next w) refl refl base in
     let built = tree (number_base i) nowhere (tree (form_is.Number n) nowhere [] ∷ []) in
-    (built ∷ [], sym (passes_none ends).1, (built, refl, refl), number_base_again i n (coming u) closes)
+    (built ∷ [], (passes_none ends).1, (built, refl, refl), number_base_again i n (coming u) closes)
 
 integer_base_again : (a : IntWord) (came : ℕ) → CloseBy [] (λ q. integer_of q.kind) int_type [] a → Shows (part_number Part.Base) (one 1) (tree (form_is.Base base_is.Type) nowhere (tree (int_type a) nowhere [] ∷ []) ∷ []) came
 unfolding own
@@ -71,4 +71,4 @@ integer_base_shown w u s t trace =
     let (i, closes, wrap) = passes_integer build.IntBase [] int_type [] (next w) refl refl int_base in
     let ends = passes_wraps build.TypeBase types (form_is.Base base_is.Type) (tree (int_type i) nowhere []) refl refl wrap in
     let built = tree (form_is.Base base_is.Type) nowhere (tree (int_type i) nowhere [] ∷ []) in
-    (built ∷ [], sym (passes_none ends).1, (built, refl, refl), integer_base_again i (coming u) closes)
+    (built ∷ [], (passes_none ends).1, (built, refl, refl), integer_base_again i (coming u) closes)

@@ -58,13 +58,13 @@ has_arguments {s = s} g =
     let g = passes_begin g in
     let (behind, ts, _, shows, g) = passes_trees (part_number Part.Args) (listed separator.Comma) refl g in
     let (_, _, _, _, g) = passes_token refl g in
-    let (gathered, g) = passes_row ts (next inside) g in (ts, sym (passes_none g).1, λ last v b avoids. arguments_read ts (coming behind) shows gathered last v b avoids)
+    let (gathered, g) = passes_row ts (next inside) g in (ts, (passes_none g).1, λ last v b avoids. arguments_read ts (coming behind) shows gathered last v b avoids)
 
 pub has_no_arguments : {w u : List Tok} {s t : Pile} → Trace (right own (part_number Part.NewArgs) 1) w s u t → Claim (part_number Part.NewArgs) w s t u
 unfolding own
 has_no_arguments {w} {u} {s} g =
     let g = passes_begin g in
-    let (_, g) = passes_row [] (next w) g in ([], sym (passes_none g).1, λ last v b avoids. without_arguments v b (avoids refl))
+    let (_, g) = passes_row [] (next w) g in ([], (passes_none g).1, λ last v b avoids. without_arguments v b (avoids refl))
 
 abbrev new : Form
 new = form_is.Expr expr_is.New
@@ -124,4 +124,4 @@ makes_new {w} {u} {s} {t} g =
     let (w1, _, (us, is_row, reads), g) = passes_part g in
     let g = subst (λ r. Trace (mark_symbol build.NewExpr ∷ []) w1 r u t) is_row g in
     let (closes, g) = passes_closes build.NewExpr path_and_arguments new (path ∷ in_row us ∷ []) (next w) refl refl g in
-    (new_tree path us, sym (passes_none g).1, new_spells path us (coming behind) shows reads closes)
+    (new_tree path us, (passes_none g).1, new_spells path us (coming behind) shows reads closes)

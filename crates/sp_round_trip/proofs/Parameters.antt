@@ -40,10 +40,10 @@ parameters_shown w u s t trace =
     let (b, us, fits, shows, close) = passes_trees (part_number Part.OptParams) (listed separator.Comma) refl (passes_begin rest) in
     let (y, c, also, shut, row_mark) = passes_token refl close in
     let (gather, ends) = passes_row us (next a) row_mark in
-    (in_row us ∷ [], sym (passes_none ends).1, (us, refl), parameters_again us (coming u) (coming b) gather shows)
+    (in_row us ∷ [], (passes_none ends).1, (us, refl), parameters_again us (coming u) (coming b) gather shows)
 
 pub no_parameters_shown : (w u : List Tok) (s t : Pile) → Trace (right own (part_number Part.OptParen) 1) w s u t → Claim (part_number Part.OptParen) w s t u
 unfolding own
 no_parameters_shown w u s t trace =
     let (gather, ends) = passes_row [] (next w) (passes_begin trace) in
-    (in_row [] ∷ [], sym (passes_none ends).1, ([], refl), λ last v b h. chosen (part_number Part.OptParen) 1 (omega arith) refl (mark build.Begin refl refl (mark build.Row refl refl nothing)))
+    (in_row [] ∷ [], (passes_none ends).1, ([], refl), λ last v b h. chosen (part_number Part.OptParen) 1 (omega arith) refl (mark build.Begin refl refl (mark build.Row refl refl nothing)))

@@ -1,5 +1,5 @@
 -- Semicolons that may be left out: canonically they are.
-use Rattle.std.proofs.Common.{◌≡◌, List, [], refl, sym, arith}
+use Rattle.std.proofs.Common.{◌≡◌, List, [], refl, arith}
 use Rattle.sp_parser.specs.Grammar.{right}
 use Rattle.sp_grammar.specs.Written.{Part, part_number}
 use Rattle.sp_grammar.specs.Own.{own}
@@ -9,9 +9,9 @@ use Rattle.sp_round_trip.proofs.Shown.{Claim, Trace}
 use Rattle.sp_round_trip.proofs.Steps.{passes_token, passes_none, chosen}
 
 -- no semicolon
-semicolon_left_out : (w u : List Tok) (s t : Pile) → s ≡ t → Claim (part_number Part.OptSemi) w s t u
+semicolon_left_out : (w u : List Tok) (s t : Pile) → t ≡ s → Claim (part_number Part.OptSemi) w s t u
 unfolding own
-semicolon_left_out w u s t same = ([], sym same, refl, λ last v b h. chosen (part_number Part.OptSemi) 1 (omega arith) refl nothing)
+semicolon_left_out w u s t same = ([], same, refl, λ last v b h. chosen (part_number Part.OptSemi) 1 (omega arith) refl nothing)
 
 pub semicolon_shown : (w u : List Tok) (s t : Pile) → Trace (right own (part_number Part.OptSemi) 0) w s u t → Claim (part_number Part.OptSemi) w s t u
 unfolding own

@@ -175,7 +175,8 @@ passes_closes m slots form us p {ss = ss} {w = w} {v = v} {s = s} {u = u} is doe
     let same : its ≡ form = some_equal (sym told) in
     (λ x q c. again q c told ∙ ap (λ f. Some (made (tree f nowhere us) ∷ c)) same, subst (λ z. Trace ss w z v u) (pile ∙ ap (λ f. made (tree f nowhere us) ∷ s) same) rest)
 
-pub passes_none : {w v : List Tok} {s t : Pile} → Trace [] w s v t → (w ≡ v) × (s ≡ t)
+-- nothing is left to pass
+pub passes_none : {w v : List Tok} {s t : Pile} → Trace [] w s v t → (w ≡ v) × (t ≡ s)
 passes_none ended = (refl, refl)
 
 -- a part read, and then what comes behind it

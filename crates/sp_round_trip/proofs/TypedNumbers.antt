@@ -1,5 +1,5 @@
 -- A number with its integer type, as in `uint8(3)`.
-use Rattle.std.proofs.Common.{ℕ, List, [], ◌∷◌, refl, sym, arith}
+use Rattle.std.proofs.Common.{ℕ, List, [], ◌∷◌, refl, arith}
 use Rattle.sp_parser.specs.Grammar.{right}
 use Rattle.sp_grammar.specs.declared.marks.Mark.TheVariants as build
 use Rattle.sp_grammar.specs.Written.{Part, part_number}
@@ -54,4 +54,4 @@ types_number {w} g =
     let (n, _, g) = passes_number g in
     let (_, _, _, _, g) = passes_token refl g in
     let (word, closes, g) = passes_integer build.TypedNumberExpr one_number typed (numeral n ∷ []) (next w) refl refl g in
-    (typed_number word n, sym (passes_none g).1, typed_spells word n closes)
+    (typed_number word n, (passes_none g).1, typed_spells word n closes)
