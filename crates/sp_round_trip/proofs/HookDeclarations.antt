@@ -24,7 +24,7 @@ use Rattle.sp_round_trip.specs.Bare.{nowhere}
 use Rattle.sp_round_trip.proofs.Held.{Pile, started, made}
 use Rattle.sp_round_trip.proofs.Goes.{Tok, entire, telling_of, number, next, coming, before, Goes, nothing, whole, mark, before_both}
 use Rattle.sp_round_trip.proofs.Shown.{Claim, Trace, one, yielded, Shows}
-use Rattle.sp_round_trip.proofs.Steps.{Close, passes_token, passes_begin, passes_name, passes_part, passes_one, passes_closes, passes_none, beside, chosen}
+use Rattle.sp_round_trip.proofs.Steps.{Close, passes_token, passes_begin, passes_name, passes_part, passes_one, passes_closes, passes_none, beside, chosen, builds_one}
 use Rattle.sp_round_trip.proofs.HookPaths.{named, path_of, Rest}
 
 abbrev on_slots : List Slot
@@ -64,4 +64,4 @@ on_shown w u s t trace =
     let (ys, e, pile, reads) = claim (named x ∷ []) (next a) (started (next w) ∷ s) refl in
     let (g, hook, node, show_hook, on_mark) = passes_one (part_number Part.Hook) 1 refl (subst (λ z. Trace (part_symbol Part.Hook ∷ mark_symbol build.OnDecl ∷ []) f z u t) pile at_hook) in
     let (closes, ends) = passes_closes build.OnDecl on_slots (form_is.Decl decl_is.On) (path_of (named x ∷ ys) ∷ e ∷ hook ∷ []) (next w) refl refl on_mark in
-    (on_decl x ys e hook ∷ [], (passes_none ends).1, (on_decl x ys e hook, refl, refl), on_again x ys e hook (coming u) (coming g) is_name reads show_hook closes)
+    builds_one (on_decl x ys e hook) (passes_none {s = made (on_decl x ys e hook) ∷ s} ends).1 refl (on_again x ys e hook (coming u) (coming g) is_name reads show_hook closes)

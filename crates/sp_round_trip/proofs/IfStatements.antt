@@ -15,7 +15,7 @@ use Rattle.sp_print.specs.Words.{fixed}
 use Rattle.sp_round_trip.proofs.Held.{Pile, started, made}
 use Rattle.sp_round_trip.proofs.Goes.{Tok, entire, next, coming, before, Goes, nothing, whole, mark, before_both}
 use Rattle.sp_round_trip.proofs.Shown.{Claim, OptElseClaim, Trace, one, yielded, Shows}
-use Rattle.sp_round_trip.proofs.Steps.{passes_token, passes_begin, passes_part, passes_one, passes_none, beside, chosen}
+use Rattle.sp_round_trip.proofs.Steps.{passes_token, passes_begin, passes_part, passes_one, passes_none, beside, chosen, builds_one}
 use Rattle.sp_round_trip.proofs.ElseBranches.{if_tree, rest_words, Came, Rest, behind_branch, branch_then}
 
 if_again : (x : Tree) (cs : List Tree) (e : Tree) (came behind : ℕ) → Came cs e came behind → Shows (part_number Part.Branch) (one 1) (x ∷ []) came → Rest (x ∷ []) cs e behind → Shows (part_number Part.Stmt) (one 1) (if_tree (x ∷ cs) e ∷ []) behind
@@ -41,4 +41,4 @@ if_shown w u s t trace =
     let (g, t', claim, ends) = passes_part more in
     let (none_left, pile) = passes_none ends in
     let (cs, e, built, came, reads) = subst (λ l. OptElseClaim f (made z ∷ started (next a) ∷ started (next w) ∷ s) t' l) none_left claim (z ∷ []) (next a) (next w) s refl in
-    (if_tree (z ∷ cs) e ∷ [], pile ∙ built, (if_tree (z ∷ cs) e, refl, refl), if_again z cs e (coming f) (coming u) came shows reads)
+    builds_one (if_tree (z ∷ cs) e) (pile ∙ built) refl (if_again z cs e (coming f) (coming u) came shows reads)

@@ -26,7 +26,7 @@ use Rattle.sp_round_trip.proofs.Held.{Pile}
 use Rattle.sp_round_trip.proofs.Goes.{Tok, entire, telling_of, number, next, coming, nothing, whole, mark}
 use Rattle.sp_round_trip.proofs.Shown.{Claim, Trace, one, Shows}
 use Rattle.sp_round_trip.proofs.Leaves.{integer_again}
-use Rattle.sp_round_trip.proofs.Steps.{CloseBy, passes_token, passes_begin, passes_number, passes_integer, passes_wraps, passes_none, chosen}
+use Rattle.sp_round_trip.proofs.Steps.{CloseBy, passes_token, passes_begin, passes_number, passes_integer, passes_wraps, passes_none, chosen, builds_one}
 
 -- the word of an integer type
 abbrev pub integer_word : IntWord → Word
@@ -56,8 +56,7 @@ number_base_shown w u s t trace =
     let (n, c, closing) = passes_number numbered in
     let (z, d, last_is, shut, base) = passes_token refl closing in
     let (i, closes, ends) = passes_integer build.NumberBase (slot (one_of numbers) ∷ []) number_base (tree (form_is.Number n) nowhere [] ∷ []) (next w) refl refl base in
-    let built = tree (number_base i) nowhere (tree (form_is.Number n) nowhere [] ∷ []) in
-    (built ∷ [], (passes_none ends).1, (built, refl, refl), number_base_again i n (coming u) closes)
+    builds_one (tree (number_base i) nowhere (tree (form_is.Number n) nowhere [] ∷ [])) (passes_none ends).1 refl (number_base_again i n (coming u) closes)
 
 integer_base_again : (a : IntWord) (came : ℕ) → CloseBy [] (λ q. integer_of q.kind) int_type [] a → Shows (part_number Part.Base) (one 1) (tree (form_is.Base base_is.Type) nowhere (tree (int_type a) nowhere [] ∷ []) ∷ []) came
 unfolding own
@@ -70,5 +69,4 @@ integer_base_shown w u s t trace =
     let (x, a, is, taken, int_base) = passes_token refl (passes_begin trace) in
     let (i, closes, wrap) = passes_integer build.IntBase [] int_type [] (next w) refl refl int_base in
     let ends = passes_wraps build.TypeBase types (form_is.Base base_is.Type) (tree (int_type i) nowhere []) refl refl wrap in
-    let built = tree (form_is.Base base_is.Type) nowhere (tree (int_type i) nowhere [] ∷ []) in
-    (built ∷ [], (passes_none ends).1, (built, refl, refl), integer_base_again i (coming u) closes)
+    builds_one (tree (form_is.Base base_is.Type) nowhere (tree (int_type i) nowhere [] ∷ [])) (passes_none ends).1 refl (integer_base_again i (coming u) closes)

@@ -36,7 +36,7 @@ use Rattle.sp_round_trip.proofs.Held.{form_told, Pile, started, made, put_if, cl
 use Rattle.sp_round_trip.proofs.Leaves.{mapped, event_told}
 use Rattle.sp_round_trip.proofs.Closing.{gathered_all, closed_all, wrapped}
 use Rattle.sp_round_trip.proofs.Goes.{Tok, entire, half, tells, number, next, coming, pushed, Goes, nothing, whole, first_half, mark, part}
-use Rattle.sp_round_trip.proofs.Shown.{Spells, expression, Claim, ClaimAs, Yield, Fits, Shows, MayFollow, Avoids, avoided, is_kept, plain, one, manner_of, Trace, ended, token_passed, half_passed, mark_passed, part_passed}
+use Rattle.sp_round_trip.proofs.Shown.{Spells, expression, Claim, ClaimAs, Yield, Fits, Shows, MayFollow, Avoids, avoided, is_kept, plain, one, manner_of, Trace, ended, token_passed, half_passed, mark_passed, part_passed, IsOneNode}
 
 pub never_first : (b : Bool) → cond b All Nothing ≡ First → ⊥
 never_first true h = absurd cc
@@ -178,6 +178,10 @@ passes_closes m slots form us p {ss = ss} {w = w} {v = v} {s = s} {u = u} is doe
 -- nothing is left to pass
 pub passes_none : {w v : List Tok} {s t : Pile} → Trace [] w s v t → (w ≡ v) × (t ≡ s)
 passes_none ended = (refl, refl)
+
+-- a part that built one tree
+pub builds_one : {n came : ℕ} {s t : Pile} (x : Tree) → t ≡ made x ∷ s → is_node x ≡ true → Shows n (one 1) (x ∷ []) came → (ts : List Tree) × (t ≡ pushed ts s) × IsOneNode ts × Shows n (one 1) ts came
+builds_one x pile node shows = (x ∷ [], pile, (x, refl, node), shows)
 
 -- a part read, and then what comes behind it
 pub beside : {n : ℕ} {ss : List Symbol} {w u v : List Tok} {s t z : Pile} → Goes (symbol.Nonterminal n ∷ []) w s u t → Goes ss u t v z → Goes (symbol.Nonterminal n ∷ ss) w s v z
