@@ -1,5 +1,5 @@
 -- A hook that is declared by itself: the path of what it belongs to, an event if there is one, and its body.
-use Rattle.std.proofs.Common.{◌≡◌, ℕ, List, [], ◌∷◌, ◌++◌, Some, refl, sym, ◌∙◌, arith, ap, subst, inl}
+use Rattle.std.proofs.Common.{◌≡◌, ℕ, List, [], ◌∷◌, ◌++◌, Some, refl, sym, ◌∙◌, arith, ap, subst, inl, true}
 use Rattle.std.proofs.lemmas.List.{append-nil}
 use Rattle.sp_lex.specs.declared.kinds.TokenKind.TheVariants as token
 use Rattle.sp_lex.specs.declared.kinds.Keyword.TheVariants as keyword
@@ -64,4 +64,4 @@ on_shown w u s t trace =
     let (ys, e, pile, reads) = claim (named x ∷ []) (next a) (started (next w) ∷ s) refl in
     let (g, hook, node, show_hook, on_mark) = passes_one (part_number Part.Hook) 1 refl (subst (λ z. Trace (part_symbol Part.Hook ∷ mark_symbol build.OnDecl ∷ []) f z u t) pile at_hook) in
     let (closes, ends) = passes_closes build.OnDecl on_slots (form_is.Decl decl_is.On) (path_of (named x ∷ ys) ∷ e ∷ hook ∷ []) (next w) refl refl on_mark in
-    builds_one (on_decl x ys e hook) (passes_none {s = made (on_decl x ys e hook) ∷ s} ends).1 refl (on_again x ys e hook (coming u) (coming g) is_name reads show_hook closes)
+    builds_one (on_decl x ys e hook) (passes_none {s = made (on_decl x ys e hook) ∷ s} ends).1 (refl {a = true}) (on_again x ys e hook (coming u) (coming g) is_name reads show_hook closes)
