@@ -1,5 +1,5 @@
 -- An `if`: its first branch, and the rest.
-use Rattle.std.proofs.Common.{ℕ, List, [], ◌∷◌, ◌++◌, Option, Some, refl, sym, ◌∙◌, arith, ap, subst}
+use Rattle.std.proofs.Common.{ℕ, List, [], ◌∷◌, ◌++◌, Option, Some, refl, sym, ◌∙◌, arith, ap, subst, true}
 use Rattle.sp_lex.specs.declared.kinds.TokenKind.{TokenKind}
 use Rattle.sp_lex.specs.declared.kinds.TokenKind.TheVariants as token
 use Rattle.sp_lex.specs.declared.kinds.Keyword.TheVariants as keyword
@@ -41,4 +41,4 @@ if_shown w u s t trace =
     let (g, t', claim, ends) = passes_part more in
     let (none_left, pile) = passes_none ends in
     let (cs, e, built, came, reads) = subst (λ l. OptElseClaim f (made z ∷ started (next a) ∷ started (next w) ∷ s) t' l) none_left claim (z ∷ []) (next a) (next w) s refl in
-    builds_one (if_tree (z ∷ cs) e) (◌∙◌ {c = made (if_tree (z ∷ cs) e) ∷ s} pile built) refl (if_again z cs e (coming f) (coming u) came shows reads)
+    builds_one (if_tree (z ∷ cs) e) (◌∙◌ {c = made (if_tree (z ∷ cs) e) ∷ s} pile built) (refl {a = true}) (if_again z cs e (coming f) (coming u) came shows reads)
