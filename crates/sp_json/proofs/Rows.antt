@@ -1,10 +1,10 @@
 -- The line of each kind of event, computed.
-use Rattle.std.specs.Prelude.{ℤ, negsuc, true, None, Some, codes}
+use Rattle.std.specs.Prelude.{negsuc, true, None, Some, codes}
 use Rattle.std.specs.Fmt.{digits}
 use Rattle.std.proofs.Common.{◌≡◌, List, ℕ, [], ◌∷◌, ◌++◌, refl}
 use Rattle.serde_json.proofs.OnLiterals.{serde_json_on_literals}
 use Rattle.sp_base.specs.declared.kinds.PKind.TheVariants.{Short, Assert}
-use Rattle.sp_events.specs.Tree.{TreeData, bool, uint, int, bytes, str, label, unlisted, bits, tuple, vector, set, map, unit, place, trees_of, pairs_of, fields_of}
+use Rattle.sp_events.specs.Tree.{bool, uint, int, bytes, str, label, unlisted, bits, tuple, vector, set, map, unit, place, trees_of, pairs_of, fields_of}
 use Rattle.sp_events.specs.declared.event.What.{What}
 use Rattle.sp_events.specs.declared.event.What.TheVariants.{Hook, Print, Write, Forward, ForwardEod, Done, Failed}
 use Rattle.sp_json.specs.Lines.{line_of, report_of}

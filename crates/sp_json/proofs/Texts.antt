@@ -1,22 +1,22 @@
 -- What the parts of a line come to.
 use Rattle.std.specs.Prelude.{ℤ, pos, negsuc, Option, None, Some, map as list_map}
-use Rattle.std.proofs.Common.{◌≡◌, ◌≤◌, ◌<◌, ◌+◌, ℕ, Bool, false, ◌||◌, List, [], ◌∷◌, ◌++◌, length, take, drop, get_or, sym, ap, ◌∙◌, refl, decimal, flat_map, append_assoc, codes}
+use Rattle.std.proofs.Common.{◌≡◌, ◌≤◌, ◌<◌, ◌+◌, ℕ, Bool, false, ◌||◌, List, [], ◌∷◌, ◌++◌, length, take, drop, get_or, sym, ap, ◌∙◌, refl}
 use Rattle.std.specs.declared.cmp.Ordering.{Ordering}
 use Rattle.std.proofs.lemmas.Bool.{or_parts}
 use Rattle.std.specs.Prelude.{encode_utf8, encode_utf8_all}
 use Rattle.std.proofs.lemmas.Str.{encodes-append}
-use Rattle.std.proofs.lemmas.List.{append-nil, drop_more, take_more, take_all, flat_map_more}
+use Rattle.std.proofs.lemmas.List.{append-nil, drop_more, take_more, take_all}
 use Rattle.std.specs.Ordering.{match_ordering, nat_cmp}
 use Rattle.std.specs.Cmp.Lexicographic.{slice_cmp}
 use Rattle.serde_json.specs.Data.{Data, number, unsigned, array, item, no_items, Members, member, no_members, put}
 use Rattle.serde_json.specs.View.{items_of}
 use Rattle.serde_json.specs.Find.{of_integer}
 use Rattle.serde_json.specs.Written.{has_float, items_have_float, members_have_float}
-use Rattle.sp_events.specs.Tree.{TreeData, bool, uint, int, bytes, str, label, unlisted, bits, tuple, vector, set, map, unit, place, TreesData, no_trees, tree, PairsData, no_pairs, pair, FieldsData, no_fields, field, trees_of, pairs_of, fields_of}
+use Rattle.sp_events.specs.Tree.{TreeData, bool, uint, int, bytes, str, label, unlisted, bits, tuple, vector, set, map, unit, place, TreesData, no_trees, tree, PairsData, no_pairs, pair, FieldsData, no_fields, field, trees_of, pairs_of}
 use Rattle.sp_events.specs.declared.event.What.{What}
 use Rattle.sp_events.specs.declared.event.What.TheVariants.{Hook, Print, Write, Forward, ForwardEod, Done, Failed}
 use Rattle.sp_json.specs.Values.{tree_json, trees_json, pairs_json, with_fields, with_ranges}
-use Rattle.sp_json.specs.Lines.{text_member, event_json, path_text}
+use Rattle.sp_json.specs.Lines.{text_member, event_json}
 
 -- the array of an entry
 abbrev pub pair_json : TreeData × TreeData → Data
@@ -31,23 +31,6 @@ bytes_step bs i b old new lt is before pushed =
     ∙ sym (encodes-append (take i bs) (b ∷ []) ∙ ap (λ c. encode_utf8_all (take i bs) ++ c) (append-nil (encode_utf8 b)))
     ∙ ap (λ x. encode_utf8_all (take i bs ++ x ∷ [])) is
     ∙ ap encode_utf8_all (sym (take_more bs i 0 lt))
-
--- a field's value was put
-pub value_step : (fields : List (List ℕ × TreeData)) (i : ℕ) (f : List ℕ × TreeData) (ms next : Members) → i < length fields → f ≡ get_or fields i f
-    → next ≡ put f.0 (tree_json f.1) ms
-    → with_fields (fields_of (drop (i + 1) fields)) next ≡ with_fields (fields_of (drop i fields)) ms
-value_step fields i f ms next lt is e =
-    ap (λ m. with_fields (fields_of (drop (i + 1) fields)) m) e
-    ∙ ap (λ fs. with_fields (fields_of fs) ms) (sym (drop_more fields i f lt ∙ ap (λ g. g ∷ drop (i + 1) fields) (sym is)))
-
--- a number was put behind a dot
-pub path_step : (flow numbers : List ℕ) (i n : ℕ) → i < length numbers → n ≡ get_or numbers i 0
-    → (path_text flow (take i numbers) ++ codes ".") ++ decimal n ≡ path_text flow (take (i + 1) numbers)
-path_step flow numbers i n lt is =
-    let f : ℕ → List ℕ = λ n. codes "." ++ decimal n in
-    append_assoc (flow ++ flat_map f (take i numbers)) (codes ".") (decimal n)
-    ∙ flat_map_more f flow (take i numbers) n
-    ∙ ap (λ xs. flow ++ flat_map f xs) (ap (λ m. take i numbers ++ m ∷ []) is ∙ sym (take_more numbers i 0 lt))
 
 either_false : (x y : Bool) → x ≡ false → y ≡ false → (x || y) ≡ false
 either_false x y e f = ap (λ b. b || y) e ∙ f

@@ -1,42 +1,17 @@
 -- How a session's state moves with the meaning.
-use Rattle.std.proofs.Common.{◌≡◌, ◌≤◌, ◌<◌, ◌+◌, ℕ, List, [], ◌∷◌, ◌++◌, length, take, drop, get_or, false, sym, ap, subst, ◌∙◌, arith, append_assoc}
-use Rattle.std.proofs.lemmas.List.{append-nil, drop_more, drop_all, drop-drop, drop-append-le, length-append, length-drop}
+use Rattle.std.proofs.Common.{◌≡◌, ◌≤◌, ◌<◌, ℕ, List, [], ◌∷◌, ◌++◌, length, drop, sym, ap, subst, ◌∙◌, arith, append_assoc}
+use Rattle.std.proofs.lemmas.List.{append-nil, drop_all, drop-append-le, length-append, length-drop}
 use Rattle.sp_base.specs.Input.{Close, held_open, ended}
-use Rattle.sp_value.specs.Integers.{integer_of}
-use Rattle.sp_meaning.specs.Told.{told_value}
 use Rattle.sp_events.specs.Tree.{unit, fields_of}
 use Rattle.sp_events.specs.declared.event.Event.{Event}
 use Rattle.sp_meaning.specs.declared.grammar.Field.{Field}
-use Rattle.sp_meaning.specs.Width.{width_of}
 use Rattle.sp_meaning.specs.Result.{State, ends, failed, need}
-use Rattle.sp_meaning.specs.Meaning.{stored, short_at, fields_mean, begun, told, meaning_by, mean, Meaning}
-use Rattle.sp_meaning.proofs.Reading.{width_some, fields_go, fields_lack, after, there, there_more}
+use Rattle.sp_meaning.specs.Meaning.{short_at, fields_mean, begun, told, meaning_by, mean, Meaning}
+use Rattle.sp_meaning.proofs.Reading.{fields_lack, after}
 use Rattle.sp_events.specs.declared.event.What.{What}
 use Rattle.sp_meaning.specs.declared.stand.Stand.{Stand}
 use Rattle.sp_session.specs.declared.progress.Progress.{Progress}
 use Rattle.sp_session.specs.Reading.{Leads, Lacks, Ends}
-
-at_next : (fields : List Field) (next : ℕ) (f : Field) → next < length fields → f ≡ get_or fields next f → drop next fields ≡ f ∷ drop (next + 1) fields
-at_next fields next f lt is = drop_more fields next f lt ∙ ap (λ g. g ∷ drop (next + 1) fields) (sym is)
-
--- one more field, whose bytes are at the front of the window
-pub leads_next : (fields : List Field) (next : ℕ) (st : State) (window s : List ℕ) (f : Field) (w : ℕ)
-    → next < length fields → f ≡ get_or fields next f → w ≡ width_of f.kind → w ≤ length window
-    → Leads fields next st window s
-    → Leads fields (next + 1) (record { place = st.place + w; fields = st.fields ++ (f.name, told_value (integer_of false false (take w window))) ∷ [] }) (drop w window) s
-leads_next fields next st window s f w lt is wide le leads =
-    let some = width_some f.kind in
-    let here : width_of f.kind ≤ length (drop st.place s) = omega (arith, ap length leads.is_window) in
-    record {
-      goes_on = λ t close.
-          leads.goes_on t close
-          ∙ ap (λ fs. fields_mean (s ++ t) close fs st) (at_next fields next f lt is)
-          ∙ fields_go (s ++ t) close f (drop (next + 1) fields) st (there_more s t st.place (width_of f.kind) some here)
-          ∙ ap (λ bytes. fields_mean (s ++ t) close (drop (next + 1) fields) (stored f (integer_of false false bytes) st)) (there s t st.place (width_of f.kind) some here ∙ ap (λ b. take (width_of f.kind) b) (sym leads.is_window))
-          ∙ ap (λ n. fields_mean (s ++ t) close (drop (next + 1) fields) (record { place = st.place + n; fields = st.fields ++ (f.name, told_value (integer_of false false (take n window))) ∷ [] })) (sym wide);
-      is_window = ap (λ b. drop w b) leads.is_window ∙ drop-drop w st.place s;
-      within = omega (arith, length-drop st.place s, ap length leads.is_window);
-    }
 
 -- a further piece
 pub leads_more : (fields : List Field) (next : ℕ) (st : State) (window s piece : List ℕ) → Leads fields next st window s → Leads fields next st (window ++ piece) (s ++ piece)
@@ -76,15 +51,6 @@ pub mean_short : (fields : List Field) (next : ℕ) (st : State) (window s : Lis
     → mean fields s ended ≡ record { events = told (What.Failed (short_at st.place)); stand = Stand.Failed (short_at st.place); marks = [] }
 mean_short fields next st window s leads lacks lt =
     ap meaning_by (leads_here fields next st window s ended leads ∙ lacking_ended (drop next fields) st window s (omega (arith, length-drop next fields)) lacks leads.is_window)
-
--- the next field isn't whole in the window
-pub lacks_next : (fields : List Field) (next : ℕ) (window : List ℕ) (f : Field) (w : ℕ) → next < length fields → f ≡ get_or fields next f → w ≡ width_of f.kind → length window < w → Lacks (drop next fields) window
-lacks_next fields next window f w lt is wide less =
-    let less' : length window < width_of f.kind = omega (arith, wide) in
-    subst (λ fs. Lacks fs window) (sym (at_next fields next f lt is)) less'
-
-pub lacks_none : (fields : List Field) (next : ℕ) (window : List ℕ) → length fields ≤ next → Lacks (drop next fields) window
-lacks_none fields next window le = subst (λ fs. Lacks fs window) (sym (drop_all next fields le)) tt
 
 -- the unit told its last event, which is that of its meaning
 pub ends_by : (fields : List Field) (p : Progress) (s : List ℕ) (close : Close) (before after : List Event) (stand : Stand) (what : What) (e : Event)

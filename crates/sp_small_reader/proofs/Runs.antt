@@ -11,10 +11,6 @@ word_not_white c h = grind (arith, nat_tests)
 pub word_not_hash : (c : ℕ) → is_word_byte c ≡ true → eqb c 35 ≡ false
 word_not_hash c h = grind (arith, nat_tests)
 
--- white space is passed over
-pub behind_white : (c : ℕ) (s : List ℕ) → eqb c 35 ≡ false → is_white c ≡ true → tokens_of (c ∷ s) ≡ tokens_of s
-behind_white c s hash white = simp (hash, white)
-
 line_ends : (c : ℕ) (s : List ℕ) → eqb c 10 ≡ true → tokens_in comment (c ∷ s) ≡ tokens_of (drop (prefix_len is_not_line_end (c ∷ s)) (c ∷ s))
 line_ends c s e = subst (λ (x : ℕ). tokens_in comment (x ∷ s) ≡ tokens_of (drop (prefix_len is_not_line_end (x ∷ s)) (x ∷ s))) (sym (eqb-true c 10 e)) refl
 
