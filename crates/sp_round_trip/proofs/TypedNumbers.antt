@@ -46,9 +46,9 @@ typed_spells w n closes = record {
       (chosen (part_number Part.Primary) 17 (omega arith) refl (mark build.Begin refl refl (whole (integer_taken w) (whole refl (mark build.Number refl refl (whole refl (whole refl (mark build.TypedNumberExpr refl (closes (telling_of (integer_word w)) s (integer_again w)) nothing))))))));
 }
 
-pub types_number : {w u : List Tok} {s t : Pile} → Trace (right own (part_number Part.Primary) 17) w s u t → Claim (part_number Part.Primary) w s t u
+pub typed_number_shown : (w u : List Tok) (s t : Pile) → Trace (right own (part_number Part.Primary) 17) w s u t → Claim (part_number Part.Primary) w s t u
 unfolding own
-types_number {w} g =
+typed_number_shown w u s t g =
     let (_, _, _, _, g) = passes_token refl (passes_begin g) in
     let (_, _, _, _, g) = passes_token refl g in
     let (n, _, g) = passes_number g in
