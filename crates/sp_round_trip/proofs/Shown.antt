@@ -19,6 +19,7 @@ use Rattle.sp_ast.specs.Trees.{Tree, absent, row, trees, tree}
 use Rattle.sp_build.specs.declared.groups.Group.TheVariants.{Expressions as expressions}
 use Rattle.sp_build.specs.Groups.{is_of, is_node}
 use Rattle.sp_build.specs.Rules.{rule}
+use Rattle.sp_build.proofs.Told.{never}
 use Rattle.sp_print.specs.declared.layouts.Frame.{Frame}
 use Rattle.sp_print.specs.declared.layouts.Frame.TheVariants as frame
 use Rattle.sp_print.specs.declared.layouts.Separator.{Separator}
@@ -30,7 +31,6 @@ use Rattle.sp_round_trip.specs.Bare.{nowhere}
 use Rattle.sp_round_trip.specs.Told.{Telling}
 use Rattle.sp_round_trip.proofs.Held.{Pile, started, made, does}
 use Rattle.sp_round_trip.proofs.Goes.{Tok, entire, half, number, next, coming, Goes, before, pushed}
-use Rattle.sp_build.proofs.Told.{never}
 
 -- how trees are written
 pub data Yield : Type 0 where

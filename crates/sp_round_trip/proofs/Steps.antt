@@ -28,7 +28,7 @@ use Rattle.sp_build.specs.Groups.{is_node}
 use Rattle.sp_build.specs.Rules.{Leaf, by_name, by_number, by_event, rule, gathers, closes, closes_integer, closes_attribute, wraps, takes as takes_leaf}
 use Rattle.sp_build.proofs.Standing.{not_some, some_equal}
 use Rattle.sp_build.proofs.Told.{never}
-use Rattle.sp_print.specs.Words.{Word, name, number as numeral}
+use Rattle.sp_print.specs.Words.{Word, name, number as a_number}
 use Rattle.sp_printed_words.specs.Sound.{read_as}
 use Rattle.sp_round_trip.specs.Bare.{nowhere}
 use Rattle.sp_round_trip.specs.Told.{Telling}
@@ -125,7 +125,7 @@ name_told k (name y) form h = (y, refl, sym (some_equal h))
 name_told k x form h = absurd cc
 
 number_told : (k : TokenKind) (x : Word) (form : Form) → form_told (by_number (λ n. form_is.Number n)) k x ≡ Some form → (n : ℕ) × (form ≡ form_is.Number n)
-number_told k (numeral n) form h = (n, sym (some_equal h))
+number_told k (a_number n) form h = (n, sym (some_equal h))
 number_told k x form h = absurd cc
 
 -- a tree of one token, by the word that told it
@@ -141,22 +141,31 @@ passes_leaf {e = e} m l {ss = ss} {w = w} {v = v} {s = s} {z = z} is does_so its
     (word, form, subst (λ y. takes e (number y) ≡ All) is_word taken, told_so, rest, subst (λ p. Trace ss rest p v z) pile ends)
 
 -- the tree of a name, of a number and of an event
+abbrev pub named : List ℕ → Tree
+named x = tree (form_is.Name x) nowhere []
+
+abbrev pub numeral : ℕ → Tree
+numeral n = tree (form_is.Number n) nowhere []
+
+abbrev pub event_tree : Hook → Tree
+event_tree h = tree (form_is.Event (hook_name_of h)) nowhere []
+
 pub passes_name : {ss : List Symbol} {w v : List Tok} {s z : Pile} → Trace (mark_symbol build.Name ∷ kind_symbol terminal.Id ∷ ss) w s v z
-    → (x : List ℕ) × (takes (terminal_number terminal.Id) (number (entire (name x))) ≡ All) × (rest : List Tok) × Trace ss rest (made (tree (form_is.Name x) nowhere []) ∷ s) v z
+    → (x : List ℕ) × (takes (terminal_number terminal.Id) (number (entire (name x))) ≡ All) × (rest : List Tok) × Trace ss rest (made (named x) ∷ s) v z
 passes_name {ss = ss} {v = v} {s = s} {z = z} trace =
     let (x, form, taken, told, rest, behind) = passes_leaf build.Name (by_name (λ y. form_is.Name y)) refl refl refl refl trace in
     let (y, is, its) = name_told (read_as x) x form told in
     (y, subst (λ q. takes (terminal_number terminal.Id) (number (entire q)) ≡ All) is taken, rest, subst (λ f. Trace ss rest (made (tree f nowhere []) ∷ s) v z) its behind)
 
 pub passes_number : {ss : List Symbol} {w v : List Tok} {s z : Pile} → Trace (mark_symbol build.Number ∷ kind_symbol terminal.Number ∷ ss) w s v z
-    → (n : ℕ) × (rest : List Tok) × Trace ss rest (made (tree (form_is.Number n) nowhere []) ∷ s) v z
+    → (n : ℕ) × (rest : List Tok) × Trace ss rest (made (numeral n) ∷ s) v z
 passes_number {ss = ss} {v = v} {s = s} {z = z} trace =
     let (x, form, taken, told, rest, behind) = passes_leaf build.Number (by_number (λ n. form_is.Number n)) refl refl refl refl trace in
     let (n, its) = number_told (read_as x) x form told in
     (n, rest, subst (λ f. Trace ss rest (made (tree f nowhere []) ∷ s) v z) its behind)
 
 pub passes_event : {ss : List Symbol} {w v : List Tok} {s z : Pile} → Trace (mark_symbol build.Event ∷ kind_symbol terminal.Event ∷ ss) w s v z
-    → (h : Hook) × (rest : List Tok) × Trace ss rest (made (tree (form_is.Event (hook_name_of h)) nowhere []) ∷ s) v z
+    → (h : Hook) × (rest : List Tok) × Trace ss rest (made (event_tree h) ∷ s) v z
 passes_event {ss = ss} {v = v} {s = s} {z = z} trace =
     let (x, form, taken, told, rest, behind) = passes_leaf build.Event (by_event (λ h. form_is.Event h)) refl refl refl refl trace in
     let (h, kind, its) = event_told (read_as x) (λ h. form_is.Event h) x form told in

@@ -21,10 +21,7 @@ use Rattle.sp_round_trip.proofs.Shown.{Claim, Spells, Trace}
 use Rattle.sp_round_trip.proofs.Levels.{primary_at}
 use Rattle.sp_round_trip.proofs.IntegerBases.{integer_taken, integer_word}
 use Rattle.sp_round_trip.proofs.Leaves.{integer_again}
-use Rattle.sp_round_trip.proofs.Steps.{passes_token, passes_begin, passes_integer, passes_none, passes_number, chosen, CloseBy}
-
-abbrev numeral : ℕ → Tree
-numeral n = tree (form_is.Number n) nowhere []
+use Rattle.sp_round_trip.proofs.Steps.{passes_token, passes_begin, passes_integer, passes_none, passes_number, chosen, CloseBy, numeral}
 
 abbrev typed : IntWord → Form
 typed w = form_is.Expr (expr_is.TypedNumber w)
