@@ -164,7 +164,7 @@ manner _ = other
 
 -- The token that may not come behind a part: a `(` behind what can end with a `new` without arguments, an `else` behind
 -- what can end with an `if` without one.
-abbrev pub avoids : Part → Option Terminal
+abbrev avoids : Part → Option Terminal
 avoids Part.OptPriority = Some token.LeftParen
 avoids Part.Label = Some token.LeftParen
 avoids Part.OptValue = Some token.LeftParen
@@ -207,7 +207,7 @@ abbrev pub avoided : ℕ → Option Terminal
 avoided n = get_or (map avoids all_parts) n None
 
 -- Where an `else` came behind the original, and so the last `if` of the part has one, it may come again.
-abbrev pub keeps_else : Part → Bool
+abbrev keeps_else : Part → Bool
 keeps_else Part.Stmt = true
 keeps_else Part.Other = true
 keeps_else Part.Branch = true
