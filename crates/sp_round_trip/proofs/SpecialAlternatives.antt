@@ -13,7 +13,7 @@ use Rattle.sp_round_trip.proofs.Shown.{Claim, Trace}
 use Rattle.sp_round_trip.proofs.Attributes.{attributes_shown}
 use Rattle.sp_round_trip.proofs.Declarations.{declarations_shown, no_declarations_shown}
 use Rattle.sp_round_trip.proofs.ElseBranches.{else_if_shown, else_shown, no_else_shown}
-use Rattle.sp_round_trip.proofs.EnumLabels.{last_comma_shown}
+use Rattle.sp_round_trip.proofs.LeftOut.{last_comma_shown, semicolon_shown, no_semicolon_shown}
 use Rattle.sp_round_trip.proofs.FieldHooks.{no_hooks_shown, hooks_shown}
 use Rattle.sp_round_trip.proofs.HookDeclarations.{on_shown}
 use Rattle.sp_round_trip.proofs.HookPaths.{more_path_shown, path_event_shown, path_end_shown}
@@ -23,7 +23,6 @@ use Rattle.sp_round_trip.proofs.KeptTrees.{alone_shown, parentheses_shown}
 use Rattle.sp_round_trip.proofs.NewExpressions.{new_shown, arguments_shown, no_arguments_shown}
 use Rattle.sp_round_trip.proofs.DivisionsAndCalls.{division_shown, call_shown}
 use Rattle.sp_round_trip.proofs.Parameters.{parameters_shown, no_parameters_shown}
-use Rattle.sp_round_trip.proofs.Semicolons.{semicolon_shown, no_semicolon_shown}
 use Rattle.sp_round_trip.proofs.TypedNumbers.{typed_number_shown}
 
 -- what is claimed of a part, where this alternative of it was read
