@@ -1,6 +1,6 @@
 -- How the trees of each part of the grammar are written, and what is claimed of a part that was read: that what it
 -- built is read from these words.
-use Rattle.std.specs.Prelude.{◌≤◌, ◌⊎◌, if◌then◌else◌}
+use Rattle.std.specs.Prelude.{flat_map, ◌≤◌, ◌⊎◌, if◌then◌else◌}
 use Rattle.std.proofs.Common.{◌≡◌, ℕ, List, [], ◌∷◌, ◌++◌, map, get_or, Bool, true, false, ◌==◌, Option, Some, None, subst, eqb-true}
 use Rattle.sp_lex.specs.declared.kinds.Mark.TheVariants as sign
 use Rattle.sp_lex.specs.declared.kinds.TokenKind.{TokenKind}
@@ -278,8 +278,7 @@ NewArgsClaim s t =
 
 -- words of lines, one behind the other
 abbrev pub flat : List (List Word) → List Word
-flat [] = []
-flat (ws ∷ lines) = ws ++ flat lines
+flat lines = flat_map (λ ws. ws) lines
 
 -- declarations, each as a line
 abbrev DeclsClaim : Pile → Pile → Type 0
