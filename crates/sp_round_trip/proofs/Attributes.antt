@@ -31,7 +31,6 @@ use Rattle.sp_round_trip.proofs.Leaves.{attribute_again}
 use Rattle.sp_round_trip.proofs.Steps.{CloseBy, passes_token, passes_begin, passes_trees, passes_told, passes_none, beside, reads_mark, reads_token, reads_nothing, unavoided, chosen}
 use Rattle.sp_round_trip.proofs.Laid.{nothing_between}
 
--- the word of an attribute
 abbrev attribute_word : AttributeName → Word
 attribute_word a = fixed (token.Attribute (attribute_token a))
 

@@ -62,7 +62,6 @@ division_shown w u s t g =
     let (is, joined) = joined_all operands division (x ∷ y ∷ []) s t (next w) refl refl d in
     (tree division nowhere (x ∷ y ∷ []), (passes_none g).1 ∙ is, divided x y x_spells y_spells joined)
 
--- a call
 abbrev call : Form
 call = form_is.Expr expr_is.Call
 
