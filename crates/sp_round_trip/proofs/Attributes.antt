@@ -28,10 +28,9 @@ use Rattle.sp_round_trip.proofs.Held.{Pile, started, made}
 use Rattle.sp_round_trip.proofs.Goes.{Tok, entire, telling_of, number, next, coming, before, pushed, Goes, nothing, whole, mark, part, before_both}
 use Rattle.sp_round_trip.proofs.Shown.{Claim, Trace, optional, listed, yielded, Shows, MayFollow}
 use Rattle.sp_round_trip.proofs.Leaves.{attribute_again}
-use Rattle.sp_round_trip.proofs.Steps.{CloseBy, passes_token, passes_begin, passes_trees, passes_attribute, passes_none, beside, reads_mark, reads_token, reads_nothing, unavoided, chosen}
+use Rattle.sp_round_trip.proofs.Steps.{CloseBy, passes_token, passes_begin, passes_trees, passes_told, passes_none, beside, reads_mark, reads_token, reads_nothing, unavoided, chosen}
 use Rattle.sp_round_trip.proofs.Laid.{nothing_between}
 
--- the word of an attribute
 abbrev attribute_word : AttributeName → Word
 attribute_word a = fixed (token.Attribute (attribute_token a))
 
@@ -75,7 +74,7 @@ attribute_with : (w u b : List Tok) (s t : Pile) (ts : List Tree) → (value : T
     → Trace (mark_symbol build.Attribute ∷ part_symbol Part.Attrs ∷ []) b (pushed ts (started (next w) ∷ s)) u t → Claim (part_number Part.Attrs) w s t u
 attribute_with w u b s t ts (value, one) shows trace =
     let marked = subst (λ z. Trace (mark_symbol build.Attribute ∷ part_symbol Part.Attrs ∷ []) b (pushed z (started (next w) ∷ s)) u t) one trace in
-    let (a, closes, rest) = passes_attribute build.Attribute value_slot (λ name. form_is.Attribute name) (value ∷ []) (next w) refl refl marked in
+    let (a, closes, rest) = passes_told build.Attribute value_slot (λ q. attribute_of q.kind) (λ name. form_is.Attribute name) (value ∷ []) (next w) refl (λ q z. refl) marked in
     let (d, us, fits, more, ends) = passes_trees (part_number Part.Attrs) (listed separator.Nothing) refl rest in
     let (same, pile) = passes_none ends in
     (attribute_of_value a value ∷ us, pile, tt, attributes_again a value us (coming u) (coming b) closes (subst (λ z. Shows (part_number Part.OptValue) (optional frame.Equal) z (coming b)) one shows) (subst (λ z. Shows (part_number Part.Attrs) (listed separator.Nothing) us (coming z)) same more))

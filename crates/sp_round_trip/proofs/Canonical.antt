@@ -3,7 +3,7 @@
 -- Apart from places, what marks build of a text is of what its tokens tell (Held, Machine). So a reading is one of words
 -- (Goes), and the readings of a text are those of the words that its tokens tell (TextReadings, ToldWords).
 -- Of each part of the grammar a claim is made: what it built is read again from its own words (Shown). In a trace each part
--- has its claim in place of its reading. That from a trace of its symbols each production has its claim (Productions), is shown
+-- has its claim in place of its reading (Steps). Each production has the claim if it has such a trace (Productions). This is shown
 -- - by a test, which finds by its symbols how its trees are written (Chunks, Advance): as the layout of the alternative says
 --   (Laid), and from these words the marks do the same (Closing, Piles, Moves, Sound, Tested); or
 -- - one by one, where the canonical text has other tokens, or parentheses (SpecialAlternatives, and what it cites).

@@ -28,8 +28,7 @@ use Rattle.sp_round_trip.specs.Bare.{nowhere}
 use Rattle.sp_round_trip.proofs.Held.{Pile, started, made}
 use Rattle.sp_round_trip.proofs.Goes.{Tok, entire, number, next, coming, before, pushed, Goes, nothing, whole, mark, before_both}
 use Rattle.sp_round_trip.proofs.Shown.{Claim, Trace, one, flat, Shows}
-use Rattle.sp_round_trip.proofs.Steps.{Gather, Close, passes_token, passes_begin, passes_name, passes_part, passes_one, passes_row, passes_closes, passes_none, beside, chosen}
-use Rattle.sp_round_trip.proofs.HookPaths.{named}
+use Rattle.sp_round_trip.proofs.Steps.{Gather, Close, passes_token, passes_begin, passes_name, passes_part, passes_one, passes_row, passes_closes, passes_none, beside, chosen, named}
 
 low_operator : (op : BinaryOp) → nat_lt (level op) 1 ≡ false
 low_operator binary.Or = refl

@@ -52,9 +52,9 @@ divided x y x_spells y_spells joined = record {
       (chosen (part_number Part.Product) 1 (omega arith) refl (beside reads_left (whole refl (beside reads_right (mark build.Divide refl (joined (next v) s) nothing)))));
 }
 
-pub divides : {w u : List Tok} {s t : Pile} → Trace (right own (part_number Part.Product) 1) w s u t → Claim (part_number Part.Product) w s t u
+pub division_shown : (w u : List Tok) (s t : Pile) → Trace (right own (part_number Part.Product) 1) w s u t → Claim (part_number Part.Product) w s t u
 unfolding own
-divides {s = s} g =
+division_shown w u s t g =
     let (_, x, x_spells, g) = passes_expression (part_number Part.Product) 12 refl g in
     let (_, _, _, _, g) = passes_token refl g in
     let (w, y, y_spells, g) = passes_expression (part_number Part.Prefix) 13 refl g in
@@ -62,7 +62,6 @@ divides {s = s} g =
     let (is, joined) = joined_all operands division (x ∷ y ∷ []) s t (next w) refl refl d in
     (tree division nowhere (x ∷ y ∷ []), (passes_none g).1 ∙ is, divided x y x_spells y_spells joined)
 
--- a call
 abbrev call : Form
 call = form_is.Expr expr_is.Call
 
@@ -88,9 +87,9 @@ called x ts came x_spells shows gathered joined = record {
       (chosen (part_number Part.Postfix) 3 (omega arith) refl (beside reads_callee (whole refl (mark build.Begin refl refl (beside reads_inside (whole refl (mark build.Row refl (gathered (next v) (next (before (inside ++ closing ∷ []) v)) (made x ∷ s)) (mark build.Call refl (joined (next v) s) nothing))))))));
 }
 
-pub calls : {w u : List Tok} {s t : Pile} → Trace (right own (part_number Part.Postfix) 3) w s u t → Claim (part_number Part.Postfix) w s t u
+pub call_shown : (w u : List Tok) (s t : Pile) → Trace (right own (part_number Part.Postfix) 3) w s u t → Claim (part_number Part.Postfix) w s t u
 unfolding own
-calls {s = s} g =
+call_shown w u s t g =
     let (_, x, x_spells, g) = passes_expression (part_number Part.Postfix) 14 refl g in
     let (_, inside, _, _, g) = passes_token refl g in
     let g = passes_begin g in

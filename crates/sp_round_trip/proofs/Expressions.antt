@@ -8,8 +8,8 @@ use Rattle.sp_grammar.specs.declared.terminals.Terminal.{Terminal}
 use Rattle.sp_grammar.specs.declared.terminals.Terminal.TheVariants as token
 use Rattle.sp_grammar.specs.Written.{part_number, all_parts}
 use Rattle.sp_grammar.proofs.Spans.{below, below_all}
-use Rattle.sp_build.proofs.Told.{never}
 use Rattle.sp_ast.specs.Trees.{Tree}
+use Rattle.sp_build.proofs.Told.{never}
 use Rattle.sp_print.specs.Canonical.{at_place, spelled}
 use Rattle.sp_round_trip.proofs.Held.{made}
 use Rattle.sp_round_trip.proofs.Goes.{Tok, Goes, before}

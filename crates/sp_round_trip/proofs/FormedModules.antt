@@ -64,7 +64,6 @@ Means pending w s = IsPending (next w).word s
 Means loose w s = IsLoose s
 Means modular w s = On s × HasModule s
 
--- a name is made
 name_made : (kind : TokenKind) (word : Word) (s t : Pile) → put_if (form_told (by_name (λ x. form_is.Name x)) kind word) s ≡ Some t → On s → IsPending word t
 name_made kind (name x) s t e on = subst (IsPending (name x)) (some_equal e) (refl, on)
 name_made kind w s t e on = cc
@@ -145,7 +144,6 @@ member_made t (made n ∷ s) r is e = subst OnSome e (member_on t n s is.0 is.1)
 member_made t (started p ∷ s) r is e = absurd is
 member_made t [] r is e = absurd is
 
--- a module
 abbrev MakesModule : Option Pile → Type 0
 MakesModule None = Unit {0}
 MakesModule (Some s) = HasModule s

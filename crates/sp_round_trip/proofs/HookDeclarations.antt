@@ -24,8 +24,8 @@ use Rattle.sp_round_trip.specs.Bare.{nowhere}
 use Rattle.sp_round_trip.proofs.Held.{Pile, started, made}
 use Rattle.sp_round_trip.proofs.Goes.{Tok, entire, telling_of, number, next, coming, before, Goes, nothing, whole, mark, before_both}
 use Rattle.sp_round_trip.proofs.Shown.{Claim, Trace, one, yielded, Shows}
-use Rattle.sp_round_trip.proofs.Steps.{Close, passes_token, passes_begin, passes_name, passes_part, passes_one, passes_closes, passes_none, beside, chosen, builds_one}
-use Rattle.sp_round_trip.proofs.HookPaths.{named, path_of, Rest}
+use Rattle.sp_round_trip.proofs.Steps.{Close, passes_token, passes_begin, passes_name, passes_part, passes_one, passes_closes, passes_none, beside, chosen, builds_one, named}
+use Rattle.sp_round_trip.proofs.HookPaths.{path_of, Rest}
 
 abbrev on_slots : List Slot
 on_slots = slot (one_of paths) ∷ slot (may_be events) ∷ slot (one_of hook_trees) ∷ []

@@ -28,10 +28,7 @@ use Rattle.sp_round_trip.proofs.Held.{Pile, started, made}
 use Rattle.sp_round_trip.proofs.Goes.{Tok, entire, telling_of, number, next, before, pushed, Goes, nothing, whole, mark, pushed_append}
 use Rattle.sp_round_trip.proofs.Shown.{Claim, Trace}
 use Rattle.sp_round_trip.proofs.Leaves.{hook_is}
-use Rattle.sp_round_trip.proofs.Steps.{Close, passes_token, passes_absent, passes_name, passes_event, passes_part, passes_closes, passes_none, beside, chosen}
-
-abbrev pub named : List ℕ → Tree
-named x = tree (form_is.Name x) nowhere []
+use Rattle.sp_round_trip.proofs.Steps.{Close, passes_token, passes_absent, passes_name, passes_event, passes_part, passes_closes, passes_none, beside, chosen, named, event_tree}
 
 abbrev pub path_of : List Tree → Tree
 path_of xs = tree form_is.Path nowhere xs
@@ -60,14 +57,13 @@ more_path_shown w u s t trace xs p b same =
     let (ys, e, pile, reads) = claim (xs ++ named x ∷ []) p b (ap (λ z. made (named x) ∷ z) same ∙ sym (pushed_append xs (named x ∷ []) (started p ∷ b))) in
     (named x ∷ ys, e, (passes_none ends).1 ∙ pile ∙ ap (λ zs. made e ∷ made (path_of zs) ∷ b) (append_assoc xs (named x ∷ []) ys), name_again xs ys e x is_name reads)
 
-event_again : (xs : List Tree) (h : Hook) → Close name_slots form_is.Path xs → Rest xs [] (tree (form_is.Event (hook_name_of h)) nowhere [])
+event_again : (xs : List Tree) (h : Hook) → Close name_slots form_is.Path xs → Rest xs [] (event_tree h)
 unfolding own
 event_again xs h closes last v q c =
-    let event = tree (form_is.Event (hook_name_of h)) nowhere [] in
     let word = fixed (token.Hook (hook_token (hook_name_of h))) in
     let under : Pile = made (path_of xs) ∷ c in
-    let whole_path = ap (λ zs. made event ∷ made (path_of zs) ∷ c) (sym (append-nil xs)) in
-    let reads = whole refl (mark build.Path refl (closes (telling_of word) q c) (mark build.Event refl (ap (λ k. Some (made (tree (form_is.Event (hook_name_of k)) nowhere []) ∷ under)) (hook_is h)) (whole refl nothing))) in
+    let whole_path = ap (λ zs. made (event_tree h) ∷ made (path_of zs) ∷ c) (sym (append-nil xs)) in
+    let reads = whole refl (mark build.Path refl (closes (telling_of word) q c) (mark build.Event refl (ap (λ k. Some (made (event_tree k) ∷ under)) (hook_is h)) (whole refl nothing))) in
     chosen (part_number Part.OnPath) 1 (omega arith) refl (subst (λ z. Goes (right own (part_number Part.OnPath) 1) (entire (fixed (token.Mark sign.ColonColon)) ∷ entire word ∷ v) (pushed xs (started q ∷ c)) v z) whole_path reads)
 
 pub path_event_shown : (w u : List Tok) (s t : Pile) → Trace (right own (part_number Part.OnPath) 1) w s u t → Claim (part_number Part.OnPath) w s t u
@@ -76,7 +72,7 @@ path_event_shown w u s t trace xs p b same =
     let (c, a, is, taken, path_mark) = passes_token refl (subst (λ z. Trace (right own (part_number Part.OnPath) 1) w z u t) same trace) in
     let (closes, event_mark) = passes_closes build.Path name_slots form_is.Path xs p refl refl path_mark in
     let (h, d, ends) = passes_event event_mark in
-    ([], tree (form_is.Event (hook_name_of h)) nowhere [], (passes_none ends).1 ∙ ap (λ zs. made (tree (form_is.Event (hook_name_of h)) nowhere []) ∷ made (path_of zs) ∷ b) (sym (append-nil xs)), event_again xs h closes)
+    ([], event_tree h, (passes_none ends).1 ∙ ap (λ zs. made (event_tree h) ∷ made (path_of zs) ∷ b) (sym (append-nil xs)), event_again xs h closes)
 
 no_event_again : (xs : List Tree) → Close name_slots form_is.Path xs → Rest xs [] absent
 unfolding own

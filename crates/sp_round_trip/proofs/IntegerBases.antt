@@ -20,13 +20,13 @@ use Rattle.sp_build.specs.declared.groups.Sort.TheVariants.{One as one_of}
 use Rattle.sp_build.specs.declared.groups.Slot.TheVariants.{Part as slot}
 use Rattle.sp_build.specs.Tokens.{integer_of}
 use Rattle.sp_print.specs.Own.{integer_keyword}
-use Rattle.sp_print.specs.Words.{Word, fixed, number as numeral}
+use Rattle.sp_print.specs.Words.{Word, fixed, number as a_number}
 use Rattle.sp_round_trip.specs.Bare.{nowhere}
 use Rattle.sp_round_trip.proofs.Held.{Pile}
 use Rattle.sp_round_trip.proofs.Goes.{Tok, entire, telling_of, number, next, coming, nothing, whole, mark}
 use Rattle.sp_round_trip.proofs.Shown.{Claim, Trace, one, Shows}
 use Rattle.sp_round_trip.proofs.Leaves.{integer_again}
-use Rattle.sp_round_trip.proofs.Steps.{CloseBy, passes_token, passes_begin, passes_number, passes_integer, passes_wraps, passes_none, chosen, builds_one}
+use Rattle.sp_round_trip.proofs.Steps.{CloseBy, passes_token, passes_begin, passes_number, passes_told, passes_wraps, passes_none, chosen, builds_one, numeral}
 
 -- the word of an integer type
 abbrev pub integer_word : IntWord → Word
@@ -42,10 +42,10 @@ number_base a = form_is.Base (base_is.Number a)
 abbrev int_type : IntWord → Form
 int_type a = form_is.Type (types_is.Int a)
 
-number_base_again : (a : IntWord) (n came : ℕ) → CloseBy (slot (one_of numbers) ∷ []) (λ q. integer_of q.kind) number_base (tree (form_is.Number n) nowhere [] ∷ []) a → Shows (part_number Part.Base) (one 1) (tree (number_base a) nowhere (tree (form_is.Number n) nowhere [] ∷ []) ∷ []) came
+number_base_again : (a : IntWord) (n came : ℕ) → CloseBy (slot (one_of numbers) ∷ []) (λ q. integer_of q.kind) number_base (numeral n ∷ []) a → Shows (part_number Part.Base) (one 1) (tree (number_base a) nowhere (numeral n ∷ []) ∷ []) came
 unfolding own
 number_base_again a n came closes last v s may =
-    let words = entire (integer_word a) ∷ entire (fixed (token.Mark sign.LeftParen)) ∷ entire (numeral n) ∷ entire (fixed (token.Mark sign.RightParen)) ∷ v in
+    let words = entire (integer_word a) ∷ entire (fixed (token.Mark sign.LeftParen)) ∷ entire (a_number n) ∷ entire (fixed (token.Mark sign.RightParen)) ∷ v in
     chosen (part_number Part.Base) 2 (omega arith) refl (mark build.Begin refl refl (whole (integer_taken a) (whole refl (mark build.Number refl refl (whole refl (whole refl (mark build.NumberBase refl (closes (telling_of (integer_word a)) s (integer_again a)) nothing)))))))
 
 pub number_base_shown : (w u : List Tok) (s t : Pile) → Trace (right own (part_number Part.Base) 2) w s u t → Claim (part_number Part.Base) w s t u
@@ -55,8 +55,8 @@ number_base_shown w u s t trace =
     let (y, b, also, opened, numbered) = passes_token refl parens in
     let (n, c, closing) = passes_number numbered in
     let (z, d, last_is, shut, base) = passes_token refl closing in
-    let (i, closes, ends) = passes_integer build.NumberBase (slot (one_of numbers) ∷ []) number_base (tree (form_is.Number n) nowhere [] ∷ []) (next w) refl refl base in
-    builds_one (tree (number_base i) nowhere (tree (form_is.Number n) nowhere [] ∷ [])) (passes_none ends).1 refl (number_base_again i n (coming u) closes)
+    let (i, closes, ends) = passes_told build.NumberBase (slot (one_of numbers) ∷ []) (λ q. integer_of q.kind) number_base (numeral n ∷ []) (next w) refl (λ q z. refl) base in
+    builds_one (tree (number_base i) nowhere (numeral n ∷ [])) (passes_none ends).1 refl (number_base_again i n (coming u) closes)
 
 integer_base_again : (a : IntWord) (came : ℕ) → CloseBy [] (λ q. integer_of q.kind) int_type [] a → Shows (part_number Part.Base) (one 1) (tree (form_is.Base base_is.Type) nowhere (tree (int_type a) nowhere [] ∷ []) ∷ []) came
 unfolding own
@@ -67,6 +67,6 @@ pub integer_base_shown : (w u : List Tok) (s t : Pile) → Trace (right own (par
 unfolding own
 integer_base_shown w u s t trace =
     let (x, a, is, taken, int_base) = passes_token refl (passes_begin trace) in
-    let (i, closes, wrap) = passes_integer build.IntBase [] int_type [] (next w) refl refl int_base in
+    let (i, closes, wrap) = passes_told build.IntBase [] (λ q. integer_of q.kind) int_type [] (next w) refl (λ q z. refl) int_base in
     let ends = passes_wraps build.TypeBase types (form_is.Base base_is.Type) (tree (int_type i) nowhere []) refl refl wrap in
     builds_one (tree (form_is.Base base_is.Type) nowhere (tree (int_type i) nowhere [] ∷ [])) (passes_none ends).1 refl (integer_base_again i (coming u) closes)

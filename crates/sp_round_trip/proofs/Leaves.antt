@@ -74,8 +74,8 @@ attribute_again attribute_name.Size = refl
 attribute_again a = refl
 
 -- the word that the tree of a token tells, which tells the same, and is of the same kind
-abbrev Again : Leaf → Form → Word → Type 0
-Again l form x = (w : Word) × (own_words form ≡ w ∷ []) × (number (entire w) ≡ number (entire x)) × (form_told l (read_as w) w ≡ Some form)
+abbrev Again : Leaf → Form → Tok → Type 0
+Again l form x = (w : Word) × (own_words form ≡ w ∷ []) × (number (entire w) ≡ number x) × (form_told l (read_as w) w ≡ Some form)
 
 pub mapped : {A B : Type 0} (f : A → B) (o : Option A) (y : B) → option_map f o ≡ Some y → (x : A) × (o ≡ Some x) × (f x ≡ y)
 mapped f None y e = absurd cc
@@ -97,7 +97,7 @@ of_told P (by_integer its) kind x form each e = let (w, told, is) = mapped its (
 of_told P (by_event its) (token.Hook h) x form each e = subst P (some_equal e) (each (hook_name_of h))
 of_told P l kind x form each e = not_some e
 
-word_again : (l : Leaf) (form : Form) (x : Word) → LeafSays l → is_always l ≡ false → form_told l (read_as x) x ≡ Some form → Again l form x
+word_again : (l : Leaf) (form : Form) (x : Word) → LeafSays l → is_always l ≡ false → form_told l (read_as x) x ≡ Some form → Again l form (entire x)
 word_again (by_name its) form (name x) says other e = (name x, ap own_words (sym (some_equal e)) ∙ says x, refl, e)
 word_again (by_string its) form (text x) says other e = (text x, ap own_words (sym (some_equal e)) ∙ says x, refl, e)
 word_again (by_bytes its) form (bytes x) says other e = (bytes x, ap own_words (sym (some_equal e)) ∙ says x, refl, e)
@@ -113,7 +113,6 @@ word_again (always its) form x says other e = absurd cc
 word_again l form x says other e = absurd cc
 
 -- The same of a token that a terminal takes. No terminal takes the second half of a `>>` but the one that closes a list of types.
-pub leaf_again : (l : Leaf) (form : Form) (x : Tok) (e : ℕ) → LeafSays l → is_always l ≡ false → takes e SECOND ≡ Nothing → takes e (number x) ≡ All → form_told l (tells x).kind (tells x).word ≡ Some form
-    → (w : Word) × (own_words form ≡ w ∷ []) × (number (entire w) ≡ number x) × (form_told l (read_as w) w ≡ Some form)
+pub leaf_again : (l : Leaf) (form : Form) (x : Tok) (e : ℕ) → LeafSays l → is_always l ≡ false → takes e SECOND ≡ Nothing → takes e (number x) ≡ All → form_told l (tells x).kind (tells x).word ≡ Some form → Again l form x
 leaf_again l form (entire x) e says other not_second passed told = word_again l form x says other told
 leaf_again l form (half x) e says other not_second passed told = absurd (let q : Nothing ≡ All = sym not_second ∙ passed in cc)

@@ -29,8 +29,7 @@ pub mod NewExpressions
 pub mod HookPaths
 pub mod HookDeclarations
 pub mod Parameters
-pub mod EnumLabels
-pub mod Semicolons
+pub mod LeftOut
 pub mod FieldHooks
 pub mod Attributes
 pub mod ElseBranches

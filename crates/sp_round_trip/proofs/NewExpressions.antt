@@ -51,18 +51,18 @@ arguments_read (t ∷ ts) came shows gathered last v s avoids =
     let reads_inside = subst (λ w. Goes (part_symbol Part.Args ∷ []) w below (entire closing ∷ v) (pushed (t ∷ ts) below)) (sym (before_both inside (closing ∷ []) v)) (shows (Some (kind.Mark sign.LeftParen)) (entire closing ∷ v) below (inl refl)) in
     chosen (part_number Part.NewArgs) 0 (omega arith) refl (whole refl (mark build.Begin refl refl (beside reads_inside (whole refl (mark build.Row refl (gathered (next v) p s) nothing)))))
 
-pub has_arguments : {w u : List Tok} {s t : Pile} → Trace (right own (part_number Part.NewArgs) 0) w s u t → Claim (part_number Part.NewArgs) w s t u
+pub arguments_shown : (w u : List Tok) (s t : Pile) → Trace (right own (part_number Part.NewArgs) 0) w s u t → Claim (part_number Part.NewArgs) w s t u
 unfolding own
-has_arguments {s = s} g =
+arguments_shown w u s t g =
     let (_, inside, _, _, g) = passes_token refl g in
     let g = passes_begin g in
     let (behind, ts, _, shows, g) = passes_trees (part_number Part.Args) (listed separator.Comma) refl g in
     let (_, _, _, _, g) = passes_token refl g in
     let (gathered, g) = passes_row ts (next inside) g in (ts, (passes_none g).1, λ last v b avoids. arguments_read ts (coming behind) shows gathered last v b avoids)
 
-pub has_no_arguments : {w u : List Tok} {s t : Pile} → Trace (right own (part_number Part.NewArgs) 1) w s u t → Claim (part_number Part.NewArgs) w s t u
+pub no_arguments_shown : (w u : List Tok) (s t : Pile) → Trace (right own (part_number Part.NewArgs) 1) w s u t → Claim (part_number Part.NewArgs) w s t u
 unfolding own
-has_no_arguments {w} {u} {s} g =
+no_arguments_shown w u s t g =
     let g = passes_begin g in
     let (_, g) = passes_row [] (next w) g in ([], (passes_none g).1, λ last v b avoids. without_arguments v b (avoids refl))
 
@@ -115,9 +115,9 @@ new_spells path (u ∷ us) came shows reads is = record {
   reads = λ last v s pass. primary_at 15 (omega arith) (omega arith) (new_read path (u ∷ us) came shows reads is last v s (λ e. absurd (let q : u ∷ us ≡ [] = e in cc)));
 }
 
-pub makes_new : {w u : List Tok} {s t : Pile} → Trace (right own (part_number Part.Primary) 19) w s u t → Claim (part_number Part.Primary) w s t u
+pub new_shown : (w u : List Tok) (s t : Pile) → Trace (right own (part_number Part.Primary) 19) w s u t → Claim (part_number Part.Primary) w s t u
 unfolding own
-makes_new {w} {u} {s} {t} g =
+new_shown w u s t g =
     let g = passes_begin g in
     let (_, _, _, _, g) = passes_token refl g in
     let (behind, path, _, shows, g) = passes_one (part_number Part.Path) 1 refl g in

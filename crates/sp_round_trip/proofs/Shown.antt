@@ -1,6 +1,6 @@
 -- How the trees of each part of the grammar are written, and what is claimed of a part that was read: that what it
 -- built is read from these words.
-use Rattle.std.specs.Prelude.{◌≤◌, ◌⊎◌, if◌then◌else◌}
+use Rattle.std.specs.Prelude.{flat_map, ◌≤◌, ◌⊎◌, if◌then◌else◌}
 use Rattle.std.proofs.Common.{◌≡◌, ℕ, List, [], ◌∷◌, ◌++◌, map, get_or, Bool, true, false, ◌==◌, Option, Some, None, subst, eqb-true}
 use Rattle.sp_lex.specs.declared.kinds.Mark.TheVariants as sign
 use Rattle.sp_lex.specs.declared.kinds.TokenKind.{TokenKind}
@@ -19,6 +19,7 @@ use Rattle.sp_ast.specs.Trees.{Tree, absent, row, trees, tree}
 use Rattle.sp_build.specs.declared.groups.Group.TheVariants.{Expressions as expressions}
 use Rattle.sp_build.specs.Groups.{is_of, is_node}
 use Rattle.sp_build.specs.Rules.{rule}
+use Rattle.sp_build.proofs.Told.{never}
 use Rattle.sp_print.specs.declared.layouts.Frame.{Frame}
 use Rattle.sp_print.specs.declared.layouts.Frame.TheVariants as frame
 use Rattle.sp_print.specs.declared.layouts.Separator.{Separator}
@@ -30,7 +31,6 @@ use Rattle.sp_round_trip.specs.Bare.{nowhere}
 use Rattle.sp_round_trip.specs.Told.{Telling}
 use Rattle.sp_round_trip.proofs.Held.{Pile, started, made, does}
 use Rattle.sp_round_trip.proofs.Goes.{Tok, entire, half, number, next, coming, Goes, before, pushed}
-use Rattle.sp_build.proofs.Told.{never}
 
 -- how trees are written
 pub data Yield : Type 0 where
@@ -164,7 +164,7 @@ manner _ = other
 
 -- The token that may not come behind a part: a `(` behind what can end with a `new` without arguments, an `else` behind
 -- what can end with an `if` without one.
-abbrev pub avoids : Part → Option Terminal
+abbrev avoids : Part → Option Terminal
 avoids Part.OptPriority = Some token.LeftParen
 avoids Part.Label = Some token.LeftParen
 avoids Part.OptValue = Some token.LeftParen
@@ -207,7 +207,7 @@ abbrev pub avoided : ℕ → Option Terminal
 avoided n = get_or (map avoids all_parts) n None
 
 -- Where an `else` came behind the original, and so the last `if` of the part has one, it may come again.
-abbrev pub keeps_else : Part → Bool
+abbrev keeps_else : Part → Bool
 keeps_else Part.Stmt = true
 keeps_else Part.Other = true
 keeps_else Part.Branch = true
@@ -278,8 +278,7 @@ NewArgsClaim s t =
 
 -- words of lines, one behind the other
 abbrev pub flat : List (List Word) → List Word
-flat [] = []
-flat (ws ∷ lines) = ws ++ flat lines
+flat lines = flat_map (λ ws. ws) lines
 
 -- declarations, each as a line
 abbrev DeclsClaim : Pile → Pile → Type 0

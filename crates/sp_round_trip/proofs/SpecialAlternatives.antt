@@ -13,18 +13,17 @@ use Rattle.sp_round_trip.proofs.Shown.{Claim, Trace}
 use Rattle.sp_round_trip.proofs.Attributes.{attributes_shown}
 use Rattle.sp_round_trip.proofs.Declarations.{declarations_shown, no_declarations_shown}
 use Rattle.sp_round_trip.proofs.ElseBranches.{else_if_shown, else_shown, no_else_shown}
-use Rattle.sp_round_trip.proofs.EnumLabels.{last_comma_shown}
+use Rattle.sp_round_trip.proofs.LeftOut.{last_comma_shown, semicolon_shown, no_semicolon_shown}
 use Rattle.sp_round_trip.proofs.FieldHooks.{no_hooks_shown, hooks_shown}
 use Rattle.sp_round_trip.proofs.HookDeclarations.{on_shown}
 use Rattle.sp_round_trip.proofs.HookPaths.{more_path_shown, path_event_shown, path_end_shown}
 use Rattle.sp_round_trip.proofs.IfStatements.{if_shown}
 use Rattle.sp_round_trip.proofs.IntegerBases.{number_base_shown, integer_base_shown}
-use Rattle.sp_round_trip.proofs.KeptTrees.{kept, keeps_parentheses}
-use Rattle.sp_round_trip.proofs.NewExpressions.{makes_new, has_arguments, has_no_arguments}
-use Rattle.sp_round_trip.proofs.DivisionsAndCalls.{divides, calls}
+use Rattle.sp_round_trip.proofs.KeptTrees.{alone_shown, parentheses_shown}
+use Rattle.sp_round_trip.proofs.NewExpressions.{new_shown, arguments_shown, no_arguments_shown}
+use Rattle.sp_round_trip.proofs.DivisionsAndCalls.{division_shown, call_shown}
 use Rattle.sp_round_trip.proofs.Parameters.{parameters_shown, no_parameters_shown}
-use Rattle.sp_round_trip.proofs.Semicolons.{semicolon_shown, no_semicolon_shown}
-use Rattle.sp_round_trip.proofs.TypedNumbers.{types_number}
+use Rattle.sp_round_trip.proofs.TypedNumbers.{typed_number_shown}
 
 -- what is claimed of a part, where this alternative of it was read
 abbrev pub Claimed : ℕ → ℕ → Type 0
@@ -36,53 +35,54 @@ pub record Alternative : Type 0 where
   pub place : ℕ
   pub claimed : Claimed of place
 
-abbrev alternative : (n p : ℕ) → Claimed n p → Alternative
-alternative n p c = record { of = n; place = p; claimed = c }
+-- one of which it is proved whatever comes behind it
+abbrev alternative : (of : Part) (place : ℕ) → ((w u : List Tok) (s t : Pile) → Trace (right own (part_number of) place) w s u t → Claim (part_number of) w s t u) → Alternative
+alternative part place shown = record { of = part_number part; place = place; claimed = λ w u s t applies trace. shown w u s t trace }
 
 abbrev pub alternatives : List Alternative
 unfolding own
 alternatives =
-    alternative (part_number Part.Decls) 0 (λ w u s t a g. declarations_shown w u s t g)
-    ∷ alternative (part_number Part.Decls) 1 (λ w u s t a g. no_declarations_shown w u s t g)
-    ∷ alternative (part_number Part.Decl) 9 (λ w u s t a g. on_shown w u s t g)
-    ∷ alternative (part_number Part.OnPath) 0 (λ w u s t a g. more_path_shown w u s t g)
-    ∷ alternative (part_number Part.OnPath) 1 (λ w u s t a g. path_event_shown w u s t g)
-    ∷ alternative (part_number Part.OnPath) 2 (λ w u s t a g. path_end_shown w u s t g)
-    ∷ alternative (part_number Part.OptParen) 0 (λ w u s t a g. parameters_shown w u s t g)
-    ∷ alternative (part_number Part.OptParen) 1 (λ w u s t a g. no_parameters_shown w u s t g)
-    ∷ alternative (part_number Part.Labels) 1 (λ w u s t a g. last_comma_shown w u s t g)
-    ∷ alternative (part_number Part.OptSemi) 0 (λ w u s t a g. semicolon_shown w u s t g)
-    ∷ alternative (part_number Part.OptSemi) 1 (λ w u s t a g. no_semicolon_shown w u s t g)
-    ∷ alternative (part_number Part.Attrs) 0 (λ w u s t a g. attributes_shown w u s t g)
-    ∷ alternative (part_number Part.FieldEnd) 0 (λ w u s t a g. no_hooks_shown w u s t g)
-    ∷ alternative (part_number Part.FieldEnd) 1 (λ w u s t a g. hooks_shown w u s t g)
-    ∷ alternative (part_number Part.Base) 2 (λ w u s t a g. number_base_shown w u s t g)
-    ∷ alternative (part_number Part.Base) 3 (λ w u s t a g. integer_base_shown w u s t g)
-    ∷ alternative (part_number Part.Stmt) 0 (λ w u s t a g. if_shown w u s t g)
-    ∷ alternative (part_number Part.OptElse) 0 (λ w u s t a g. else_if_shown w u s t g)
-    ∷ alternative (part_number Part.OptElse) 1 (λ w u s t a g. else_shown w u s t g)
-    ∷ alternative (part_number Part.OptElse) 2 (λ w u s t a g. no_else_shown w u s t a g)
-    ∷ alternative (part_number Part.Expr) 1 (λ w u s t a g. kept (part_number Part.Expr) (part_number Part.Or) 1 2 refl refl g)
-    ∷ alternative (part_number Part.Or) 1 (λ w u s t a g. kept (part_number Part.Or) (part_number Part.And) 2 3 refl refl g)
-    ∷ alternative (part_number Part.And) 1 (λ w u s t a g. kept (part_number Part.And) (part_number Part.Membership) 3 4 refl refl g)
-    ∷ alternative (part_number Part.Membership) 2 (λ w u s t a g. kept (part_number Part.Membership) (part_number Part.Equality) 4 5 refl refl g)
-    ∷ alternative (part_number Part.Equality) 2 (λ w u s t a g. kept (part_number Part.Equality) (part_number Part.Order) 5 6 refl refl g)
-    ∷ alternative (part_number Part.Order) 4 (λ w u s t a g. kept (part_number Part.Order) (part_number Part.BitOr) 6 7 refl refl g)
-    ∷ alternative (part_number Part.BitOr) 1 (λ w u s t a g. kept (part_number Part.BitOr) (part_number Part.BitXor) 7 8 refl refl g)
-    ∷ alternative (part_number Part.BitXor) 1 (λ w u s t a g. kept (part_number Part.BitXor) (part_number Part.BitAnd) 8 9 refl refl g)
-    ∷ alternative (part_number Part.BitAnd) 1 (λ w u s t a g. kept (part_number Part.BitAnd) (part_number Part.Shift) 9 10 refl refl g)
-    ∷ alternative (part_number Part.Shift) 2 (λ w u s t a g. kept (part_number Part.Shift) (part_number Part.Sum) 10 11 refl refl g)
-    ∷ alternative (part_number Part.Sum) 2 (λ w u s t a g. kept (part_number Part.Sum) (part_number Part.Product) 11 12 refl refl g)
-    ∷ alternative (part_number Part.Product) 1 (λ w u s t a g. divides g)
-    ∷ alternative (part_number Part.Product) 3 (λ w u s t a g. kept (part_number Part.Product) (part_number Part.Prefix) 12 13 refl refl g)
-    ∷ alternative (part_number Part.Prefix) 3 (λ w u s t a g. kept (part_number Part.Prefix) (part_number Part.Postfix) 13 14 refl refl g)
-    ∷ alternative (part_number Part.Postfix) 3 (λ w u s t a g. calls g)
-    ∷ alternative (part_number Part.Postfix) 4 (λ w u s t a g. kept (part_number Part.Postfix) (part_number Part.Primary) 14 15 refl refl g)
-    ∷ alternative (part_number Part.Primary) 9 (λ w u s t a g. keeps_parentheses g)
-    ∷ alternative (part_number Part.Primary) 17 (λ w u s t a g. types_number g)
-    ∷ alternative (part_number Part.Primary) 19 (λ w u s t a g. makes_new g)
-    ∷ alternative (part_number Part.NewArgs) 0 (λ w u s t a g. has_arguments g)
-    ∷ alternative (part_number Part.NewArgs) 1 (λ w u s t a g. has_no_arguments g)
+    alternative Part.Decls 0 declarations_shown
+    ∷ alternative Part.Decls 1 no_declarations_shown
+    ∷ alternative Part.Decl 9 on_shown
+    ∷ alternative Part.OnPath 0 more_path_shown
+    ∷ alternative Part.OnPath 1 path_event_shown
+    ∷ alternative Part.OnPath 2 path_end_shown
+    ∷ alternative Part.OptParen 0 parameters_shown
+    ∷ alternative Part.OptParen 1 no_parameters_shown
+    ∷ alternative Part.Labels 1 last_comma_shown
+    ∷ alternative Part.OptSemi 0 semicolon_shown
+    ∷ alternative Part.OptSemi 1 no_semicolon_shown
+    ∷ alternative Part.Attrs 0 attributes_shown
+    ∷ alternative Part.FieldEnd 0 no_hooks_shown
+    ∷ alternative Part.FieldEnd 1 hooks_shown
+    ∷ alternative Part.Base 2 number_base_shown
+    ∷ alternative Part.Base 3 integer_base_shown
+    ∷ alternative Part.Stmt 0 if_shown
+    ∷ alternative Part.OptElse 0 else_if_shown
+    ∷ alternative Part.OptElse 1 else_shown
+    ∷ record { of = part_number Part.OptElse; place = 2; claimed = no_else_shown }
+    ∷ alternative Part.Expr 1 (alone_shown Part.Expr Part.Or 1 2 refl refl)
+    ∷ alternative Part.Or 1 (alone_shown Part.Or Part.And 2 3 refl refl)
+    ∷ alternative Part.And 1 (alone_shown Part.And Part.Membership 3 4 refl refl)
+    ∷ alternative Part.Membership 2 (alone_shown Part.Membership Part.Equality 4 5 refl refl)
+    ∷ alternative Part.Equality 2 (alone_shown Part.Equality Part.Order 5 6 refl refl)
+    ∷ alternative Part.Order 4 (alone_shown Part.Order Part.BitOr 6 7 refl refl)
+    ∷ alternative Part.BitOr 1 (alone_shown Part.BitOr Part.BitXor 7 8 refl refl)
+    ∷ alternative Part.BitXor 1 (alone_shown Part.BitXor Part.BitAnd 8 9 refl refl)
+    ∷ alternative Part.BitAnd 1 (alone_shown Part.BitAnd Part.Shift 9 10 refl refl)
+    ∷ alternative Part.Shift 2 (alone_shown Part.Shift Part.Sum 10 11 refl refl)
+    ∷ alternative Part.Sum 2 (alone_shown Part.Sum Part.Product 11 12 refl refl)
+    ∷ alternative Part.Product 1 division_shown
+    ∷ alternative Part.Product 3 (alone_shown Part.Product Part.Prefix 12 13 refl refl)
+    ∷ alternative Part.Prefix 3 (alone_shown Part.Prefix Part.Postfix 13 14 refl refl)
+    ∷ alternative Part.Postfix 3 call_shown
+    ∷ alternative Part.Postfix 4 (alone_shown Part.Postfix Part.Primary 14 15 refl refl)
+    ∷ alternative Part.Primary 9 parentheses_shown
+    ∷ alternative Part.Primary 17 typed_number_shown
+    ∷ alternative Part.Primary 19 new_shown
+    ∷ alternative Part.NewArgs 0 arguments_shown
+    ∷ alternative Part.NewArgs 1 no_arguments_shown
     ∷ []
 
 abbrev pub is_among : ℕ → ℕ → List Alternative → Bool

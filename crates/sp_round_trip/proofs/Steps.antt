@@ -19,16 +19,14 @@ use Rattle.sp_grammar.specs.Written.{mark as mark_symbol, kind as kind_symbol}
 use Rattle.sp_ast.specs.declared.forms.Form.{Form}
 use Rattle.sp_ast.specs.declared.forms.Form.TheVariants as form_is
 use Rattle.sp_ast.specs.Trees.{Tree, absent, tree, in_row}
-use Rattle.sp_ast.specs.declared.words.IntWord.{IntWord}
-use Rattle.sp_ast.specs.declared.words.AttributeName.{AttributeName}
-use Rattle.sp_build.specs.Tokens.{integer_of, attribute_of, hook_name_of}
+use Rattle.sp_build.specs.Tokens.{hook_name_of}
 use Rattle.sp_build.specs.declared.groups.Group.{Group}
 use Rattle.sp_build.specs.declared.groups.Slot.{Slot}
 use Rattle.sp_build.specs.Groups.{is_node}
-use Rattle.sp_build.specs.Rules.{Leaf, by_name, by_number, by_event, rule, gathers, closes, closes_integer, closes_attribute, wraps, takes as takes_leaf}
+use Rattle.sp_build.specs.Rules.{Leaf, by_name, by_number, by_event, rule, gathers, closes, wraps, takes as takes_leaf}
 use Rattle.sp_build.proofs.Standing.{not_some, some_equal}
 use Rattle.sp_build.proofs.Told.{never}
-use Rattle.sp_print.specs.Words.{Word, name, number as numeral}
+use Rattle.sp_print.specs.Words.{Word, name, number as a_number}
 use Rattle.sp_printed_words.specs.Sound.{read_as}
 use Rattle.sp_round_trip.specs.Bare.{nowhere}
 use Rattle.sp_round_trip.specs.Told.{Telling}
@@ -125,7 +123,7 @@ name_told k (name y) form h = (y, refl, sym (some_equal h))
 name_told k x form h = absurd cc
 
 number_told : (k : TokenKind) (x : Word) (form : Form) → form_told (by_number (λ n. form_is.Number n)) k x ≡ Some form → (n : ℕ) × (form ≡ form_is.Number n)
-number_told k (numeral n) form h = (n, sym (some_equal h))
+number_told k (a_number n) form h = (n, sym (some_equal h))
 number_told k x form h = absurd cc
 
 -- a tree of one token, by the word that told it
@@ -141,22 +139,31 @@ passes_leaf {e = e} m l {ss = ss} {w = w} {v = v} {s = s} {z = z} is does_so its
     (word, form, subst (λ y. takes e (number y) ≡ All) is_word taken, told_so, rest, subst (λ p. Trace ss rest p v z) pile ends)
 
 -- the tree of a name, of a number and of an event
+abbrev pub named : List ℕ → Tree
+named x = tree (form_is.Name x) nowhere []
+
+abbrev pub numeral : ℕ → Tree
+numeral n = tree (form_is.Number n) nowhere []
+
+abbrev pub event_tree : Hook → Tree
+event_tree h = tree (form_is.Event (hook_name_of h)) nowhere []
+
 pub passes_name : {ss : List Symbol} {w v : List Tok} {s z : Pile} → Trace (mark_symbol build.Name ∷ kind_symbol terminal.Id ∷ ss) w s v z
-    → (x : List ℕ) × (takes (terminal_number terminal.Id) (number (entire (name x))) ≡ All) × (rest : List Tok) × Trace ss rest (made (tree (form_is.Name x) nowhere []) ∷ s) v z
+    → (x : List ℕ) × (takes (terminal_number terminal.Id) (number (entire (name x))) ≡ All) × (rest : List Tok) × Trace ss rest (made (named x) ∷ s) v z
 passes_name {ss = ss} {v = v} {s = s} {z = z} trace =
     let (x, form, taken, told, rest, behind) = passes_leaf build.Name (by_name (λ y. form_is.Name y)) refl refl refl refl trace in
     let (y, is, its) = name_told (read_as x) x form told in
     (y, subst (λ q. takes (terminal_number terminal.Id) (number (entire q)) ≡ All) is taken, rest, subst (λ f. Trace ss rest (made (tree f nowhere []) ∷ s) v z) its behind)
 
 pub passes_number : {ss : List Symbol} {w v : List Tok} {s z : Pile} → Trace (mark_symbol build.Number ∷ kind_symbol terminal.Number ∷ ss) w s v z
-    → (n : ℕ) × (rest : List Tok) × Trace ss rest (made (tree (form_is.Number n) nowhere []) ∷ s) v z
+    → (n : ℕ) × (rest : List Tok) × Trace ss rest (made (numeral n) ∷ s) v z
 passes_number {ss = ss} {v = v} {s = s} {z = z} trace =
     let (x, form, taken, told, rest, behind) = passes_leaf build.Number (by_number (λ n. form_is.Number n)) refl refl refl refl trace in
     let (n, its) = number_told (read_as x) x form told in
     (n, rest, subst (λ f. Trace ss rest (made (tree f nowhere []) ∷ s) v z) its behind)
 
 pub passes_event : {ss : List Symbol} {w v : List Tok} {s z : Pile} → Trace (mark_symbol build.Event ∷ kind_symbol terminal.Event ∷ ss) w s v z
-    → (h : Hook) × (rest : List Tok) × Trace ss rest (made (tree (form_is.Event (hook_name_of h)) nowhere []) ∷ s) v z
+    → (h : Hook) × (rest : List Tok) × Trace ss rest (made (event_tree h) ∷ s) v z
 passes_event {ss = ss} {v = v} {s = s} {z = z} trace =
     let (x, form, taken, told, rest, behind) = passes_leaf build.Event (by_event (λ h. form_is.Event h)) refl refl refl refl trace in
     let (h, kind, its) = event_told (read_as x) (λ h. form_is.Event h) x form told in
@@ -201,31 +208,24 @@ reads_token e h (first_half {x = x} taken reads) = absurd (never_first (e == num
 pub reads_nothing : {w v : List Tok} {s t : Pile} → Goes [] w s v t → w ≡ v
 reads_nothing nothing = refl
 
--- a tree that is closed with what the token tells at which it began
-closed_by : {A : Type 0} (slots : List Slot) (tell : Telling → Option A) (form : A → Form) (us : List Tree) (p : Telling) (s t : Pile) → closed slots (λ q. option_map form (tell q)) (pushed us (started p ∷ s)) ≡ Some t
-    → (a : A) × (tell p ≡ Some a) × (t ≡ made (tree (form a) nowhere us) ∷ s) × ((q : Telling) (c : Pile) → tell q ≡ Some a → closed slots (λ x. option_map form (tell x)) (pushed us (started q ∷ c)) ≡ Some (made (tree (form a) nowhere us) ∷ c))
-closed_by slots tell form us p s t h =
-    let (its, told, pile, again) = closed_all slots (λ q. option_map form (tell q)) us p s t h in
-    let (a, tells_so, is) = mapped form (tell p) its told in
-    (a, tells_so, pile ∙ ap (λ f. made (tree f nowhere us) ∷ s) (sym is), λ q c also. again q c (ap (λ o. option_map form o) also ∙ ap Some is) ∙ ap (λ f. Some (made (tree f nowhere us) ∷ c)) (sym is))
-
+-- Trees that are closed wherever they stand behind a beginning at which the token tells this.
 abbrev pub CloseBy : {A : Type 0} → List Slot → (Telling → Option A) → (A → Form) → List Tree → A → Type 0
 CloseBy slots tell form us a = (q : Telling) (c : Pile) → tell q ≡ Some a → closed slots (λ x. option_map form (tell x)) (pushed us (started q ∷ c)) ≡ Some (made (tree (form a) nowhere us) ∷ c)
 
-pub passes_integer : {n : ℕ} (m : Mark) (slots : List Slot) (form : IntWord → Form) (us : List Tree) (p : Telling) {ss : List Symbol} {w v : List Tok} {s u : Pile}
-    → mark_with n ≡ Some m → rule m ≡ closes_integer slots form → Trace (symbol.Mark n ∷ ss) w (pushed us (started p ∷ s)) v u
-    → (a : IntWord) × CloseBy slots (λ q. integer_of q.kind) form us a × Trace ss w (made (tree (form a) nowhere us) ∷ s) v u
-passes_integer m slots form us p {ss = ss} {w = w} {v = v} {s = s} {u = u} is does_so trace =
-    let (t, done, rest) = passes_mark m is trace in
-    let (a, told, pile, again) = closed_by slots (λ q. integer_of q.kind) form us p s t (subst (λ r. does r (next w) (pushed us (started p ∷ s)) ≡ Some t) does_so done) in
-    (a, again, subst (λ z. Trace ss w z v u) pile rest)
+closed_by : {A : Type 0} (slots : List Slot) (tell : Telling → Option A) (form : A → Form) (us : List Tree) (p : Telling) (s t : Pile) → closed slots (λ q. option_map form (tell q)) (pushed us (started p ∷ s)) ≡ Some t
+    → (a : A) × (t ≡ made (tree (form a) nowhere us) ∷ s) × CloseBy slots tell form us a
+closed_by slots tell form us p s t h =
+    let (its, told, pile, again) = closed_all slots (λ q. option_map form (tell q)) us p s t h in
+    let (a, tells_so, is) = mapped form (tell p) its told in
+    (a, pile ∙ ap (λ f. made (tree f nowhere us) ∷ s) (sym is), λ q c also. again q c (ap (λ o. option_map form o) also ∙ ap Some is) ∙ ap (λ f. Some (made (tree f nowhere us) ∷ c)) (sym is))
 
-pub passes_attribute : {n : ℕ} (m : Mark) (slots : List Slot) (form : AttributeName → Form) (us : List Tree) (p : Telling) {ss : List Symbol} {w v : List Tok} {s u : Pile}
-    → mark_with n ≡ Some m → rule m ≡ closes_attribute slots form → Trace (symbol.Mark n ∷ ss) w (pushed us (started p ∷ s)) v u
-    → (a : AttributeName) × CloseBy slots (λ q. attribute_of q.kind) form us a × Trace ss w (made (tree (form a) nowhere us) ∷ s) v u
-passes_attribute m slots form us p {ss = ss} {w = w} {v = v} {s = s} {u = u} is does_so trace =
+-- a tree that is closed with what the token tells at which it began
+pub passes_told : {A : Type 0} {n : ℕ} (m : Mark) (slots : List Slot) (tell : Telling → Option A) (form : A → Form) (us : List Tree) (p : Telling) {ss : List Symbol} {w v : List Tok} {s u : Pile}
+    → mark_with n ≡ Some m → ((q : Telling) (z : Pile) → does (rule m) q z ≡ closed slots (λ x. option_map form (tell x)) z) → Trace (symbol.Mark n ∷ ss) w (pushed us (started p ∷ s)) v u
+    → (a : A) × CloseBy slots tell form us a × Trace ss w (made (tree (form a) nowhere us) ∷ s) v u
+passes_told m slots tell form us p {ss = ss} {w = w} {v = v} {s = s} {u = u} is does_so trace =
     let (t, done, rest) = passes_mark m is trace in
-    let (a, told, pile, again) = closed_by slots (λ q. attribute_of q.kind) form us p s t (subst (λ r. does r (next w) (pushed us (started p ∷ s)) ≡ Some t) does_so done) in
+    let (a, pile, again) = closed_by slots tell form us p s t (sym (does_so (next w) (pushed us (started p ∷ s))) ∙ done) in
     (a, again, subst (λ z. Trace ss w z v u) pile rest)
 
 pub passes_wraps : {n : ℕ} (m : Mark) (g : Group) (form : Form) (x : Tree) {ss : List Symbol} {w v : List Tok} {s u : Pile} → mark_with n ≡ Some m → rule m ≡ wraps g form → Trace (symbol.Mark n ∷ ss) w (made x ∷ s) v u

@@ -1,7 +1,7 @@
 -- The trees of a text tell only what its tokens tell.
 use Rattle.std.specs.Prelude.{if◌then◌else◌, ◌&&◌}
 use Rattle.std.specs.List.{AllByRecursion}
-use Rattle.std.proofs.Common.{◌≡◌, ℕ, ◌<◌, length, option_map, inl, inr, ⊎_elim, List, [], ◌∷◌, reverse, Bool, true, false, Option, Some, None, refl, sym, subst}
+use Rattle.std.proofs.Common.{ap, ◌≡◌, ℕ, ◌<◌, length, option_map, inl, inr, ⊎_elim, List, [], ◌∷◌, reverse, Bool, true, false, Option, Some, None, refl, sym, subst}
 use Rattle.std.proofs.Math.ListN.{get_or-eq_default}
 use Rattle.std.proofs.lemmas.List.{get_or_default}
 use Rattle.std.proofs.lemmas.Bool.{and_parts, cases_lt}
@@ -21,7 +21,6 @@ use Rattle.sp_grammar.specs.Marks.{mark_with}
 use Rattle.sp_ast.specs.declared.forms.Form.{Form}
 use Rattle.sp_ast.specs.declared.words.IntWord.{IntWord}
 use Rattle.sp_ast.specs.declared.words.AttributeName.{AttributeName}
-use Rattle.sp_ast.specs.declared.words.HookName.{HookName}
 use Rattle.sp_ast.specs.Trees.{Tree, absent, trees, tree, in_row, respan, span_of}
 use Rattle.sp_build.specs.declared.stack.Item.TheVariants.{Begun as begun, Built as built}
 use Rattle.sp_build.specs.declared.groups.Group.TheVariants.{Expressions as expressions}
@@ -39,6 +38,7 @@ use Rattle.sp_read_unit.specs.Modules.{IsModuleTree}
 use Rattle.sp_printed_words.specs.Sound.{is_fixed}
 use Rattle.sp_printed_words.specs.Trees.{TellsOnly, TellOnly}
 use Rattle.sp_printed_words.specs.Told.{IsTold}
+use Rattle.sp_round_trip.proofs.Leaves.{LeafSays}
 
 -- words of one text each, that the profile has
 abbrev all_fixed : List Word → Bool
@@ -47,18 +47,9 @@ all_fixed (fixed kind ∷ ws) = is_fixed kind && all_fixed ws
 all_fixed (w ∷ ws) = false
 
 -- what the alternatives tell that a rule builds
-abbrev LeafTells : Leaf → Type 0
-LeafTells (always form) = all_fixed (own_words form) ≡ true
-LeafTells (by_name form) = (x : List ℕ) → own_words (form x) ≡ name x ∷ []
-LeafTells (by_string form) = (x : List ℕ) → own_words (form x) ≡ text x ∷ []
-LeafTells (by_bytes form) = (x : List ℕ) → own_words (form x) ≡ bytes x ∷ []
-LeafTells (by_regex form) = (x : List ℕ) → own_words (form x) ≡ regex x ∷ []
-LeafTells (by_number form) = (n : ℕ) → own_words (form n) ≡ number n ∷ []
-LeafTells (by_integer form) = (w : IntWord) → all_fixed (own_words (form w)) ≡ true
-LeafTells (by_event form) = (h : HookName) → all_fixed (own_words (form h)) ≡ true
-
 abbrev RuleTells : Rule → Type 0
-RuleTells (takes l) = LeafTells l
+RuleTells (takes (always form)) = all_fixed (own_words form) ≡ true
+RuleTells (takes l) = LeafSays l
 RuleTells (closes slots form) = all_fixed (own_words form) ≡ true
 RuleTells (closes_integer slots form) = (w : IntWord) → all_fixed (own_words (form w)) ≡ true
 RuleTells (closes_attribute slots form) = (a : AttributeName) → all_fixed (own_words (form a)) ≡ true
@@ -194,9 +185,9 @@ module _ (P : Word → Type 0) (of_fixed : (k : TokenKind) → is_fixed k ≡ tr
   by_word None form e = tt
   by_word (Some x) form e = fixed_hold (own_words (form x)) (e x)
 
-  leaf_holds : (l : Leaf) → LeafTells l → (kind : TokenKind) (its : List ℕ) → TokenTells kind its → LeafHolds (form_of l kind its)
+  leaf_holds : (l : Leaf) → RuleTells (takes l) → (kind : TokenKind) (its : List ℕ) → TokenTells kind its → LeafHolds (form_of l kind its)
   leaf_holds (always form) tells kind its told = fixed_hold (own_words form) tells
-  leaf_holds (by_integer form) tells kind its told = by_word (integer_of kind) form tells
+  leaf_holds (by_integer form) tells kind its told = by_word (integer_of kind) form (λ w. ap all_fixed (tells w))
   leaf_holds (by_name form) tells token.Id its told = by_one (own_words (form its)) (name its) (tells its) (told (name its) (inl refl, refl))
   leaf_holds (by_name form) tells (token.Absent absent_word.Skip) its told = by_one (own_words (form its)) (name its) (tells its) (told (name its) (inr refl, refl))
   leaf_holds (by_name form) tells kind its told = tt
@@ -208,7 +199,7 @@ module _ (P : Word → Type 0) (of_fixed : (k : TokenKind) → is_fixed k ≡ tr
   leaf_holds (by_regex form) tells kind its told = tt
   leaf_holds (by_number form) tells token.Number its told = by_one (own_words (form (number_value its))) (number (number_value its)) (tells (number_value its)) (told (number (number_value its)) (refl, refl))
   leaf_holds (by_number form) tells kind its told = tt
-  leaf_holds (by_event form) tells (token.Hook h) its told = fixed_hold (own_words (form (hook_name_of h))) (tells (hook_name_of h))
+  leaf_holds (by_event form) tells (token.Hook h) its told = fixed_hold (own_words (form (hook_name_of h))) (ap all_fixed (tells (hook_name_of h)))
   leaf_holds (by_event form) tells kind its told = tt
 
   leaf_on : (o : Option Form) (span : _) (s : Stack) → LeafHolds o → On s → OnSome (push_if (option_map (λ form. tree form span []) o) s)

@@ -1,6 +1,6 @@
 -- Tokens tell words of their own kind, and the tokens as which words are read tell these words.
 use Rattle.std.specs.List.{AllByRecursion, prefix_len}
-use Rattle.std.specs.Prelude.{codes, flat_map, slice_index}
+use Rattle.std.specs.Prelude.{codes, slice_index}
 use Rattle.std.proofs.Common.{◌≡◌, ℕ, zero, suc, ◌-◌, ◌<◌, List, [], ◌∷◌, ◌++◌, length, take, drop, map, Bool, true, false, cond, Option, Some, None, inl, inr, refl, ap, sym, ◌∙◌, subst, arith}
 use Rattle.sp_lex.specs.Bytes.{is_letter, is_word}
 use Rattle.sp_lex.specs.Elements.{element_at, word_at, literal_at, token_of}
@@ -131,10 +131,6 @@ flat_sound : (lines : List (List Word)) → AllByRecursion (AllByRecursion IsSou
 flat_sound [] sound = tt
 flat_sound (ws ∷ lines) sound = all_append ws (flat lines) sound.0 (flat_sound lines sound.1)
 
-flat_same : (lines : List (List Word)) → flat_map (λ ws. ws) lines ≡ flat lines
-flat_same [] = refl
-flat_same (ws ∷ lines) = ap (λ more. ws ++ more) (flat_same lines)
-
 -- a text is read as one list of tokens
 one_whole : (ts us : List Token) → whole ts ≡ whole us → ts ≡ us
 one_whole [] [] e = refl
@@ -149,4 +145,4 @@ pub lines_told : (lines : List (List Word)) (read tokens : List Token) → AllBy
 lines_told lines read tokens sound are lexed =
     let same = one_whole tokens read (sym lexed.read ∙ are.read) in
     ap (λ ts. map (telling (text_of lines)) ts) same
-    ∙ these_told (text_of lines) (flat lines) read (subst (λ ws. AreThese (text_of lines) ws read) (flat_same lines) are.these) (flat_sound lines sound)
+    ∙ these_told (text_of lines) (flat lines) read are.these (flat_sound lines sound)

@@ -21,10 +21,7 @@ use Rattle.sp_round_trip.proofs.Shown.{Claim, Spells, Trace}
 use Rattle.sp_round_trip.proofs.Levels.{primary_at}
 use Rattle.sp_round_trip.proofs.IntegerBases.{integer_taken, integer_word}
 use Rattle.sp_round_trip.proofs.Leaves.{integer_again}
-use Rattle.sp_round_trip.proofs.Steps.{passes_token, passes_begin, passes_integer, passes_none, passes_number, chosen, CloseBy}
-
-abbrev numeral : ℕ → Tree
-numeral n = tree (form_is.Number n) nowhere []
+use Rattle.sp_round_trip.proofs.Steps.{passes_token, passes_begin, passes_told, passes_none, passes_number, chosen, CloseBy, numeral}
 
 abbrev typed : IntWord → Form
 typed w = form_is.Expr (expr_is.TypedNumber w)
@@ -46,12 +43,12 @@ typed_spells w n closes = record {
       (chosen (part_number Part.Primary) 17 (omega arith) refl (mark build.Begin refl refl (whole (integer_taken w) (whole refl (mark build.Number refl refl (whole refl (whole refl (mark build.TypedNumberExpr refl (closes (telling_of (integer_word w)) s (integer_again w)) nothing))))))));
 }
 
-pub types_number : {w u : List Tok} {s t : Pile} → Trace (right own (part_number Part.Primary) 17) w s u t → Claim (part_number Part.Primary) w s t u
+pub typed_number_shown : (w u : List Tok) (s t : Pile) → Trace (right own (part_number Part.Primary) 17) w s u t → Claim (part_number Part.Primary) w s t u
 unfolding own
-types_number {w} g =
+typed_number_shown w u s t g =
     let (_, _, _, _, g) = passes_token refl (passes_begin g) in
     let (_, _, _, _, g) = passes_token refl g in
     let (n, _, g) = passes_number g in
     let (_, _, _, _, g) = passes_token refl g in
-    let (word, closes, g) = passes_integer build.TypedNumberExpr one_number typed (numeral n ∷ []) (next w) refl refl g in
+    let (word, closes, g) = passes_told build.TypedNumberExpr one_number (λ q. integer_of q.kind) typed (numeral n ∷ []) (next w) refl (λ q z. refl) g in
     (typed_number word n, (passes_none g).1, typed_spells word n closes)
