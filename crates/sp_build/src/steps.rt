@@ -40,7 +40,7 @@ fn parts(
 ) -> Result<Option<Vec<Tree>>, NoMemory>
     ensures { IfOk result (λ o. IsTaken (option_map (λ v. v.items) o) (popped_parts slots.now (reverse stack.old.items)) (reverse stack.new.items)) }
 {
-    let mut found = Vec::new(alloc);
+    let mut found = Vec::with_capacity(alloc, slots.len())?;
     let mut left = slots.len();
     while left > 0 {
         left -= 1;
@@ -252,7 +252,7 @@ fn wraps(alloc: Global, group: Group, form: Form, stack: &mut Vec<Item>) -> Resu
         return Ok(false);
     };
     let span = tree.span();
-    let mut parts = Vec::new(alloc);
+    let mut parts = Vec::with_capacity(alloc, 1)?;
     parts.push(tree)?;
     put(stack, Item::Built(Tree::of(form, span, parts)))?;
     Ok(true)

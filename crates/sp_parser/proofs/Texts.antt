@@ -9,7 +9,7 @@ use Rattle.sp_parser.specs.declared.symbol.Symbol.TheVariants.{Nonterminal}
 use Rattle.sp_parser.specs.declared.symbol.Event.{Event}
 use Rattle.sp_parser.specs.declared.symbol.Step.{Step}
 use Rattle.sp_parser.specs.declared.symbol.Step.TheVariants.{Whole, Half, Refused, Emptied}
-use Rattle.sp_parser.specs.Grammar.{Table, Derivation, done, Advances, Derives, IsViable, AreKinds, SECOND, END}
+use Rattle.sp_parser.specs.Grammar.{Table, Derivation, done, Advances, Derives, IsViable, IsLongestViable, AreKinds, SECOND, END}
 use Rattle.sp_parser.specs.Certificate.{Certificate, IsCertified, Ready, Has, follow_of, IsStart, Takes}
 use Rattle.sp_parser.proofs.Moves.{stay, then, done_inv, one_run}
 use Rattle.sp_parser.proofs.Ends.{completes}
@@ -113,8 +113,16 @@ take_on [] i h = absurd (omega arith)
 take_on (k ∷ ks) zero h = refl
 take_on (k ∷ ks) (suc i) h = ap (λ r. k ∷ r) (take_on ks i (omega arith))
 
-pub going_stopped : (g : Table) (f : Certificate) (n : ℕ) (ks : List ℕ) (i k : ℕ) (ts us : List Symbol) (events later : List Event) (b : Bool) → b ≡ false → i < length ks → k ≡ get_or ks i 0 → Going g f (Nonterminal n ∷ []) (take i ks) i ts events → Takes g f b i ts k us events later → IsViable g n (take (i + 1) ks) → ⊥
+going_stopped : (g : Table) (f : Certificate) (n : ℕ) (ks : List ℕ) (i k : ℕ) (ts us : List Symbol) (events later : List Event) (b : Bool) → b ≡ false → i < length ks → k ≡ get_or ks i 0 → Going g f (Nonterminal n ∷ []) (take i ks) i ts events → Takes g f b i ts k us events later → IsViable g n (take (i + 1) ks) → ⊥
 going_stopped g f n ks i k ts us events later b e h q x t d = going_refused g f n (take i ks) i (get_or ks i 0) ts us events later x (takes_as g f b false i ts k (get_or ks i 0) us events later e q t) (subst (λ w. IsViable g n w) (take_more ks i 0 h) d)
+
+-- the kinds before one that is not taken are the longest viable prefix
+pub longest_stopped : (g : Table) (f : Certificate) → IsCertified g f → (n : ℕ) (ks : List ℕ) (i k : ℕ) (ts us : List Symbol) (events later : List Event) (b : Bool) → b ≡ false → i < length ks → k ≡ get_or ks i 0 → Going g f (Nonterminal n ∷ []) (take i ks) i ts events → Takes g f b i ts k us events later → IsLongestViable g n ks i
+longest_stopped g f s n ks i k ts us events later b e h q x t = record {
+  within = omega (arith, h);
+  begins = going_begins g f s n (take i ks) i ts events x;
+  stops = λ _. going_stopped g f n ks i k ts us events later b e h q x t;
+}
 
 pub going_none : (g : Table) (f : Certificate) (n : ℕ) (ks : List ℕ) (i k : ℕ) (ts us : List Symbol) (events later : List Event) (b : Bool) → b ≡ false → i < length ks → k ≡ get_or ks i 0 → Going g f (Nonterminal n ∷ []) (take i ks) i ts events → Takes g f b i ts k us events later → (τ : List Event) → Derives g n ks τ → ⊥
 going_none g f n ks i k ts us events later b e h q x t τ r = going_no_text g f n (take i ks) i (get_or ks i 0) (drop (suc i) ks) ts us events later x (takes_as g f b false i ts k (get_or ks i 0) us events later e q t) τ (subst (λ w. Derives g n w τ) (take_on ks i h) r)
@@ -122,8 +130,13 @@ going_none g f n ks i k ts us events later b e h q x t τ r = going_no_text g f 
 pub going_whole : (g : Table) (f : Certificate) (ss : List Symbol) (ks : List ℕ) (i j : ℕ) (ts : List Symbol) (events : List Event) → i ≡ j → j ≡ length ks → Going g f ss (take i ks) i ts events → Going g f ss ks j ts events
 going_whole g f ss ks i j ts events e q x = subst (λ w. Going g f ss w j ts events) (ap (λ m. take m ks) q ∙ take_whole ks) (subst (λ m. Going g f ss (take m ks) m ts events) e x)
 
-pub going_at : (g : Table) (f : Certificate) (ss : List Symbol) (ks : List ℕ) (i j : ℕ) (ts : List Symbol) (events : List Event) → i ≡ j → Going g f ss (take i ks) i ts events → Going g f ss (take j ks) j ts events
-going_at g f ss ks i j ts events e x = subst (λ m. Going g f ss (take m ks) m ts events) e x
+-- where all kinds are taken they are the longest viable prefix
+pub longest_whole : (g : Table) (f : Certificate) → IsCertified g f → (n : ℕ) (ks : List ℕ) (j : ℕ) (ts : List Symbol) (events : List Event) → j ≡ length ks → Going g f (Nonterminal n ∷ []) ks j ts events → IsLongestViable g n ks j
+longest_whole g f s n ks j ts events e x = record {
+  within = omega (arith, e);
+  begins = subst (λ w. IsViable g n w) (sym (ap (λ m. take m ks) e ∙ take_whole ks)) (going_begins g f s n ks j ts events x);
+  stops = λ h. absurd (omega (arith, h, e));
+}
 
 not_end : (g : Table) (f : Certificate) (s : Step) (i : ℕ) (ts us : List Symbol) (events later : List Event) → (s ≡ Emptied → ⊥) → Told g f s i ts END us events later → (τ : List Event) → Derivation g i ts [] τ → ⊥
 not_end g f Whole i ts us events later d t τ r = t.2.1 refl τ r

@@ -1,10 +1,12 @@
 // The parser: a stack of symbols that holds what is left of the derivation.
-ghost use Rattle.std.specs.Prelude.{◌≡◌, ℕ, ◌+◌, ◌<◌, ◌≤◌, List, [], ◌∷◌, ◌++◌, length, reverse, take, IfOk, OnOk, IfSome, IfNone, MatchOption, true};
-ghost use Rattle.sp_parser.specs.Grammar.{Table, productions_of, right, predict, takes, taken_of, Tells, Advances, Derivation, Derives, IsViable, SECOND, END};
+ghost use Rattle.std.specs.Prelude.{◌≡◌, ℕ, ◌+◌, ◌<◌, ◌≤◌, List, [], ◌∷◌, ◌++◌, length, reverse, IfOk, OnOk, IfSome, IfNone, MatchOption, true};
+ghost use Rattle.sp_parser.specs.Grammar.{Table, productions_of, right, predict, takes, taken_of, Tells, Advances, Derivation, SECOND, END};
+ghost use Rattle.sp_parser.specs.Outcome.{IsParsedWhole};
 ghost use Rattle.sp_parser.specs.Certificate.{Certificate, Ready, IsStart, Takes};
 ghost use Rattle.sp_parser.specs.Test.{table_test};
 ghost use Rattle.sp_parser.specs.declared.symbol.Event.{Event};
 
+use crate::outcome::Outcome;
 use crate::symbol::{CLOSE, END, Event, GREATER, SECOND, SHIFT, Step, Symbol};
 use crate::tokens::Kinds;
 use sp_base::NoMemory;
@@ -109,45 +111,18 @@ fn take_token<G: Grammar>(
     }
 }
 
-/// The length of the longest viable prefix: how many of the tokens begin some text of the nonterminal, at most. Each
-/// token is looked at once.
-pub fn viable_prefix<G: Grammar, K: Kinds>(
-    alloc: Global,
-    grammar: &G,
-    nonterminal: u8,
-    tokens: &K,
-) -> Result<usize, NoMemory>
-    requires nonterminal { nonterminal < length G.certificate.height }
-    requires end { IsStart G.certificate nonterminal }
-    ensures within { IfOk result (λ n. n ≤ length (K.kinds tokens.now)) }
-    ensures begins { IfOk result (λ n. IsViable G.table nonterminal (take n (K.kinds tokens.now))) }
-    ensures longest { IfOk result (λ n. n < length (K.kinds tokens.now) → IsViable G.table nonterminal (take (n + 1) (K.kinds tokens.now)) → ⊥) }
-{
-    let count = tokens.count();
-    let mut stack = Vec::new(alloc);
-    let mut events = Vec::new(alloc);
-    stack.push(Symbol::Nonterminal(nonterminal))?;
-    for i in 0..count {
-        if !take_token(grammar, &mut stack, &mut events, i, tokens.kind(i))? {
-            return Ok(i);
-        }
-    }
-    Ok(count)
-}
-
-/// The marks of the one derivation of the tokens from the nonterminal, in order, or None where there is none. Each token
-/// is looked at once.
+/// Parses all of the tokens, each of which is looked at once. Where they are a text, the answer is the marks of its one
+/// derivation, in order. Where they are none, it is the length of their longest viable prefix: how many of them begin
+/// some text of the nonterminal, at most.
 pub fn parse<G: Grammar, K: Kinds>(
     alloc: Global,
     grammar: &G,
     nonterminal: u8,
     tokens: &K,
-) -> Result<Option<Vec<Event>>, NoMemory>
+) -> Result<Outcome, NoMemory>
     requires nonterminal { nonterminal < length G.certificate.height }
     requires end { IsStart G.certificate nonterminal }
-    ensures text { IfOk result (λ r. IfSome r (λ v. Derives G.table nonterminal (K.kinds tokens.now) v.items)) }
-    ensures only { IfOk result (λ r. IfSome r (λ v. (τ : List Event) → Derives G.table nonterminal (K.kinds tokens.now) τ → τ ≡ v.items)) }
-    ensures none { IfOk result (λ r. IfNone r ((τ : List Event) → Derives G.table nonterminal (K.kinds tokens.now) τ → ⊥)) }
+    ensures { IfOk result (λ o. IsParsedWhole G.table nonterminal (K.kinds tokens.now) o) }
 {
     let count = tokens.count();
     let mut stack = Vec::new(alloc);
@@ -155,11 +130,11 @@ pub fn parse<G: Grammar, K: Kinds>(
     stack.push(Symbol::Nonterminal(nonterminal))?;
     for i in 0..count {
         if !take_token(grammar, &mut stack, &mut events, i, tokens.kind(i))? {
-            return Ok(None);
+            return Ok(Outcome::Refused(i));
         }
     }
     match step(grammar, &mut stack, &mut events, count, END)? {
-        Step::Emptied => Ok(Some(events)),
-        _ => Ok(None),
+        Step::Emptied => Ok(Outcome::Text(events, count)),
+        _ => Ok(Outcome::Refused(count)),
     }
 }

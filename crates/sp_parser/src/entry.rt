@@ -4,13 +4,14 @@ ghost use Rattle.sp_parser.specs.Grammar.{IsLongestViable, Derives};
 ghost use Rattle.sp_parser.specs.Certificate.{IsStart};
 ghost use Rattle.sp_parser.specs.Outcome.{IsParsed};
 
-use crate::engine::{Grammar, parse, viable_prefix};
+use crate::engine::{Grammar, parse};
 use crate::outcome::Outcome;
 use crate::tokens::Kinds;
 use sp_base::NoMemory;
 use std::alloc::Global;
 
-/// Parses the longest run of tokens from `at` on that begins some text of the nonterminal. The tokens are not copied.
+/// Parses the longest run of tokens from `at` on that begins some text of the nonterminal. Where all tokens from there on
+/// are a text, each is looked at once, and else each of the run at most twice. The tokens are not copied.
 pub fn parse_from<G: Grammar, K: Kinds>(
     alloc: Global,
     grammar: &G,
@@ -24,9 +25,16 @@ pub fn parse_from<G: Grammar, K: Kinds>(
     ensures { IfOk result (λ o. IsParsed G.table nonterminal (drop at (K.kinds tokens.now)) at o) }
 {
     let rest = tokens.part(at, tokens.count());
-    let n = viable_prefix(alloc, grammar, nonterminal, &rest)?;
-    match parse(alloc, grammar, nonterminal, &rest.part(0, n))? {
-        Some(events) => Ok(Outcome::Text(events, at + n)),
-        None => Ok(Outcome::Refused(at + n)),
+    match parse(alloc, grammar, nonterminal, &rest)? {
+        Outcome::Text(events, n) => Ok(Outcome::Text(events, at + n)),
+        Outcome::Refused(n) => {
+            if n == rest.count() {
+                return Ok(Outcome::Refused(at + n));
+            }
+            match parse(alloc, grammar, nonterminal, &rest.part(0, n))? {
+                Outcome::Text(events, _) => Ok(Outcome::Text(events, at + n)),
+                Outcome::Refused(_) => Ok(Outcome::Refused(at + n)),
+            }
+        }
     }
 }

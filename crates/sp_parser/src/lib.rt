@@ -8,7 +8,7 @@ mod symbol;
 mod table;
 mod tokens;
 
-pub use engine::{Grammar, parse, viable_prefix};
+pub use engine::{Grammar, parse};
 pub use entry::parse_from;
 pub use outcome::Outcome;
 pub use symbol::{CLOSE, END, Event, GREATER, SECOND, SHIFT, Symbol};

@@ -1,7 +1,7 @@
-// The answer of a parse that begins at a place.
+// The answer of a parse.
 use crate::symbol::Event;
 
-/// What the longest viable prefix of the tokens from a place on is.
+/// What tokens are: all of them for `parse`, and the longest viable prefix of those from a place on for `parse_from`.
 #[derive(Drop)]
 pub enum Outcome {
     /// A text: the marks that its one derivation passes, and the place after it.

@@ -19,17 +19,18 @@ use Rattle.sp_ast.specs.declared.words.IntWord.TheVariants as integer
 use Rattle.sp_ast.specs.declared.words.HookName.TheVariants as hook_name
 use Rattle.sp_build.specs.declared.groups.Slot.{Slot}
 use Rattle.sp_build.specs.Rules.{Leaf, always, by_name, by_string, by_bytes, by_regex, by_number, by_integer, by_event, Rule, begins, leaves_out, takes as takes_leaf, gathers, closes, joins, wraps, rule}
+use Rattle.sp_build.proofs.Shapes.{and_then}
 use Rattle.sp_print.specs.declared.layouts.Piece.{Piece}
 use Rattle.sp_print.specs.declared.layouts.Piece.TheVariants as piece
 use Rattle.sp_print.specs.Layouts.{layout}
 use Rattle.sp_round_trip.proofs.Closing.{are_parts}
 use Rattle.sp_round_trip.proofs.Singles.{kind_for}
-use Rattle.sp_round_trip.proofs.Shown.{Yield, one, optional, left_out, in_row, arguments, hooks, Manner, plain, expression, manner_of, avoided, is_kept, level_part}
+use Rattle.sp_round_trip.proofs.Shown.{Yield, one, optional, left_out, in_row, arguments, hooks, Manner, plain, expression, manner_of, avoided, is_kept, level_part, is_avoided}
 use Rattle.sp_round_trip.proofs.Chunks.{Chunk, word, tree, built, is_new, node_chunk, is_token, laid_as, ends_as, row_chunks}
 
 -- The sets of the table, as they are for the parts of the grammar in its own words: there `Postfix` is an operand, and no
 -- tail of one.
-abbrev pub table_part : ℕ → ℕ
+abbrev table_part : ℕ → ℕ
 table_part n = if n == part_number Part.Postfix then part_number Part.Primary else n
 
 abbrev pub begins_with : ℕ → ℕ → Bool
@@ -71,10 +72,6 @@ abbrev pub are_marks : List Symbol → Bool
 are_marks [] = true
 are_marks (symbol.Mark m ∷ ss) = are_marks ss
 are_marks _ = false
-
-abbrev pub is_avoided : Option Terminal → Terminal → Bool
-is_avoided None e = false
-is_avoided (Some f) e = terminal_number f == terminal_number e
 
 -- the tokens that parts avoid
 abbrev pub is_watched : Terminal → Bool
@@ -204,10 +201,6 @@ then_go stuck stay eat = None
 then_go (stays σ) stay eat = stay σ
 then_go (eats σ) stay eat = eat σ
 
-abbrev pub with_yield : Option Yield → (Yield → Option State) → Option State
-with_yield None go = None
-with_yield (Some y) go = go y
-
 -- what is read, from what was read before
 abbrev pub advance : Guard → List Symbol → State → Option State
 advance guard [] σ = Some σ
@@ -216,7 +209,7 @@ advance guard (symbol.Mark m ∷ symbol.Terminal e ∷ ss) σ =
     then_go (move_at (mark_with m) (Some e) σ) (λ next. advance guard (symbol.Terminal e ∷ ss) next) (λ next. advance guard ss next)
 advance guard (symbol.Mark m ∷ ss) σ = then_go (move_at (mark_with m) None σ) (λ next. advance guard ss next) (λ next. None)
 advance guard (symbol.Nonterminal n ∷ ss) σ =
-    with_yield (yield_of (manner_of n)) (λ y. if next_fits (avoided n) guard n ss then advance guard ss (add (tree y) σ) else None)
+    and_then (yield_of (manner_of n)) (λ y. if next_fits (avoided n) guard n ss then advance guard ss (add (tree y) σ) else None)
 
 -- whether one tree's chunks are left, and they are written as the yield is
 abbrev pub is_yield : Yield → Option State → Bool

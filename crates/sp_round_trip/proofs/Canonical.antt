@@ -1,4 +1,14 @@
--- The canonical text of a module that was read reads as the same module, apart from places.
+-- The canonical text of a module that was read reads as the same module, apart from places. How this is proved:
+--
+-- Apart from places, what marks build of a text is of what its tokens tell (Held, Machine). So a reading is one of words
+-- (Goes), and the readings of a text are those of the words that its tokens tell (TextReadings, ToldWords).
+-- Of each part of the grammar a claim is made: what it built is read again from its own words (Shown). In a trace each part
+-- has its claim in place of its reading. That from a trace of its symbols each production has its claim (Productions), is shown
+-- - by a test, which finds by its symbols how its trees are written (Chunks, Advance): as the layout of the alternative says
+--   (Laid), and from these words the marks do the same (Closing, Piles, Moves, Sound, Tested); or
+-- - one by one, where the canonical text has other tokens, or parentheses (SpecialAlternatives, and what it cites).
+-- The words of a module don't look at places (Placeless). Each is as some token told it (Tells), and stands where it may, for
+-- what is read is formed (FormedTrees, FormedModules, PlacedWords). So the tokens of the canonical text tell these words.
 use Rattle.std.proofs.Common.{◌≡◌, ◌≤◌, List, [], length, map, true, ap, ◌∙◌, subst}
 use Rattle.sp_base.specs.declared.kinds.MKind.{MKind}
 use Rattle.sp_base.specs.declared.kinds.MKind.TheVariants as module_kind
@@ -21,15 +31,15 @@ use Rattle.sp_printed_words.proofs.Told.{told_no_zero, told_sound}
 use Rattle.sp_printed_words.proofs.Trees.{module_holds}
 use Rattle.sp_round_trip.specs.Bare.{bare}
 use Rattle.sp_round_trip.specs.Told.{told}
-use Rattle.sp_round_trip.proofs.Converted.{ReadsModule, goes_of_tree, tree_of_goes}
+use Rattle.sp_round_trip.proofs.TextReadings.{ReadsModule, goes_of_tree, tree_of_goes}
 use Rattle.sp_round_trip.proofs.Goes.{telling_of, before}
 use Rattle.sp_round_trip.proofs.Machine.{of_bare}
 use Rattle.sp_round_trip.proofs.Shown.{flat}
-use Rattle.sp_round_trip.proofs.Nowhere.{lines_same}
+use Rattle.sp_round_trip.proofs.Placeless.{lines_same}
 use Rattle.sp_round_trip.proofs.Tells.{module_tells}
-use Rattle.sp_round_trip.proofs.Placed.{words_placed}
-use Rattle.sp_round_trip.proofs.Produces.{again}
-use Rattle.sp_round_trip.proofs.Worded.{told_words, lines_told}
+use Rattle.sp_round_trip.proofs.PlacedWords.{words_placed}
+use Rattle.sp_round_trip.proofs.Productions.{again}
+use Rattle.sp_round_trip.proofs.ToldWords.{told_words, lines_told}
 
 -- each word of a module that was read can be read again, where it stands
 lines_sound : (lexed : Lexed) (m : Tree) → IsLexed lexed.text lexed.list → IsModuleTree lexed m → AreSound (module_lines m)

@@ -41,7 +41,7 @@ is_new (form_is.Expr expr_is.New) = true
 is_new _ = false
 
 -- an expression that isn't a `new`, and binds so tightly
-abbrev pub IsBuilt : ℕ → List Tree → Type 0
+abbrev IsBuilt : ℕ → List Tree → Type 0
 IsBuilt level us = (form : Form) × (ts : List Tree) × (us ≡ node form nowhere (trees ts) ∷ []) × (is_expression form ≡ true) × (is_new form ≡ false) × (form_level form none ≡ level)
 
 -- the trees that a chunk is
@@ -182,10 +182,3 @@ abbrev pub row_chunks : List Chunk → Option (List Chunk)
 row_chunks (tree (listed by) ∷ rest) = if is_treeless rest then Some (tree (in_row by) ∷ rest) else None
 row_chunks (tree (one (suc zero)) ∷ tree (followed by) ∷ rest) = if is_treeless rest then Some (tree (in_row by) ∷ rest) else None
 row_chunks _ = None
-
--- WANTED in Laid.antt (this comment goes when it is there):
--- laid_again : (form : Form) (cs : List Chunk) (ts : List Tree) → laid_as form (layout form) cs ≡ true → (sp : Split cs ts) → (last : Option TokenKind) → wrote sp last ≡ spelled (node form nowhere (trees ts)) last
--- ends_again : (y : Yield) (cs : List Chunk) (ts : List Tree) → ends_as y cs ≡ true → (sp : Split cs ts) → Fits y ts × ((last : Option TokenKind) → wrote sp last ≡ yielded y ts last)
--- row_again : (cs ds : List Chunk) (ts : List Tree) → row_chunks cs ≡ Some ds → (sp : Split cs ts) → (again : Split ds (in_row ts ∷ [])) × ((last : Option TokenKind) → wrote again last ≡ wrote sp last)
--- node_again : (form : Form) (ts : List Tree) → is_new form ≡ false → Owns (node_chunk form) (node form nowhere (trees ts) ∷ []) × ((last : Option TokenKind) → chunk_words (node_chunk form) (node form nowhere (trees ts) ∷ []) last ≡ spelled (node form nowhere (trees ts)) last)
--- If a test is too weak for this (is_end where `left_out` or an empty list may stand, say), mend the test here, minimally, and say so.

@@ -1,10 +1,10 @@
 -- What the marks build of the trees on top of a pile, where these are all since one began, or as many as the mark wants.
 -- What is built, and whether it is, does not depend on what lies below.
 use Rattle.std.specs.Prelude.{option_map, if◌then◌else◌}
-use Rattle.std.proofs.Common.{◌≡◌, zero, suc, pred, List, [], ◌∷◌, ◌++◌, reverse, length, Bool, true, false, Option, Some, None, refl, sym, ap, subst, inl, inr, ◌∙◌}
-use mathlib.Core.List.{reverse_aux}
+use Rattle.std.proofs.Common.{◌≡◌, zero, suc, pred, List, [], ◌∷◌, reverse, length, Bool, true, false, Option, Some, None, refl, sym, ap, subst, inl, inr, ◌∙◌}
 use Rattle.std.proofs.lemmas.Bool.{cases_Bool}
 use Rattle.std.proofs.lemmas.List.{reverse-reverse, length-reverse}
+use mathlib.Core.List.{reverse_aux}
 use Rattle.sp_ast.specs.declared.forms.Form.{Form}
 use Rattle.sp_ast.specs.Trees.{Tree, tree, in_row}
 use Rattle.sp_build.specs.declared.groups.Group.{Group}
@@ -13,14 +13,12 @@ use Rattle.sp_build.specs.declared.groups.Slot.{Slot}
 use Rattle.sp_build.specs.declared.groups.Slot.TheVariants.{Part as part, Several as several}
 use Rattle.sp_build.specs.Groups.{fits, is_of, is_node}
 use Rattle.sp_build.specs.Rules.{gathers, joins, wraps}
+use Rattle.sp_build.proofs.Standing.{not_some}
+use Rattle.sp_build.proofs.Told.{never}
 use Rattle.sp_round_trip.specs.Bare.{nowhere}
 use Rattle.sp_round_trip.specs.Told.{Telling}
 use Rattle.sp_round_trip.proofs.Held.{Pile, started, made, After, after, after_do, front, start, filled, put, closed, does}
 use Rattle.sp_round_trip.proofs.Goes.{pushed}
-
-pub pushed_append : (ts us : List Tree) (s : Pile) → pushed (ts ++ us) s ≡ pushed us (pushed ts s)
-pushed_append [] us s = refl
-pushed_append (t ∷ ts) us s = pushed_append ts us (made t ∷ s)
 
 -- trees on top of a pile, the last one first
 abbrev heaped : List Tree → Pile → Pile
@@ -34,25 +32,22 @@ pushed_heaped (t ∷ ts) rs s = pushed_heaped ts (t ∷ rs) s
 heaped_back : (ts : List Tree) (s : Pile) → pushed ts s ≡ heaped (reverse ts) s
 heaped_back ts s = pushed_heaped ts [] s
 
-none_is_some : {A B : Type 0} {x : A} → ◌≡◌ {A = Option A} None (Some x) → B
-none_is_some h = absurd (let q : None ≡ Some _ = h in cc)
-
 made_is_begun : {B : Type 0} {t : Tree} {r s : Pile} {p : Telling} → made t ∷ r ≡ started p ∷ s → B
 made_is_begun h = absurd (let q : made _ ∷ _ ≡ started _ ∷ _ = h in cc)
 
 -- what went before an answer
 parted : {A B : Type 0} (x : Option (After A)) (go : A → Pile → Option B) (t : B) → after_do x go ≡ Some t → (a : A) × (rest : Pile) × (x ≡ Some (after a rest)) × (go a rest ≡ Some t)
-parted None go t h = none_is_some h
+parted None go t h = not_some h
 parted (Some x) go t h = (x.value, x.rest, refl, h)
 
 -- a tree that passes a test, and then what is made of it
 tested : {A B : Type 0} (ok : Bool) (x : A) (s : Pile) (go : A → Pile → Option B) (t : B) → after_do (if ok then Some (after x s) else None) go ≡ Some t → (ok ≡ true) × (go x s ≡ Some t)
 tested true x s go t h = (refl, h)
-tested false x s go t h = none_is_some h
+tested false x s go t h = not_some h
 
 passed : {A B : Type 0} (ok : Bool) (x : A) (s : Pile) (go : A → Pile → Option B) (t : B) → ok ≡ true → go x s ≡ Some t → after_do (if ok then Some (after x s) else None) go ≡ Some t
 passed true x s go t e h = h
-passed false x s go t e h = absurd (let q : false ≡ true = e in cc)
+passed false x s go t e h = never e
 
 same_after : {A : Type 0} {a b : A} {r s : Pile} → Some (after a r) ≡ Some (after b s) → (a ≡ b) × (r ≡ s)
 same_after {a = a} {b = b} {r = r} {s = s} h = let e : after a r ≡ after b s = cc in (ap (λ x. x.value) e, ap (λ x. x.rest) e)
@@ -76,7 +71,7 @@ filled_since : (slots : List Slot) (rs us : List Tree) (p q : Telling) (s b : Pi
     → (vs ≡ reverse_aux rs us) × (q ≡ p) × (b ≡ s) × ((x : Telling) (c : Pile) → filled slots us (heaped rs (started x ∷ c)) ≡ Some (after (reverse_aux rs us) (started x ∷ c)))
 filled_since [] [] us p q s b vs h = let (same, below) = same_after h in (sym same, cc, cc, λ x c. refl)
 filled_since [] (r ∷ rs) us p q s b vs h = made_is_begun (same_after h).1
-filled_since (part sort ∷ slots) [] us p q s b vs h = none_is_some h
+filled_since (part sort ∷ slots) [] us p q s b vs h = not_some h
 filled_since (part sort ∷ slots) (r ∷ rs) us p q s b vs h =
     let (ok, rest) = tested (fits sort r) r (heaped rs (started p ∷ s)) (λ t below. filled slots (t ∷ us) below) _ h in
     let (same, begin, under, goes) = filled_since slots rs (r ∷ us) p q s b vs rest in
@@ -89,7 +84,7 @@ filled_since (several g ∷ slots) rs us p q s b vs h =
 
 -- a tree of an alternative that may be told
 told_tree : (told : Option Form) (ts : List Tree) (s t : Pile) → after_do (option_map (λ form. after form s) told) (λ form below. put (tree form nowhere ts) below) ≡ Some t → (form : Form) × (told ≡ Some form) × (t ≡ made (tree form nowhere ts) ∷ s)
-told_tree None ts s t h = none_is_some h
+told_tree None ts s t h = not_some h
 told_tree (Some form) ts s t h = (form, refl, let e : Some (made (tree form nowhere ts) ∷ s) ≡ Some t = h in cc)
 
 -- a tree of these parts, with what the token tells at which it began
@@ -111,8 +106,8 @@ closes_again slots f ts form goes x c e =
 
 closed_of : (slots : List Slot) (f : Telling → Option Form) (ts us : List Tree) (p : Telling) (s t rest : Pile)
     → filled (reverse slots) [] (heaped (reverse ts) (started p ∷ s)) ≡ Some (after us rest) → closed_on f us rest ≡ Some t → ClosesAs slots f ts p s t
-closed_of slots f ts us p s t [] parts h = none_is_some h
-closed_of slots f ts us p s t (made x ∷ rest) parts h = none_is_some h
+closed_of slots f ts us p s t [] parts h = not_some h
+closed_of slots f ts us p s t (made x ∷ rest) parts h = not_some h
 closed_of slots f ts us p s t (started q ∷ b) parts h =
     let (form, told, is) = told_tree (f q) us b t h in
     let (same, begun, left, goes) = filled_since (reverse slots) (reverse ts) [] p q s b us parts in
@@ -138,7 +133,7 @@ GathersAs ts s u = (u ≡ made (in_row ts) ∷ s) × ((x q : Telling) (c : Pile)
 gathered_of : (ts left found : List Tree) (p : Telling) (s u : Pile) → reverse_aux (reverse ts) [] ≡ reverse_aux left found
     → ((x : Telling) (c : Pile) → front is_node (heaped (reverse ts) (started x ∷ c)) [] ≡ after found (heaped left (started x ∷ c)))
     → row_on found (heaped left (started p ∷ s)) ≡ Some u → GathersAs ts s u
-gathered_of ts (l ∷ left) found p s u all splits h = none_is_some h
+gathered_of ts (l ∷ left) found p s u all splits h = not_some h
 gathered_of ts [] found p s u all splits h =
     let same : found ≡ ts = sym all ∙ reverse-reverse ts in let e : Some (made (in_row found) ∷ s) ≡ Some u = h in
     (cc, λ x q c. ap (λ z. row_on z.value z.rest) (ap (λ z. front is_node z []) (heaped_back ts (started q ∷ c)) ∙ splits q c) ∙ ap (λ xs. Some (made (in_row xs) ∷ c)) same)
@@ -159,7 +154,7 @@ are_parts (several g ∷ slots) = false
 parts_turned : (slots others : List Slot) → are_parts slots ≡ true → are_parts others ≡ true → are_parts (reverse_aux slots others) ≡ true
 parts_turned [] others h k = k
 parts_turned (part sort ∷ slots) others h k = parts_turned slots (part sort ∷ others) h k
-parts_turned (several g ∷ slots) others h k = absurd (let q : false ≡ true = h in cc)
+parts_turned (several g ∷ slots) others h k = never h
 
 filled_by : (slots : List Slot) (rs us vs : List Tree) (s b : Pile) → are_parts slots ≡ true → length rs ≡ length slots
     → filled slots us (heaped rs s) ≡ Some (after vs b)
@@ -171,7 +166,7 @@ filled_by (part sort ∷ slots) (r ∷ rs) us vs s b ok n h =
     let (fit, rest) = tested (fits sort r) r (heaped rs s) (λ t below. filled slots (t ∷ us) below) _ h in
     let (same, under, goes) = filled_by slots rs (r ∷ us) vs s b ok (ap pred n) rest in
     (same, under, λ c. passed (fits sort r) r (heaped rs c) (λ t below. filled slots (t ∷ us) below) _ fit (goes c))
-filled_by (several g ∷ slots) rs us vs s b ok n h = absurd (let q : false ≡ true = ok in cc)
+filled_by (several g ∷ slots) rs us vs s b ok n h = never ok
 
 -- A tree that is joined of as many parts as it has is of these, and what lies below is as it was.
 pub joined_all : (slots : List Slot) (form : Form) (ts : List Tree) (s u : Pile) (w : Telling) → are_parts slots ≡ true → length ts ≡ length slots

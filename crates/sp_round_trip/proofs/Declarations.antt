@@ -1,12 +1,14 @@
 -- Declarations, each a line, and the module of them.
 use Rattle.std.specs.Prelude.{nat_lt, ◌&&◌, ◌||◌, if◌then◌else◌}
-use Rattle.std.proofs.Common.{◌≡◌, ℕ, List, [], ◌∷◌, ◌++◌, Bool, true, false, None, refl, sym, ◌∙◌, arith, ap, subst, inl}
-use Rattle.sp_parser.specs.declared.symbol.Symbol.TheVariants as symbol
-use Rattle.sp_parser.specs.Grammar.{right, takes, All}
+use Rattle.std.proofs.Common.{◌≡◌, ℕ, List, [], ◌∷◌, Bool, true, false, None, refl, sym, ◌∙◌, arith, ap, subst, inl}
 use Rattle.sp_lex.specs.declared.kinds.TokenKind.TheVariants as token
 use Rattle.sp_lex.specs.declared.kinds.Keyword.TheVariants as keyword
 use Rattle.sp_lex.specs.declared.kinds.Mark.TheVariants as sign
+use Rattle.sp_parser.specs.Grammar.{right, takes, All}
 use Rattle.sp_grammar.specs.declared.marks.Mark.TheVariants as build
+use Rattle.sp_grammar.specs.Written.{part as part_symbol, mark as mark_symbol, Part, part_number}
+use Rattle.sp_grammar.specs.Terminals.{terminal_number}
+use Rattle.sp_grammar.specs.declared.terminals.Terminal.TheVariants as terminal
 use Rattle.sp_grammar.specs.Own.{own}
 use Rattle.sp_ast.specs.declared.operators.BinaryOp.{BinaryOp}
 use Rattle.sp_ast.specs.declared.operators.BinaryOp.TheVariants as binary
@@ -24,33 +26,14 @@ use Rattle.sp_print.specs.Words.{fixed, name}
 use Rattle.sp_printed_words.specs.Modules.{lines_of, module_lines}
 use Rattle.sp_round_trip.specs.Bare.{nowhere}
 use Rattle.sp_round_trip.proofs.Held.{Pile, started, made}
-use Rattle.sp_round_trip.proofs.Goes.{Tok, entire, number, next, coming, before, pushed, Goes, nothing, whole, mark, part}
+use Rattle.sp_round_trip.proofs.Goes.{Tok, entire, number, next, coming, before, pushed, Goes, nothing, whole, mark, before_both}
 use Rattle.sp_round_trip.proofs.Shown.{Claim, Trace, one, flat, Shows}
-use Rattle.sp_round_trip.proofs.Steps.{Gather, Close, passes_token, passes_begin, passes_name, passes_part, passes_one, passes_row, passes_closes, passes_none, beside, anywhere}
+use Rattle.sp_round_trip.proofs.Steps.{Gather, Close, passes_token, passes_begin, passes_name, passes_part, passes_one, passes_row, passes_closes, passes_none, beside, chosen}
 use Rattle.sp_round_trip.proofs.HookPaths.{named}
-use Rattle.sp_round_trip.proofs.Words.{before_both}
 
 low_operator : (op : BinaryOp) → nat_lt (level op) 1 ≡ false
 low_operator binary.Or = refl
-low_operator binary.And = refl
-low_operator binary.In = refl
-low_operator binary.NotIn = refl
-low_operator binary.Equal = refl
-low_operator binary.NotEqual = refl
-low_operator binary.Less = refl
-low_operator binary.LessEqual = refl
-low_operator binary.Greater = refl
-low_operator binary.GreaterEqual = refl
-low_operator binary.BitOr = refl
-low_operator binary.BitXor = refl
-low_operator binary.BitAnd = refl
-low_operator binary.ShiftLeft = refl
-low_operator binary.ShiftRight = refl
-low_operator binary.Add = refl
-low_operator binary.Subtract = refl
-low_operator binary.Multiply = refl
-low_operator binary.Divide = refl
-low_operator binary.Remainder = refl
+low_operator op = refl
 
 low_new : (b : Bool) → nat_lt (if b then 14 else 15) 1 ≡ false
 low_new true = refl
@@ -75,26 +58,26 @@ nor_false false = refl
 line_words : (t : Tree) → at_place 1 false t (spelled t) None ≡ spelled t None
 line_words t = ap (λ b. if b then enclosed (spelled t) None else spelled t None) (ap (λ b. b || false || (is_regex t && false)) (low t) ∙ nor_false (is_regex t))
 
-declarations_again : (x : Tree) (ts : List Tree) (k : ℕ) → Shows 2 (one 1) (x ∷ []) k → ((v : List Tok) (b : Pile) → Goes (symbol.Nonterminal 1 ∷ []) (before (flat (lines_of (trees ts))) v) b v (pushed ts b))
-    → (v : List Tok) (b : Pile) → Goes (symbol.Nonterminal 1 ∷ []) (before (flat (lines_of (trees (x ∷ ts)))) v) b v (pushed (x ∷ ts) b)
+declarations_again : (x : Tree) (ts : List Tree) (k : ℕ) → Shows (part_number Part.Decl) (one 1) (x ∷ []) k → ((v : List Tok) (b : Pile) → Goes (part_symbol Part.Decls ∷ []) (before (flat (lines_of (trees ts))) v) b v (pushed ts b))
+    → (v : List Tok) (b : Pile) → Goes (part_symbol Part.Decls ∷ []) (before (flat (lines_of (trees (x ∷ ts)))) v) b v (pushed (x ∷ ts) b)
 unfolding own
 declarations_again x ts k decl more v b =
     let line = spelled x None in
     let rest = before (flat (lines_of (trees ts))) v in
     let words = before_both line (flat (lines_of (trees ts))) v ∙ ap (λ ws. before ws rest) (sym (line_words x)) in
     let reads = beside (decl None rest b (inl tt)) (beside (more v (made x ∷ b)) nothing) in
-    part 0 (anywhere 1 0 (before (line ++ flat (lines_of (trees ts))) v) (omega arith) refl) (subst (λ z. Goes (symbol.Nonterminal 2 ∷ symbol.Nonterminal 1 ∷ []) z b v (pushed (x ∷ ts) b)) (sym words) reads) nothing
+    chosen (part_number Part.Decls) 0 (omega arith) refl (subst (λ z. Goes (right own (part_number Part.Decls) 0) z b v (pushed (x ∷ ts) b)) (sym words) reads)
 
-pub declarations_shown : (w u : List Tok) (s t : Pile) → Trace (right own 1 0) w s u t → Claim 1 w s t u
+pub declarations_shown : (w u : List Tok) (s t : Pile) → Trace (right own (part_number Part.Decls) 0) w s u t → Claim (part_number Part.Decls) w s t u
 unfolding own
 declarations_shown w u s t trace =
-    let (a, x, whole_tree, shows, more) = passes_one 2 1 refl trace in
-    let (b, t', (ts, pile, reads), ends) = passes_part 1 more in
-    (x ∷ ts, sym (passes_none ends).1 ∙ pile, declarations_again x ts (coming a) shows reads)
+    let (a, x, whole_tree, shows, more) = passes_one (part_number Part.Decl) 1 refl trace in
+    let (b, t', (ts, pile, reads), ends) = passes_part more in
+    (x ∷ ts, (passes_none ends).1 ∙ pile, declarations_again x ts (coming a) shows reads)
 
-pub no_declarations_shown : (w u : List Tok) (s t : Pile) → Trace (right own 1 1) w s u t → Claim 1 w s t u
+pub no_declarations_shown : (w u : List Tok) (s t : Pile) → Trace (right own (part_number Part.Decls) 1) w s u t → Claim (part_number Part.Decls) w s t u
 unfolding own
-no_declarations_shown w u s t trace = ([], sym (passes_none trace).1, λ v b. part 1 (anywhere 1 1 v (omega arith) refl) nothing nothing)
+no_declarations_shown w u s t trace = ([], (passes_none trace).1, λ v b. chosen (part_number Part.Decls) 1 (omega arith) refl nothing)
 
 abbrev module_slots : List Slot
 module_slots = slot (one_of names) ∷ slot (rows_of declarations) ∷ []
@@ -102,27 +85,27 @@ module_slots = slot (one_of names) ∷ slot (rows_of declarations) ∷ []
 abbrev module_of : List ℕ → List Tree → Tree
 module_of x ts = tree form_is.Module nowhere (named x ∷ row (trees ts) ∷ [])
 
-module_again : (x : List ℕ) (ts : List Tree) → takes 1 (number (entire (name x))) ≡ All → Gather ts → Close module_slots form_is.Module (named x ∷ row (trees ts) ∷ [])
-    → ((v : List Tok) (b : Pile) → Goes (symbol.Nonterminal 1 ∷ []) (before (flat (lines_of (trees ts))) v) b v (pushed ts b))
-    → Goes (symbol.Nonterminal 0 ∷ []) (before (flat (module_lines (module_of x ts))) []) [] [] (made (module_of x ts) ∷ [])
+module_again : (x : List ℕ) (ts : List Tree) → takes (terminal_number terminal.Id) (number (entire (name x))) ≡ All → Gather ts → Close module_slots form_is.Module (named x ∷ row (trees ts) ∷ [])
+    → ((v : List Tok) (b : Pile) → Goes (part_symbol Part.Decls ∷ []) (before (flat (lines_of (trees ts))) v) b v (pushed ts b))
+    → Goes (part_symbol Part.Module ∷ []) (before (flat (module_lines (module_of x ts))) []) [] [] (made (module_of x ts) ∷ [])
 unfolding own
 module_again x ts is_name gather closes reads =
     let rest = before (flat (lines_of (trees ts))) [] in
     let words = entire (fixed (token.Keyword keyword.Module)) ∷ entire (name x) ∷ entire (fixed (token.Mark sign.Semicolon)) ∷ rest in
     let outer : Pile = started (next words) ∷ [] in
     let inner : Pile = started (next rest) ∷ made (named x) ∷ outer in
-    part 0 (anywhere 0 0 words (omega arith) refl) (mark build.Begin refl refl (whole refl (mark build.Name refl refl (whole is_name (whole refl (mark build.Begin refl refl (beside (reads [] inner) (mark build.Row refl (gather (next []) (next rest) (made (named x) ∷ outer)) (mark build.ModuleDecl refl (closes (next []) (next words) []) nothing))))))))) nothing
+    chosen (part_number Part.Module) 0 (omega arith) refl (mark build.Begin refl refl (whole refl (mark build.Name refl refl (whole is_name (whole refl (mark build.Begin refl refl (beside (reads [] inner) (mark build.Row refl (gather (next []) (next rest) (made (named x) ∷ outer)) (mark build.ModuleDecl refl (closes (next []) (next words) []) nothing)))))))))
 
 -- a module is read from the words of its lines
-pub module_shown : (w u : List Tok) (m : Tree) → Trace (right own 0 0) w [] u (made m ∷ []) → Goes (symbol.Nonterminal 0 ∷ []) (before (flat (module_lines m)) []) [] [] (made m ∷ [])
+pub module_shown : (w u : List Tok) (m : Tree) → Trace (right own (part_number Part.Module) 0) w [] u (made m ∷ []) → Goes (part_symbol Part.Module ∷ []) (before (flat (module_lines m)) []) [] [] (made m ∷ [])
 unfolding own
 module_shown w u m trace =
-    let (c, a, is, taken, name_mark) = passes_token 0 refl (passes_begin trace) in
+    let (c, a, is, taken, name_mark) = passes_token refl (passes_begin trace) in
     let (x, is_name, d, semicolon) = passes_name name_mark in
-    let (y, f, also, ended_so, begin) = passes_token 2 refl semicolon in
-    let (g, t', (ts, pile, reads), row_mark) = passes_part 1 (passes_begin begin) in
-    let (gather, module_mark) = passes_row ts (next f) (subst (λ z. Trace (symbol.Mark 2 ∷ symbol.Mark 3 ∷ []) g z u (made m ∷ [])) pile row_mark) in
-    let (closes, ends) = passes_closes 3 build.ModuleDecl module_slots form_is.Module (named x ∷ row (trees ts) ∷ []) (next w) refl refl module_mark in
+    let (y, f, also, ended_so, begin) = passes_token refl semicolon in
+    let (g, t', (ts, pile, reads), row_mark) = passes_part (passes_begin begin) in
+    let (gather, module_mark) = passes_row ts (next f) (subst (λ z. Trace (mark_symbol build.Row ∷ mark_symbol build.ModuleDecl ∷ []) g z u (made m ∷ [])) pile row_mark) in
+    let (closes, ends) = passes_closes build.ModuleDecl module_slots form_is.Module (named x ∷ row (trees ts) ∷ []) (next w) refl refl module_mark in
     let left = (passes_none ends).1 in
     let same : module_of x ts ≡ m = cc in
-    subst (λ z. Goes (symbol.Nonterminal 0 ∷ []) (before (flat (module_lines z)) []) [] [] (made z ∷ [])) same (module_again x ts is_name gather closes reads)
+    subst (λ z. Goes (part_symbol Part.Module ∷ []) (before (flat (module_lines z)) []) [] [] (made z ∷ [])) same (module_again x ts is_name gather closes reads)

@@ -8,6 +8,7 @@ use Rattle.sp_grammar.specs.declared.terminals.Terminal.TheVariants as token
 use Rattle.sp_grammar.specs.Terminals.{terminal_number}
 use Rattle.sp_grammar.specs.Own.{own}
 use Rattle.sp_grammar.proofs.Spans.{every_production, one_production}
+use Rattle.sp_build.proofs.Told.{never}
 use Rattle.sp_round_trip.proofs.Held.{Pile}
 use Rattle.sp_round_trip.proofs.Goes.{Tok, entire, number, coming, Goes, nothing, whole, first_half, mark, part}
 use Rattle.sp_round_trip.proofs.Advance.{may_be_empty, is_taken, comes_first, begins_with, is_nullable}
@@ -28,7 +29,7 @@ unfolding own
 else_tested = refl
 
 -- it doesn't come, or comes behind them
-abbrev pub IsBehind : ℕ → List Symbol → List Tok → List Tok → Type 0
+abbrev IsBehind : ℕ → List Symbol → List Tok → List Tok → Type 0
 IsBehind e ss w v = ((coming w == e) ≡ false) ⊎ ((w ≡ v) × (may_be_empty ss ≡ true))
 
 other_kind : (e f k : ℕ) (take : Take) → takes f k ≡ take → is_taken take ≡ true → is_taken (takes f e) ≡ false → (k == e) ≡ false
@@ -37,9 +38,9 @@ other_kind e f k take passed some none = elim (cases_Bool (k == e)) [
   | inr n ↦ n
 ]
 
-follows : (a b : Bool) → (not a || b) ≡ true → a ≡ true → b ≡ true
+pub follows : (a b : Bool) → (not a || b) ≡ true → a ≡ true → b ≡ true
 follows true b h e = h
-follows false b h e = absurd (let q : false ≡ true = e in cc)
+follows false b h e = never e
 
 stays_false : (a b : Bool) → (not a || b) ≡ true → b ≡ false → a ≡ false
 stays_false true b h e = absurd (let q : true ≡ false = sym h ∙ e in cc)
@@ -47,7 +48,7 @@ stays_false false b h e = refl
 
 past : (a b : Bool) → a ≡ true → (a && b) ≡ false → b ≡ false
 past true b e h = h
-past false b e h = absurd (let q : false ≡ true = e in cc)
+past false b e h = never e
 
 pub comes_behind : (e : ℕ) → first_tested e ≡ true → {ss : List Symbol} {w v : List Tok} {s t : Pile} → Goes ss w s v t → comes_first e ss ≡ false → IsBehind e ss w v
 comes_behind e tested nothing none = inr (refl, refl)

@@ -1,19 +1,19 @@
 -- Readings in the grammar in its own words, over the words that tokens tell, with what the marks build. Places are
 -- forgotten.
-use Rattle.std.proofs.Common.{◌≡◌, ℕ, List, [], ◌∷◌, map, Some}
+use Rattle.std.proofs.Common.{◌++◌, refl, ap, ◌≡◌, ℕ, List, [], ◌∷◌, map, Some}
+use Rattle.sp_lex.specs.declared.kinds.Mark.TheVariants as sign
+use Rattle.sp_lex.specs.declared.kinds.TokenKind.TheVariants as token
 use Rattle.sp_parser.specs.declared.symbol.Symbol.{Symbol}
 use Rattle.sp_parser.specs.declared.symbol.Symbol.TheVariants as symbol
 use Rattle.sp_parser.specs.Grammar.{right, takes, First, All, Applies, SECOND, ahead}
-use Rattle.sp_lex.specs.declared.kinds.Mark.TheVariants as sign
-use Rattle.sp_lex.specs.declared.kinds.TokenKind.TheVariants as token
 use Rattle.sp_grammar.specs.Marks.{mark_with}
 use Rattle.sp_grammar.specs.Own.{own}
 use Rattle.sp_runs.specs.Kinds.{number_of, terminal_of}
+use Rattle.sp_ast.specs.Trees.{Tree}
 use Rattle.sp_build.specs.Rules.{rule}
 use Rattle.sp_print.specs.Words.{Word, fixed}
 use Rattle.sp_printed_words.specs.Sound.{read_as}
 use Rattle.sp_round_trip.specs.Told.{Telling}
-use Rattle.sp_ast.specs.Trees.{Tree}
 use Rattle.sp_round_trip.proofs.Held.{Pile, made, does}
 
 -- a word as it is read, or the second half of a `>>`, the first of which is passed
@@ -57,7 +57,16 @@ abbrev pub before : List Word → List Tok → List Tok
 before [] v = v
 before (w ∷ ws) v = entire w ∷ before ws v
 
+-- one list behind the other
+pub before_both : (xs ys : List Word) (v : List Tok) → before (xs ++ ys) v ≡ before xs (before ys v)
+before_both [] ys v = refl
+before_both (x ∷ xs) ys v = ap (λ w. entire x ∷ w) (before_both xs ys v)
+
 -- trees on top of a pile, in the order of the text
 abbrev pub pushed : List Tree → Pile → Pile
 pushed [] s = s
 pushed (t ∷ ts) s = pushed ts (made t ∷ s)
+
+pub pushed_append : (ts us : List Tree) (s : Pile) → pushed (ts ++ us) s ≡ pushed us (pushed ts s)
+pushed_append [] us s = refl
+pushed_append (t ∷ ts) us s = pushed_append ts us (made t ∷ s)

@@ -4,7 +4,6 @@ use Rattle.std.proofs.Common.{ℕ, List, [], ◌∷◌, reverse, Bool, Option, S
 use Rattle.sp_lex.specs.declared.kinds.TokenKind.{TokenKind}
 use Rattle.sp_lex.specs.declared.kinds.TokenKind.TheVariants as token
 use Rattle.sp_parser.specs.declared.symbol.Event.{Event}
-use Rattle.sp_grammar.specs.declared.marks.Mark.{Mark}
 use Rattle.sp_grammar.specs.Marks.{mark_with}
 use Rattle.sp_ast.specs.declared.forms.Form.{Form}
 use Rattle.sp_ast.specs.Trees.{Tree, absent, tree, in_row}
@@ -16,6 +15,7 @@ use Rattle.sp_build.specs.declared.groups.Slot.TheVariants.{Part as part, Severa
 use Rattle.sp_build.specs.Groups.{fits, is_of, is_node}
 use Rattle.sp_build.specs.Rules.{rule, Leaf, always, by_name, by_string, by_bytes, by_regex, by_number, by_integer, by_event, Rule, begins, leaves_out, takes, gathers, closes, closes_integer, closes_attribute, encloses, joins, wraps}
 use Rattle.sp_build.specs.Tokens.{integer_of, attribute_of, hook_name_of}
+use Rattle.sp_build.proofs.Shapes.{and_then}
 use Rattle.sp_print.specs.Words.{Word, name, text, bytes, regex, number}
 use Rattle.sp_round_trip.specs.Bare.{nowhere}
 use Rattle.sp_round_trip.specs.Told.{Telling}
@@ -100,15 +100,7 @@ does encloses t s = after_do (top (one expressions) s) (λ u rest. after_do (sta
 does (joins slots form) t s = after_do (filled (reverse slots) [] s) (λ ts rest. put (tree form nowhere ts) rest)
 does (wraps g form) t s = after_do (top (one g) s) (λ u rest. put (tree form nowhere (u ∷ [])) rest)
 
-abbrev pub by_mark : Option Mark → (Mark → Option Pile) → Option Pile
-by_mark None go = None
-by_mark (Some m) go = go m
-
-abbrev pub on_pile : Option Pile → (Pile → Option Pile) → Option Pile
-on_pile None go = None
-on_pile (Some s) go = go s
-
 -- What marks do, one after another, where `tell` says what each token tells.
 abbrev pub does_all : (ℕ → Telling) → List Event → Pile → Option Pile
 does_all tell [] s = Some s
-does_all tell (e ∷ events) s = on_pile (by_mark (mark_with e.mark) (λ m. does (rule m) (tell e.at) s)) (λ next. does_all tell events next)
+does_all tell (e ∷ events) s = and_then (and_then (mark_with e.mark) (λ m. does (rule m) (tell e.at) s)) (λ next. does_all tell events next)

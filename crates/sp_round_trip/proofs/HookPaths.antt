@@ -1,13 +1,15 @@
 -- The path of a hook that is declared by itself, and the event behind it.
 use Rattle.std.proofs.Common.{◌≡◌, ℕ, List, [], ◌∷◌, ◌++◌, Option, Some, refl, sym, ◌∙◌, arith, ap, subst}
 use Rattle.std.proofs.lemmas.List.{append-nil, append_assoc}
-use Rattle.sp_parser.specs.declared.symbol.Symbol.TheVariants as symbol
-use Rattle.sp_parser.specs.Grammar.{right, takes, All}
 use Rattle.sp_lex.specs.declared.kinds.Hook.{Hook}
 use Rattle.sp_lex.specs.declared.kinds.TokenKind.{TokenKind}
 use Rattle.sp_lex.specs.declared.kinds.TokenKind.TheVariants as token
 use Rattle.sp_lex.specs.declared.kinds.Mark.TheVariants as sign
+use Rattle.sp_parser.specs.Grammar.{right, takes, All}
 use Rattle.sp_grammar.specs.declared.marks.Mark.TheVariants as build
+use Rattle.sp_grammar.specs.Written.{part as part_symbol, Part, part_number}
+use Rattle.sp_grammar.specs.Terminals.{terminal_number}
+use Rattle.sp_grammar.specs.declared.terminals.Terminal.TheVariants as terminal
 use Rattle.sp_grammar.specs.Own.{own}
 use Rattle.sp_ast.specs.Trees.{Tree, absent, tree, trees}
 use Rattle.sp_ast.specs.declared.forms.Form.TheVariants as form_is
@@ -15,8 +17,7 @@ use Rattle.sp_build.specs.declared.groups.Group.TheVariants.{Names as names}
 use Rattle.sp_build.specs.declared.groups.Slot.{Slot}
 use Rattle.sp_build.specs.declared.groups.Slot.TheVariants.{Several as several}
 use Rattle.sp_build.specs.Tokens.{hook_name_of}
-use Rattle.sp_print.specs.Canonical.{chain, framed, parts_of, part_of}
-use Rattle.sp_print.specs.Canonical.{followed as written_followed}
+use Rattle.sp_print.specs.Canonical.{chain, framed, parts_of, part_of, followed as written_followed}
 use Rattle.sp_print.specs.declared.layouts.Frame.TheVariants as frame
 use Rattle.sp_print.specs.declared.layouts.Separator.TheVariants as separator
 use Rattle.sp_print.specs.Own.{hook_token}
@@ -24,11 +25,10 @@ use Rattle.sp_print.specs.Words.{fixed, name}
 use Rattle.sp_round_trip.specs.Bare.{nowhere}
 use Rattle.sp_round_trip.specs.Told.{Telling}
 use Rattle.sp_round_trip.proofs.Held.{Pile, started, made}
-use Rattle.sp_round_trip.proofs.Goes.{Tok, entire, telling_of, number, next, before, pushed, Goes, nothing, whole, mark, part}
+use Rattle.sp_round_trip.proofs.Goes.{Tok, entire, telling_of, number, next, before, pushed, Goes, nothing, whole, mark, pushed_append}
 use Rattle.sp_round_trip.proofs.Shown.{Claim, Trace}
 use Rattle.sp_round_trip.proofs.Leaves.{hook_is}
-use Rattle.sp_round_trip.proofs.Steps.{Close, passes_token, passes_absent, passes_name, passes_event, passes_part, passes_closes, passes_none, beside, anywhere}
-use Rattle.sp_round_trip.proofs.Closing.{pushed_append}
+use Rattle.sp_round_trip.proofs.Steps.{Close, passes_token, passes_absent, passes_name, passes_event, passes_part, passes_closes, passes_none, beside, chosen}
 
 abbrev pub named : List ℕ → Tree
 named x = tree (form_is.Name x) nowhere []
@@ -41,24 +41,24 @@ name_slots = several names ∷ []
 
 -- what is read behind the names xs of a path: the names ys, and the event e or none
 abbrev pub Rest : List Tree → List Tree → Tree → Type 0
-Rest xs ys e = (last : Option TokenKind) (v : List Tok) (q : Telling) (c : Pile) → Goes (symbol.Nonterminal 4 ∷ []) (before (chain (written_followed separator.Scope (parts_of (trees ys))) (framed frame.Scope (part_of e)) last) v) (pushed xs (started q ∷ c)) v (made e ∷ made (path_of (xs ++ ys)) ∷ c)
+Rest xs ys e = (last : Option TokenKind) (v : List Tok) (q : Telling) (c : Pile) → Goes (part_symbol Part.OnPath ∷ []) (before (chain (written_followed separator.Scope (parts_of (trees ys))) (framed frame.Scope (part_of e)) last) v) (pushed xs (started q ∷ c)) v (made e ∷ made (path_of (xs ++ ys)) ∷ c)
 
-name_again : (xs ys : List Tree) (e : Tree) (x : List ℕ) → takes 1 (number (entire (name x))) ≡ All → Rest (xs ++ named x ∷ []) ys e → Rest xs (named x ∷ ys) e
+name_again : (xs ys : List Tree) (e : Tree) (x : List ℕ) → takes (terminal_number terminal.Id) (number (entire (name x))) ≡ All → Rest (xs ++ named x ∷ []) ys e → Rest xs (named x ∷ ys) e
 unfolding own
 name_again xs ys e x taken rest last v q c =
     let words = before (chain (written_followed separator.Scope (parts_of (trees ys))) (framed frame.Scope (part_of e)) (Some token.Id)) v in
-    let at_names = subst (λ z. Goes (symbol.Nonterminal 4 ∷ []) words z v (made e ∷ made (path_of (xs ++ named x ∷ [] ++ ys)) ∷ c)) (pushed_append xs (named x ∷ []) (started q ∷ c)) (rest (Some token.Id) v q c) in
-    let reads = subst (λ zs. Goes (symbol.Nonterminal 4 ∷ []) words (made (named x) ∷ pushed xs (started q ∷ c)) v (made e ∷ made (path_of zs) ∷ c)) (append_assoc xs (named x ∷ []) ys) at_names in
-    part 0 (anywhere 4 0 (entire (fixed (token.Mark sign.ColonColon)) ∷ entire (name x) ∷ words) (omega arith) refl) (whole refl (mark build.Name refl refl (whole taken (beside reads nothing)))) nothing
+    let at_names = subst (λ z. Goes (part_symbol Part.OnPath ∷ []) words z v (made e ∷ made (path_of (xs ++ named x ∷ [] ++ ys)) ∷ c)) (pushed_append xs (named x ∷ []) (started q ∷ c)) (rest (Some token.Id) v q c) in
+    let reads = subst (λ zs. Goes (part_symbol Part.OnPath ∷ []) words (made (named x) ∷ pushed xs (started q ∷ c)) v (made e ∷ made (path_of zs) ∷ c)) (append_assoc xs (named x ∷ []) ys) at_names in
+    chosen (part_number Part.OnPath) 0 (omega arith) refl (whole refl (mark build.Name refl refl (whole taken (beside reads nothing))))
 
-pub more_path_shown : (w u : List Tok) (s t : Pile) → Trace (right own 4 0) w s u t → Claim 4 w s t u
+pub more_path_shown : (w u : List Tok) (s t : Pile) → Trace (right own (part_number Part.OnPath) 0) w s u t → Claim (part_number Part.OnPath) w s t u
 unfolding own
 more_path_shown w u s t trace xs p b same =
-    let (c, a, is, taken, name_mark) = passes_token 15 refl trace in
+    let (c, a, is, taken, name_mark) = passes_token refl trace in
     let (x, is_name, d, rest) = passes_name name_mark in
-    let (f, t', claim, ends) = passes_part 4 rest in
+    let (f, t', claim, ends) = passes_part rest in
     let (ys, e, pile, reads) = claim (xs ++ named x ∷ []) p b (ap (λ z. made (named x) ∷ z) same ∙ sym (pushed_append xs (named x ∷ []) (started p ∷ b))) in
-    (named x ∷ ys, e, sym (passes_none ends).1 ∙ pile ∙ ap (λ zs. made e ∷ made (path_of zs) ∷ b) (append_assoc xs (named x ∷ []) ys), name_again xs ys e x is_name reads)
+    (named x ∷ ys, e, (passes_none ends).1 ∙ pile ∙ ap (λ zs. made e ∷ made (path_of zs) ∷ b) (append_assoc xs (named x ∷ []) ys), name_again xs ys e x is_name reads)
 
 event_again : (xs : List Tree) (h : Hook) → Close name_slots form_is.Path xs → Rest xs [] (tree (form_is.Event (hook_name_of h)) nowhere [])
 unfolding own
@@ -68,24 +68,24 @@ event_again xs h closes last v q c =
     let under : Pile = made (path_of xs) ∷ c in
     let whole_path = ap (λ zs. made event ∷ made (path_of zs) ∷ c) (sym (append-nil xs)) in
     let reads = whole refl (mark build.Path refl (closes (telling_of word) q c) (mark build.Event refl (ap (λ k. Some (made (tree (form_is.Event (hook_name_of k)) nowhere []) ∷ under)) (hook_is h)) (whole refl nothing))) in
-    part 1 (anywhere 4 1 (entire (fixed (token.Mark sign.ColonColon)) ∷ entire word ∷ v) (omega arith) refl) (subst (λ z. Goes (symbol.Terminal 15 ∷ symbol.Mark 15 ∷ symbol.Mark 17 ∷ symbol.Terminal 16 ∷ []) (entire (fixed (token.Mark sign.ColonColon)) ∷ entire word ∷ v) (pushed xs (started q ∷ c)) v z) whole_path reads) nothing
+    chosen (part_number Part.OnPath) 1 (omega arith) refl (subst (λ z. Goes (right own (part_number Part.OnPath) 1) (entire (fixed (token.Mark sign.ColonColon)) ∷ entire word ∷ v) (pushed xs (started q ∷ c)) v z) whole_path reads)
 
-pub path_event_shown : (w u : List Tok) (s t : Pile) → Trace (right own 4 1) w s u t → Claim 4 w s t u
+pub path_event_shown : (w u : List Tok) (s t : Pile) → Trace (right own (part_number Part.OnPath) 1) w s u t → Claim (part_number Part.OnPath) w s t u
 unfolding own
 path_event_shown w u s t trace xs p b same =
-    let (c, a, is, taken, path_mark) = passes_token 15 refl (subst (λ z. Trace (right own 4 1) w z u t) same trace) in
-    let (closes, event_mark) = passes_closes 15 build.Path name_slots form_is.Path xs p refl refl path_mark in
+    let (c, a, is, taken, path_mark) = passes_token refl (subst (λ z. Trace (right own (part_number Part.OnPath) 1) w z u t) same trace) in
+    let (closes, event_mark) = passes_closes build.Path name_slots form_is.Path xs p refl refl path_mark in
     let (h, d, ends) = passes_event event_mark in
-    ([], tree (form_is.Event (hook_name_of h)) nowhere [], sym (passes_none ends).1 ∙ ap (λ zs. made (tree (form_is.Event (hook_name_of h)) nowhere []) ∷ made (path_of zs) ∷ b) (sym (append-nil xs)), event_again xs h closes)
+    ([], tree (form_is.Event (hook_name_of h)) nowhere [], (passes_none ends).1 ∙ ap (λ zs. made (tree (form_is.Event (hook_name_of h)) nowhere []) ∷ made (path_of zs) ∷ b) (sym (append-nil xs)), event_again xs h closes)
 
 no_event_again : (xs : List Tree) → Close name_slots form_is.Path xs → Rest xs [] absent
 unfolding own
 no_event_again xs closes last v q c =
     let reads = mark build.Path refl (closes (next v) q c) (mark build.Absent refl refl nothing) in
-    part 2 (anywhere 4 2 v (omega arith) refl) (subst (λ z. Goes (symbol.Mark 15 ∷ symbol.Mark 16 ∷ []) v (pushed xs (started q ∷ c)) v z) (ap (λ zs. made absent ∷ made (path_of zs) ∷ c) (sym (append-nil xs))) reads) nothing
+    chosen (part_number Part.OnPath) 2 (omega arith) refl (subst (λ z. Goes (right own (part_number Part.OnPath) 2) v (pushed xs (started q ∷ c)) v z) (ap (λ zs. made absent ∷ made (path_of zs) ∷ c) (sym (append-nil xs))) reads)
 
-pub path_end_shown : (w u : List Tok) (s t : Pile) → Trace (right own 4 2) w s u t → Claim 4 w s t u
+pub path_end_shown : (w u : List Tok) (s t : Pile) → Trace (right own (part_number Part.OnPath) 2) w s u t → Claim (part_number Part.OnPath) w s t u
 unfolding own
 path_end_shown w u s t trace xs p b same =
-    let (closes, absent_mark) = passes_closes 15 build.Path name_slots form_is.Path xs p refl refl (subst (λ z. Trace (right own 4 2) w z u t) same trace) in
-    ([], absent, sym (passes_none (passes_absent absent_mark)).1 ∙ ap (λ zs. made absent ∷ made (path_of zs) ∷ b) (sym (append-nil xs)), no_event_again xs closes)
+    let (closes, absent_mark) = passes_closes build.Path name_slots form_is.Path xs p refl refl (subst (λ z. Trace (right own (part_number Part.OnPath) 2) w z u t) same trace) in
+    ([], absent, (passes_none (passes_absent absent_mark)).1 ∙ ap (λ zs. made absent ∷ made (path_of zs) ∷ b) (sym (append-nil xs)), no_event_again xs closes)

@@ -1,9 +1,12 @@
 -- The words of integer types as bases of fields: by themselves, and before a number.
-use Rattle.std.proofs.Common.{◌≡◌, ℕ, List, [], ◌∷◌, refl, sym, arith}
-use Rattle.sp_parser.specs.Grammar.{right, takes, All}
+use Rattle.std.proofs.Common.{◌≡◌, ℕ, List, [], ◌∷◌, refl, arith}
 use Rattle.sp_lex.specs.declared.kinds.TokenKind.TheVariants as token
 use Rattle.sp_lex.specs.declared.kinds.Mark.TheVariants as sign
+use Rattle.sp_parser.specs.Grammar.{right, takes, All}
 use Rattle.sp_grammar.specs.declared.marks.Mark.TheVariants as build
+use Rattle.sp_grammar.specs.Written.{Part, part_number}
+use Rattle.sp_grammar.specs.Terminals.{terminal_number}
+use Rattle.sp_grammar.specs.declared.terminals.Terminal.TheVariants as terminal
 use Rattle.sp_grammar.specs.Own.{own}
 use Rattle.sp_ast.specs.Trees.{tree}
 use Rattle.sp_ast.specs.declared.forms.Form.{Form}
@@ -17,28 +20,21 @@ use Rattle.sp_build.specs.declared.groups.Sort.TheVariants.{One as one_of}
 use Rattle.sp_build.specs.declared.groups.Slot.TheVariants.{Part as slot}
 use Rattle.sp_build.specs.Tokens.{integer_of}
 use Rattle.sp_print.specs.Own.{integer_keyword}
-use Rattle.sp_print.specs.Words.{Word, fixed}
-use Rattle.sp_print.specs.Words.{number as numeral}
+use Rattle.sp_print.specs.Words.{Word, fixed, number as numeral}
 use Rattle.sp_round_trip.specs.Bare.{nowhere}
 use Rattle.sp_round_trip.proofs.Held.{Pile}
-use Rattle.sp_round_trip.proofs.Goes.{Tok, entire, telling_of, number, next, coming, nothing, whole, mark, part}
+use Rattle.sp_round_trip.proofs.Goes.{Tok, entire, telling_of, number, next, coming, nothing, whole, mark}
 use Rattle.sp_round_trip.proofs.Shown.{Claim, Trace, one, Shows}
 use Rattle.sp_round_trip.proofs.Leaves.{integer_again}
-use Rattle.sp_round_trip.proofs.Steps.{CloseBy, passes_token, passes_begin, passes_number, passes_integer, passes_wraps, passes_none, anywhere}
+use Rattle.sp_round_trip.proofs.Steps.{CloseBy, passes_token, passes_begin, passes_number, passes_integer, passes_wraps, passes_none, chosen, builds_one}
 
 -- the word of an integer type
 abbrev pub integer_word : IntWord → Word
 integer_word a = fixed (token.Keyword (integer_keyword a))
 
-pub integer_taken : (a : IntWord) → takes 22 (number (entire (integer_word a))) ≡ All
+pub integer_taken : (a : IntWord) → takes (terminal_number terminal.IntWord) (number (entire (integer_word a))) ≡ All
 integer_taken integer.Uint8 = refl
-integer_taken integer.Uint16 = refl
-integer_taken integer.Uint32 = refl
-integer_taken integer.Uint64 = refl
-integer_taken integer.Int8 = refl
-integer_taken integer.Int16 = refl
-integer_taken integer.Int32 = refl
-integer_taken integer.Int64 = refl
+integer_taken a = refl
 
 abbrev number_base : IntWord → Form
 number_base a = form_is.Base (base_is.Number a)
@@ -46,33 +42,31 @@ number_base a = form_is.Base (base_is.Number a)
 abbrev int_type : IntWord → Form
 int_type a = form_is.Type (types_is.Int a)
 
-number_base_again : (a : IntWord) (n came : ℕ) → CloseBy (slot (one_of numbers) ∷ []) (λ q. integer_of q.kind) number_base (tree (form_is.Number n) nowhere [] ∷ []) a → Shows 47 (one 1) (tree (number_base a) nowhere (tree (form_is.Number n) nowhere [] ∷ []) ∷ []) came
+number_base_again : (a : IntWord) (n came : ℕ) → CloseBy (slot (one_of numbers) ∷ []) (λ q. integer_of q.kind) number_base (tree (form_is.Number n) nowhere [] ∷ []) a → Shows (part_number Part.Base) (one 1) (tree (number_base a) nowhere (tree (form_is.Number n) nowhere [] ∷ []) ∷ []) came
 unfolding own
 number_base_again a n came closes last v s may =
     let words = entire (integer_word a) ∷ entire (fixed (token.Mark sign.LeftParen)) ∷ entire (numeral n) ∷ entire (fixed (token.Mark sign.RightParen)) ∷ v in
-    part 2 (anywhere 47 2 words (omega arith) refl) (mark build.Begin refl refl (whole (integer_taken a) (whole refl (mark build.Number refl refl (whole refl (whole refl (mark build.NumberBase refl (closes (telling_of (integer_word a)) s (integer_again a)) nothing))))))) nothing
+    chosen (part_number Part.Base) 2 (omega arith) refl (mark build.Begin refl refl (whole (integer_taken a) (whole refl (mark build.Number refl refl (whole refl (whole refl (mark build.NumberBase refl (closes (telling_of (integer_word a)) s (integer_again a)) nothing)))))))
 
-pub number_base_shown : (w u : List Tok) (s t : Pile) → Trace (right own 47 2) w s u t → Claim 47 w s t u
+pub number_base_shown : (w u : List Tok) (s t : Pile) → Trace (right own (part_number Part.Base) 2) w s u t → Claim (part_number Part.Base) w s t u
 unfolding own
 number_base_shown w u s t trace =
-    let (x, a, is, taken, parens) = passes_token 22 refl (passes_begin trace) in
-    let (y, b, also, opened, numbered) = passes_token 12 refl parens in
+    let (x, a, is, taken, parens) = passes_token refl (passes_begin trace) in
+    let (y, b, also, opened, numbered) = passes_token refl parens in
     let (n, c, closing) = passes_number numbered in
-    let (z, d, last_is, shut, base) = passes_token 13 refl closing in
-    let (i, closes, ends) = passes_integer 67 build.NumberBase (slot (one_of numbers) ∷ []) number_base (tree (form_is.Number n) nowhere [] ∷ []) (next w) refl refl base in
-    let built = tree (number_base i) nowhere (tree (form_is.Number n) nowhere [] ∷ []) in
-    (built ∷ [], sym (passes_none ends).1, (built, refl, refl), number_base_again i n (coming u) closes)
+    let (z, d, last_is, shut, base) = passes_token refl closing in
+    let (i, closes, ends) = passes_integer build.NumberBase (slot (one_of numbers) ∷ []) number_base (tree (form_is.Number n) nowhere [] ∷ []) (next w) refl refl base in
+    builds_one (tree (number_base i) nowhere (tree (form_is.Number n) nowhere [] ∷ [])) (passes_none ends).1 refl (number_base_again i n (coming u) closes)
 
-integer_base_again : (a : IntWord) (came : ℕ) → CloseBy [] (λ q. integer_of q.kind) int_type [] a → Shows 47 (one 1) (tree (form_is.Base base_is.Type) nowhere (tree (int_type a) nowhere [] ∷ []) ∷ []) came
+integer_base_again : (a : IntWord) (came : ℕ) → CloseBy [] (λ q. integer_of q.kind) int_type [] a → Shows (part_number Part.Base) (one 1) (tree (form_is.Base base_is.Type) nowhere (tree (int_type a) nowhere [] ∷ []) ∷ []) came
 unfolding own
 integer_base_again a came closes last v s may =
-    part 3 (anywhere 47 3 (entire (integer_word a) ∷ v) (omega arith) refl) (mark build.Begin refl refl (whole (integer_taken a) (mark build.IntBase refl (closes (telling_of (integer_word a)) s (integer_again a)) (mark build.TypeBase refl refl nothing)))) nothing
+    chosen (part_number Part.Base) 3 (omega arith) refl (mark build.Begin refl refl (whole (integer_taken a) (mark build.IntBase refl (closes (telling_of (integer_word a)) s (integer_again a)) (mark build.TypeBase refl refl nothing))))
 
-pub integer_base_shown : (w u : List Tok) (s t : Pile) → Trace (right own 47 3) w s u t → Claim 47 w s t u
+pub integer_base_shown : (w u : List Tok) (s t : Pile) → Trace (right own (part_number Part.Base) 3) w s u t → Claim (part_number Part.Base) w s t u
 unfolding own
 integer_base_shown w u s t trace =
-    let (x, a, is, taken, int_base) = passes_token 22 refl (passes_begin trace) in
-    let (i, closes, wrap) = passes_integer 68 build.IntBase [] int_type [] (next w) refl refl int_base in
-    let ends = passes_wraps 62 build.TypeBase types (form_is.Base base_is.Type) (tree (int_type i) nowhere []) refl refl wrap in
-    let built = tree (form_is.Base base_is.Type) nowhere (tree (int_type i) nowhere [] ∷ []) in
-    (built ∷ [], sym (passes_none ends).1, (built, refl, refl), integer_base_again i (coming u) closes)
+    let (x, a, is, taken, int_base) = passes_token refl (passes_begin trace) in
+    let (i, closes, wrap) = passes_integer build.IntBase [] int_type [] (next w) refl refl int_base in
+    let ends = passes_wraps build.TypeBase types (form_is.Base base_is.Type) (tree (int_type i) nowhere []) refl refl wrap in
+    builds_one (tree (form_is.Base base_is.Type) nowhere (tree (int_type i) nowhere [] ∷ [])) (passes_none ends).1 refl (integer_base_again i (coming u) closes)

@@ -1,8 +1,8 @@
 -- Chunks that pass a test are written as the layout of an alternative is, or as the yield of a part.
-use Rattle.std.specs.Prelude.{not, ◌&&◌, if◌then◌else◌}
-use Rattle.std.proofs.Common.{◌≡◌, ℕ, zero, suc, List, [], ◌∷◌, ◌++◌, get_or, Bool, true, false, ◌==◌, Option, Some, None, refl, sym, ap, subst, ◌∙◌, eqb-true}
+use Rattle.std.specs.Prelude.{not, ◌&&◌}
+use Rattle.std.proofs.Common.{◌≡◌, ℕ, zero, suc, List, [], ◌∷◌, ◌++◌, get_or, Bool, true, false, ◌==◌, Option, Some, refl, sym, ap, subst, ◌∙◌, eqb-true}
 use Rattle.std.proofs.Math.Path.{fun_ext}
-use Rattle.std.proofs.lemmas.Bool.{and_parts}
+use Rattle.std.proofs.lemmas.Bool.{and_parts, not-true}
 use Rattle.std.proofs.lemmas.List.{append-nil, append_assoc}
 use Rattle.sp_lex.specs.declared.kinds.TokenKind.{TokenKind}
 use Rattle.sp_lex.specs.declared.kinds.TokenKind.TheVariants as kind
@@ -13,6 +13,8 @@ use Rattle.sp_ast.specs.declared.forms.Form.{Form}
 use Rattle.sp_ast.specs.declared.forms.Form.TheVariants as form_is
 use Rattle.sp_ast.specs.Trees.{Tree, absent, row, node, trees}
 use Rattle.sp_build.specs.Groups.{is_node}
+use Rattle.sp_build.proofs.Standing.{some_equal, not_some, if_some}
+use Rattle.sp_build.proofs.Told.{never}
 use Rattle.sp_print.specs.declared.layouts.Frame.{Frame}
 use Rattle.sp_print.specs.declared.layouts.Frame.TheVariants as frame
 use Rattle.sp_print.specs.declared.layouts.Separator.{Separator}
@@ -30,9 +32,6 @@ use Rattle.sp_round_trip.proofs.Singles.{kind_for, is_single, kind_again}
 use Rattle.sp_round_trip.proofs.Shown.{Yield, one, optional, left_out, listed, followed, in_row, arguments, hooks, silent, yielded, Fits, IsOneNode, IsOneRow}
 use Rattle.sp_round_trip.proofs.Chunks.{Chunk, word, tree, is_new, Owns, chunk_words, Split, no_chunk, a_chunk, wrote, node_chunk, frame_number, separator_number, same_frame, same_separator, is_token, is_end, is_treeless, words_come, one_comes, is_between, more_come, list_comes, optional_comes, part_comes, own_comes, laid_as, ends_as, row_chunks}
 use Rattle.sp_round_trip.proofs.Piles.{chain_both}
-
-never : {A : Type 0} → false ≡ true → A
-never h = absurd (let q : false ≡ true = h in cc)
 
 chain_groups : (x y z : Writing) → chain (chain x y) z ≡ chain x (chain y z)
 chain_groups x y z = fun_ext (chain_both x y z)
@@ -131,16 +130,7 @@ frame_with n = get_or (frame.Bare ∷ frame.Parentheses ∷ frame.Colon ∷ fram
 
 frame_again : (f : Frame) → frame_with (frame_number f) ≡ f
 frame_again frame.Bare = refl
-frame_again frame.Parentheses = refl
-frame_again frame.Colon = refl
-frame_again frame.Scope = refl
-frame_again frame.Equal = refl
-frame_again frame.UpTo = refl
-frame_again frame.Arrow = refl
-frame_again frame.If = refl
-frame_again frame.Else = refl
-frame_again frame.Default = refl
-frame_again frame.Priority = refl
+frame_again f = refl
 
 is_frame : (f g : Frame) → same_frame f g ≡ true → g ≡ f
 is_frame f g h = sym (frame_again g) ∙ sym (ap frame_with (eqb-true (frame_number f) (frame_number g) h)) ∙ frame_again f
@@ -150,16 +140,10 @@ separator_with n = get_or (separator.Nothing ∷ separator.Comma ∷ separator.S
 
 separator_again : (x : Separator) → separator_with (separator_number x) ≡ x
 separator_again separator.Nothing = refl
-separator_again separator.Comma = refl
-separator_again separator.Scope = refl
-separator_again separator.ElseIf = refl
+separator_again x = refl
 
 is_separator : (x y : Separator) → same_separator x y ≡ true → y ≡ x
 is_separator x y h = sym (separator_again y) ∙ sym (ap separator_with (eqb-true (separator_number x) (separator_number y) h)) ∙ separator_again x
-
-no_dividend : (b : Bool) → not b ≡ true → false ≡ b
-no_dividend false h = refl
-no_dividend true h = never h
 
 -- one tree with its frame round it
 framed_node : (around : Frame) (t : Tree) → is_node t ≡ true → chain (kinds (opening around)) (chain (yielded (one 1) (t ∷ [])) (kinds (closing around))) ≡ yielded (optional around) (t ∷ [])
@@ -193,7 +177,7 @@ between_one separator.Scope e h = ap (λ k. kinds (k ∷ [])) (is_kind (kind.Mar
 between_one separator.ElseIf e h = never (and_parts (is_token (kind.Keyword keyword.Else) e) false h).1
 
 -- rows with nothing between the trees follow a tree as they stand alone
-nothing_between : (us : List Tree) → yielded (listed separator.Nothing) us ≡ yielded (followed separator.Nothing) us
+pub nothing_between : (us : List Tree) → yielded (listed separator.Nothing) us ≡ yielded (followed separator.Nothing) us
 nothing_between [] = refl
 nothing_between (t ∷ us) = refl
 
@@ -269,7 +253,7 @@ part_came form (layout_is.One at) (tree (one level) ∷ cs) go ts h sp =
     let (both, goes) = and_parts ((least form at == level) && not (is_dividend form at)) (go cs) h in
     let (same, whole) = and_parts (least form at == level) (not (is_dividend form at)) both in
     let tight : level ≡ least form at = sym (eqb-true (least form at) level same) in
-    let undivided : false ≡ is_dividend form at = no_dividend (is_dividend form at) whole in
+    let undivided : false ≡ is_dividend form at = sym (not-true (is_dividend form at) whole) in
     as_one (λ us (t, is, n). (t, is)) (λ t. ap (λ l. at_place l false t (spelled t)) tight ∙ ap (λ d. at_place (least form at) d t (spelled t)) undivided) (came go goes sp)
 part_came form (layout_is.Optional around) cs go ts h sp = as_one (λ us is. is) (λ t. refl) (optional_came around cs go ts h sp)
 part_came form (layout_is.Row by) (tree (in_row also) ∷ cs) go ts h sp =
@@ -347,22 +331,18 @@ as_row by rest us ts w h sp is =
     let all : us ++ ts ≡ us = ap (λ z. us ++ z) (no_more_trees rest ts h sp) ∙ append-nil us in
     (a_chunk (row (trees (us ++ ts)) ∷ []) (us ++ ts, refl) again, λ last. ap (λ x. x last) (ap (λ z. chain (yielded (listed by) z) (wrote again)) all ∙ ap (chain (yielded (listed by) us)) same ∙ sym is))
 
-chosen : (ok : Bool) (cs ds : List Chunk) → (if ok then Some cs else None) ≡ Some ds → (ok ≡ true) × (cs ≡ ds)
-chosen true cs ds h = (refl, cc)
-chosen false cs ds h = absurd (let q : None ≡ Some ds = h in cc)
-
 -- Trees that are put in a row are written as before.
 pub row_again : (cs ds : List Chunk) (ts : List Tree) → row_chunks cs ≡ Some ds → (sp : Split cs ts) → (again : Split ds (row (trees ts) ∷ [])) × ((last : Option TokenKind) → wrote again last ≡ wrote sp last)
 row_again (tree (listed by) ∷ rest) ds _ h (a_chunk {ts = ts} us owns sp) =
-    let (ok, is) = chosen (is_treeless rest) (tree (in_row by) ∷ rest) ds h in
-    subst (λ z. InRow z (us ++ ts) (chain (yielded (listed by) us) (wrote sp))) is (as_row by rest us ts _ ok sp refl)
+    let (ok, is) = if_some (is_treeless rest) (Some (tree (in_row by) ∷ rest)) ds h in
+    subst (λ z. InRow z (us ++ ts) (chain (yielded (listed by) us) (wrote sp))) (some_equal is) (as_row by rest us ts _ ok sp refl)
 row_again (tree (one (suc zero)) ∷ tree (followed by) ∷ rest) ds _ h (a_chunk us (t, is_t, n) (a_chunk {ts = ts} vs owns sp)) =
-    let (ok, is) = chosen (is_treeless rest) (tree (in_row by) ∷ rest) ds h in
+    let (ok, is) = if_some (is_treeless rest) (Some (tree (in_row by) ∷ rest)) ds h in
     let w : Writing = chain (yielded (one 1) us) (chain (yielded (followed by) vs) (wrote sp)) in
     let listing : chain (yielded (one 1) us) (yielded (followed by) vs) ≡ yielded (listed by) (us ++ vs) = ap (λ z. chain (yielded (one 1) z) (yielded (followed by) vs)) is_t ∙ sym (ap (λ z. yielded (listed by) (z ++ vs)) is_t) in
     let words : w ≡ chain (yielded (listed by) (us ++ vs)) (wrote sp) = sym (chain_groups (yielded (one 1) us) (yielded (followed by) vs) (wrote sp)) ∙ ap (λ z. chain z (wrote sp)) listing in
-    subst (λ z. InRow z (us ++ (vs ++ ts)) w) is (subst (λ z. InRow (tree (in_row by) ∷ rest) z w) (append_assoc us vs ts) (as_row by rest (us ++ vs) ts w ok sp words))
-row_again _ ds ts h sp = absurd (let q : None ≡ Some ds = h in cc)
+    subst (λ z. InRow z (us ++ (vs ++ ts)) w) (some_equal is) (subst (λ z. InRow (tree (in_row by) ∷ rest) z w) (append_assoc us vs ts) (as_row by rest (us ++ vs) ts w ok sp words))
+row_again _ ds ts h sp = not_some h
 
 -- A tree that is built is one chunk, and is written as it stands.
 pub node_again : (form : Form) (ts : List Tree) → is_new form ≡ false

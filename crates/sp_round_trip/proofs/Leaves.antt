@@ -1,29 +1,25 @@
 -- The word that a tree tells by itself is one that its token told: it tells the same tree again.
 use Rattle.std.specs.Prelude.{option_map}
-use Rattle.std.proofs.Common.{◌≡◌, ℕ, List, [], ◌∷◌, Bool, true, false, Option, Some, None, refl, sym, ◌∙◌, ap}
+use Rattle.std.proofs.Common.{◌≡◌, ℕ, List, [], ◌∷◌, Bool, true, false, Option, Some, None, refl, sym, ◌∙◌, ap, subst}
 use Rattle.sp_lex.specs.declared.kinds.Hook.{Hook}
 use Rattle.sp_lex.specs.declared.kinds.Hook.TheVariants as hook
 use Rattle.sp_lex.specs.declared.kinds.Keyword.TheVariants as keyword
-use Rattle.sp_lex.specs.declared.kinds.Attribute.TheVariants as attribute
-use Rattle.sp_ast.specs.declared.words.IntWord.TheVariants as integer
-use Rattle.sp_ast.specs.declared.words.AttributeName.TheVariants as attribute_name
 use Rattle.sp_lex.specs.declared.kinds.TokenKind.{TokenKind}
 use Rattle.sp_lex.specs.declared.kinds.TokenKind.TheVariants as token
 use Rattle.sp_parser.specs.Grammar.{takes, Nothing, All, SECOND}
-use Rattle.sp_grammar.specs.declared.marks.Mark.{Mark}
-use Rattle.sp_grammar.specs.declared.marks.Mark.TheVariants as build
+use Rattle.sp_runs.specs.Kinds.{number_of, terminal_of}
+use Rattle.sp_ast.specs.declared.words.IntWord.TheVariants as integer
+use Rattle.sp_ast.specs.declared.words.AttributeName.TheVariants as attribute_name
 use Rattle.sp_ast.specs.declared.forms.Form.{Form}
 use Rattle.sp_ast.specs.declared.words.IntWord.{IntWord}
 use Rattle.sp_ast.specs.declared.words.AttributeName.{AttributeName}
 use Rattle.sp_ast.specs.declared.words.HookName.{HookName}
-use Rattle.sp_build.specs.Rules.{Leaf, always, by_name, by_string, by_bytes, by_regex, by_number, by_integer, by_event, Rule, closes_integer, closes_attribute, rule}
-use Rattle.sp_build.specs.Rules.{takes as takes_leaf}
+use Rattle.sp_build.specs.Rules.{Leaf, always, by_name, by_string, by_bytes, by_regex, by_number, by_integer, by_event}
 use Rattle.sp_build.specs.Tokens.{integer_of, attribute_of, hook_name_of}
+use Rattle.sp_build.proofs.Standing.{some_equal, not_some}
 use Rattle.sp_print.specs.Own.{own_words, integer_keyword, attribute_token, hook_token}
-use Rattle.sp_print.specs.Words.{Word, fixed, name, text, bytes, regex}
-use Rattle.sp_print.specs.Words.{number as numeral}
+use Rattle.sp_print.specs.Words.{Word, fixed, name, text, bytes, regex, number as numeral}
 use Rattle.sp_printed_words.specs.Sound.{read_as}
-use Rattle.sp_runs.specs.Kinds.{number_of, terminal_of}
 use Rattle.sp_round_trip.proofs.Held.{form_told}
 use Rattle.sp_round_trip.proofs.Goes.{Tok, entire, half, tells, number}
 
@@ -38,38 +34,23 @@ LeafSays (by_number form) = (n : ℕ) → own_words (form n) ≡ numeral n ∷ [
 LeafSays (by_integer form) = (w : IntWord) → own_words (form w) ≡ fixed (token.Keyword (integer_keyword w)) ∷ []
 LeafSays (by_event form) = (h : HookName) → own_words (form h) ≡ fixed (token.Hook (hook_token h)) ∷ []
 
+-- what holds of each alternative that a token can be of
+abbrev pub EachForm : (Form → Type 0) → Leaf → Type 0
+EachForm P (always form) = P form
+EachForm P (by_name form) = (x : List ℕ) → P (form x)
+EachForm P (by_string form) = (x : List ℕ) → P (form x)
+EachForm P (by_bytes form) = (x : List ℕ) → P (form x)
+EachForm P (by_regex form) = (x : List ℕ) → P (form x)
+EachForm P (by_number form) = (n : ℕ) → P (form n)
+EachForm P (by_integer form) = (w : IntWord) → P (form w)
+EachForm P (by_event form) = (h : HookName) → P (form h)
+
 abbrev pub is_always : Leaf → Bool
 is_always (always form) = true
 is_always _ = false
 
-abbrev pub RuleSays : Rule → Type 0
-RuleSays (takes_leaf l) = LeafSays l
-RuleSays (closes_integer slots form) = (w : IntWord) → own_words (form w) ≡ fixed (token.Keyword (integer_keyword w)) ∷ []
-RuleSays (closes_attribute slots form) = (a : AttributeName) → own_words (form a) ≡ fixed (token.Attribute (attribute_token a)) ∷ []
-RuleSays _ = Unit {0}
-
-pub rule_says : (m : Mark) → RuleSays (rule m)
-rule_says build.Name = λ x. refl
-rule_says build.Text = λ x. refl
-rule_says build.Number = λ x. refl
-rule_says build.Event = λ x. refl
-rule_says build.IntType = λ x. refl
-rule_says build.NameTarget = λ x. refl
-rule_says build.EventTarget = λ x. refl
-rule_says build.Attribute = λ x. refl
-rule_says build.BytesBase = λ x. refl
-rule_says build.RegexBase = λ x. refl
-rule_says build.NumberBase = λ x. refl
-rule_says build.IntBase = λ x. refl
-rule_says build.NumberExpr = λ x. refl
-rule_says build.StringExpr = λ x. refl
-rule_says build.BytesExpr = λ x. refl
-rule_says build.RegexExpr = λ x. refl
-rule_says build.TypedNumberExpr = λ x. refl
-rule_says m = tt
-
 -- a token that tells an integer type is its word
-pub integer_is : (kind : TokenKind) (w : IntWord) → integer_of kind ≡ Some w → kind ≡ token.Keyword (integer_keyword w)
+integer_is : (kind : TokenKind) (w : IntWord) → integer_of kind ≡ Some w → kind ≡ token.Keyword (integer_keyword w)
 integer_is (token.Keyword keyword.Uint8) integer.Uint8 e = refl
 integer_is (token.Keyword keyword.Uint16) integer.Uint16 e = refl
 integer_is (token.Keyword keyword.Uint32) integer.Uint32 e = refl
@@ -80,86 +61,48 @@ integer_is (token.Keyword keyword.Int32) integer.Int32 e = refl
 integer_is (token.Keyword keyword.Int64) integer.Int64 e = refl
 integer_is kind w e = absurd cc
 
--- a token that tells an attribute is its word
-pub attribute_is : (kind : TokenKind) (a : AttributeName) → attribute_of kind ≡ Some a → kind ≡ token.Attribute (attribute_token a)
-attribute_is (token.Attribute attribute.Size) attribute_name.Size e = refl
-attribute_is (token.Attribute attribute.MaxSize) attribute_name.MaxSize e = refl
-attribute_is (token.Attribute attribute.Eod) attribute_name.Eod e = refl
-attribute_is (token.Attribute attribute.Until) attribute_name.Until e = refl
-attribute_is (token.Attribute attribute.UntilIncluding) attribute_name.UntilIncluding e = refl
-attribute_is (token.Attribute attribute.While) attribute_name.While e = refl
-attribute_is (token.Attribute attribute.Convert) attribute_name.Convert e = refl
-attribute_is (token.Attribute attribute.Requires) attribute_name.Requires e = refl
-attribute_is (token.Attribute attribute.Default) attribute_name.Default e = refl
-attribute_is (token.Attribute attribute.ByteOrder) attribute_name.ByteOrder e = refl
-attribute_is (token.Attribute attribute.BitOrder) attribute_name.BitOrder e = refl
-attribute_is (token.Attribute attribute.ParseFrom) attribute_name.ParseFrom e = refl
-attribute_is (token.Attribute attribute.ParseAt) attribute_name.ParseAt e = refl
-attribute_is (token.Attribute attribute.Try) attribute_name.Try e = refl
-attribute_is (token.Attribute attribute.Synchronize) attribute_name.Synchronize e = refl
-attribute_is kind a e = absurd cc
-
 pub hook_is : (h : Hook) → hook_token (hook_name_of h) ≡ h
 hook_is hook.Init = refl
-hook_is hook.Done = refl
-hook_is hook.Error = refl
-hook_is hook.Finally = refl
-hook_is hook.Synced = refl
-hook_is hook.Confirmed = refl
-hook_is hook.Rejected = refl
-hook_is hook.Gap = refl
-hook_is hook.Skipped = refl
-hook_is hook.Overlap = refl
-hook_is hook.Undelivered = refl
+hook_is h = refl
 
 pub integer_again : (w : IntWord) → integer_of (token.Keyword (integer_keyword w)) ≡ Some w
 integer_again integer.Uint8 = refl
-integer_again integer.Uint16 = refl
-integer_again integer.Uint32 = refl
-integer_again integer.Uint64 = refl
-integer_again integer.Int8 = refl
-integer_again integer.Int16 = refl
-integer_again integer.Int32 = refl
-integer_again integer.Int64 = refl
+integer_again w = refl
 
 pub attribute_again : (a : AttributeName) → attribute_of (token.Attribute (attribute_token a)) ≡ Some a
 attribute_again attribute_name.Size = refl
-attribute_again attribute_name.MaxSize = refl
-attribute_again attribute_name.Eod = refl
-attribute_again attribute_name.Until = refl
-attribute_again attribute_name.UntilIncluding = refl
-attribute_again attribute_name.While = refl
-attribute_again attribute_name.Convert = refl
-attribute_again attribute_name.Requires = refl
-attribute_again attribute_name.Default = refl
-attribute_again attribute_name.ByteOrder = refl
-attribute_again attribute_name.BitOrder = refl
-attribute_again attribute_name.ParseFrom = refl
-attribute_again attribute_name.ParseAt = refl
-attribute_again attribute_name.Try = refl
-attribute_again attribute_name.Synchronize = refl
-
-pub some_is : {A : Type 0} {x y : A} → Some x ≡ Some y → x ≡ y
-some_is e = cc
+attribute_again a = refl
 
 -- the word that the tree of a token tells, which tells the same, and is of the same kind
-abbrev pub Again : Leaf → Form → Word → Type 0
+abbrev Again : Leaf → Form → Word → Type 0
 Again l form x = (w : Word) × (own_words form ≡ w ∷ []) × (number (entire w) ≡ number (entire x)) × (form_told l (read_as w) w ≡ Some form)
 
 pub mapped : {A B : Type 0} (f : A → B) (o : Option A) (y : B) → option_map f o ≡ Some y → (x : A) × (o ≡ Some x) × (f x ≡ y)
 mapped f None y e = absurd cc
-mapped f (Some x) y e = (x, refl, some_is e)
+mapped f (Some x) y e = (x, refl, some_equal e)
 
 pub event_told : (kind : TokenKind) (its : HookName → Form) (x : Word) (form : Form) → form_told (by_event its) kind x ≡ Some form → (h : Hook) × (kind ≡ token.Hook h) × (its (hook_name_of h) ≡ form)
-event_told (token.Hook h) its x form e = (h, refl, some_is e)
+event_told (token.Hook h) its x form e = (h, refl, some_equal e)
 event_told kind its x form e = absurd cc
 
+-- what holds of each alternative holds of the one that is told
+pub of_told : (P : Form → Type 0) (l : Leaf) (kind : TokenKind) (x : Word) (form : Form) → EachForm P l → form_told l kind x ≡ Some form → P form
+of_told P (always its) kind x form each e = subst P (some_equal e) each
+of_told P (by_name its) kind (name x) form each e = subst P (some_equal e) (each x)
+of_told P (by_string its) kind (text x) form each e = subst P (some_equal e) (each x)
+of_told P (by_bytes its) kind (bytes x) form each e = subst P (some_equal e) (each x)
+of_told P (by_regex its) kind (regex x) form each e = subst P (some_equal e) (each x)
+of_told P (by_number its) kind (numeral n) form each e = subst P (some_equal e) (each n)
+of_told P (by_integer its) kind x form each e = let (w, told, is) = mapped its (integer_of kind) form e in subst P is (each w)
+of_told P (by_event its) (token.Hook h) x form each e = subst P (some_equal e) (each (hook_name_of h))
+of_told P l kind x form each e = not_some e
+
 word_again : (l : Leaf) (form : Form) (x : Word) → LeafSays l → is_always l ≡ false → form_told l (read_as x) x ≡ Some form → Again l form x
-word_again (by_name its) form (name x) says other e = (name x, ap own_words (sym (some_is e)) ∙ says x, refl, e)
-word_again (by_string its) form (text x) says other e = (text x, ap own_words (sym (some_is e)) ∙ says x, refl, e)
-word_again (by_bytes its) form (bytes x) says other e = (bytes x, ap own_words (sym (some_is e)) ∙ says x, refl, e)
-word_again (by_regex its) form (regex x) says other e = (regex x, ap own_words (sym (some_is e)) ∙ says x, refl, e)
-word_again (by_number its) form (numeral n) says other e = (numeral n, ap own_words (sym (some_is e)) ∙ says n, refl, e)
+word_again (by_name its) form (name x) says other e = (name x, ap own_words (sym (some_equal e)) ∙ says x, refl, e)
+word_again (by_string its) form (text x) says other e = (text x, ap own_words (sym (some_equal e)) ∙ says x, refl, e)
+word_again (by_bytes its) form (bytes x) says other e = (bytes x, ap own_words (sym (some_equal e)) ∙ says x, refl, e)
+word_again (by_regex its) form (regex x) says other e = (regex x, ap own_words (sym (some_equal e)) ∙ says x, refl, e)
+word_again (by_number its) form (numeral n) says other e = (numeral n, ap own_words (sym (some_equal e)) ∙ says n, refl, e)
 word_again (by_integer its) form x says other e =
     let m = mapped its (integer_of (read_as x)) form e in
     (fixed (token.Keyword (integer_keyword m.0)), ap own_words (sym m.2) ∙ says m.0, ap (λ k. number_of (terminal_of k)) (sym (integer_is (read_as x) m.0 m.1)), ap (λ o. option_map its o) (integer_again m.0) ∙ ap Some m.2)

@@ -1,18 +1,14 @@
 -- An expression is read at each place from the words that stand there: by the part of the place's level from the words of
 -- a tighter expression, and from any words in parentheses.
 use Rattle.std.specs.Prelude.{◌≤◌, nat_lt, ◌&&◌, ◌||◌, not, if◌then◌else◌}
-use Rattle.std.proofs.Common.{◌≡◌, ℕ, zero, suc, length, List, [], ◌∷◌, map, Bool, true, Option, Some, None, refl, ap, sym, subst, inl, inr, ⊎_elim, arith}
+use Rattle.std.proofs.Common.{◌≡◌, ℕ, zero, suc, List, [], ◌∷◌, Bool, true, Option, Some, None, refl, ap, sym, subst, inl, inr, ⊎_elim, arith}
 use Rattle.std.proofs.lemmas.Bool.{cases_Bool, ltb-true, ltb-false, or_parts}
-use Rattle.std.proofs.lemmas.Nat.Bits.{bit_at-zero}
-use Rattle.std.specs.Int.{bit_at}
-use Rattle.sp_parser.specs.declared.symbol.Symbol.{Symbol}
-use Rattle.sp_parser.specs.declared.symbol.Symbol.TheVariants as symbol
-use Rattle.sp_parser.specs.Grammar.{productions_of, production_of, right, ahead}
 use Rattle.sp_lex.specs.declared.kinds.Mark.TheVariants as sign
 use Rattle.sp_lex.specs.declared.kinds.TokenKind.{TokenKind}
 use Rattle.sp_lex.specs.declared.kinds.TokenKind.TheVariants as kind
+use Rattle.sp_parser.specs.declared.symbol.Symbol.TheVariants as symbol
 use Rattle.sp_grammar.specs.declared.marks.Mark.TheVariants as build
-use Rattle.sp_grammar.specs.Written.{Part, part_number}
+use Rattle.sp_grammar.specs.Written.{Part, part_number, part as part_symbol}
 use Rattle.sp_grammar.specs.Own.{own}
 use Rattle.sp_ast.specs.Trees.{Tree}
 use Rattle.sp_build.specs.declared.groups.Group.TheVariants.{Expressions as expressions}
@@ -22,36 +18,32 @@ use Rattle.sp_print.specs.Canonical.{enclosed, at_place, needs_parentheses, leve
 use Rattle.sp_print.specs.Words.{fixed}
 use Rattle.sp_round_trip.specs.Told.{Telling}
 use Rattle.sp_round_trip.proofs.Held.{Pile, started, made, does, after, after_do, put, start}
-use Rattle.sp_round_trip.proofs.Goes.{Tok, entire, number, next, Goes, nothing, whole, mark, part, before}
+use Rattle.sp_round_trip.proofs.Goes.{Tok, entire, next, Goes, nothing, whole, mark, before, before_both}
 use Rattle.sp_round_trip.proofs.Shown.{level_part, MayPass, Spells}
-use Rattle.sp_round_trip.proofs.Words.{before_both}
-
--- an alternative that may be taken before anything is taken
-pub taken : (n p : ℕ) → nat_lt p (length (productions_of own n)) ≡ true → (production_of own n p).avoid ≡ 0 → {w v : List Tok} {s t : Pile} → Goes (right own n p) w s v t → Goes (symbol.Nonterminal n ∷ []) w s v t
-taken n p below free {w} g = part p (record { below = ltb-true p (length (productions_of own n)) below; allowed = subst (λ a. bit_at a (ahead (map number w)) ≡ 0) (sym free) (bit_at-zero (ahead (map number w))) }) g nothing
+use Rattle.sp_round_trip.proofs.Steps.{beside, chosen}
 
 -- what the part of the next level reads is read by the part of a level
 loosen : (level : ℕ) → 1 ≤ level → level ≤ 14 → {w v : List Tok} {s t : Pile} → Goes (symbol.Nonterminal (part_number (level_part (suc level))) ∷ []) w s v t → Goes (symbol.Nonterminal (part_number (level_part level)) ∷ []) w s v t
 unfolding own
 loosen zero low high g = absurd (omega (arith, low))
-loosen (suc zero) low high g = taken (part_number Part.Expr) 1 refl refl g
-loosen (suc (suc zero)) low high g = taken (part_number Part.Or) 1 refl refl g
-loosen (suc (suc (suc zero))) low high g = taken (part_number Part.And) 1 refl refl g
-loosen (suc (suc (suc (suc zero)))) low high g = taken (part_number Part.Membership) 2 refl refl g
-loosen (suc (suc (suc (suc (suc zero))))) low high g = taken (part_number Part.Equality) 2 refl refl g
-loosen (suc (suc (suc (suc (suc (suc zero)))))) low high g = taken (part_number Part.Order) 4 refl refl g
-loosen (suc (suc (suc (suc (suc (suc (suc zero))))))) low high g = taken (part_number Part.BitOr) 1 refl refl g
-loosen (suc (suc (suc (suc (suc (suc (suc (suc zero)))))))) low high g = taken (part_number Part.BitXor) 1 refl refl g
-loosen (suc (suc (suc (suc (suc (suc (suc (suc (suc zero))))))))) low high g = taken (part_number Part.BitAnd) 1 refl refl g
-loosen (suc (suc (suc (suc (suc (suc (suc (suc (suc (suc zero)))))))))) low high g = taken (part_number Part.Shift) 2 refl refl g
-loosen (suc (suc (suc (suc (suc (suc (suc (suc (suc (suc (suc zero))))))))))) low high g = taken (part_number Part.Sum) 2 refl refl g
-loosen (suc (suc (suc (suc (suc (suc (suc (suc (suc (suc (suc (suc zero)))))))))))) low high g = taken (part_number Part.Product) 3 refl refl g
-loosen (suc (suc (suc (suc (suc (suc (suc (suc (suc (suc (suc (suc (suc zero))))))))))))) low high g = taken (part_number Part.Prefix) 3 refl refl g
+loosen (suc zero) low high g = chosen (part_number Part.Expr) 1 (omega arith) refl g
+loosen (suc (suc zero)) low high g = chosen (part_number Part.Or) 1 (omega arith) refl g
+loosen (suc (suc (suc zero))) low high g = chosen (part_number Part.And) 1 (omega arith) refl g
+loosen (suc (suc (suc (suc zero)))) low high g = chosen (part_number Part.Membership) 2 (omega arith) refl g
+loosen (suc (suc (suc (suc (suc zero))))) low high g = chosen (part_number Part.Equality) 2 (omega arith) refl g
+loosen (suc (suc (suc (suc (suc (suc zero)))))) low high g = chosen (part_number Part.Order) 4 (omega arith) refl g
+loosen (suc (suc (suc (suc (suc (suc (suc zero))))))) low high g = chosen (part_number Part.BitOr) 1 (omega arith) refl g
+loosen (suc (suc (suc (suc (suc (suc (suc (suc zero)))))))) low high g = chosen (part_number Part.BitXor) 1 (omega arith) refl g
+loosen (suc (suc (suc (suc (suc (suc (suc (suc (suc zero))))))))) low high g = chosen (part_number Part.BitAnd) 1 (omega arith) refl g
+loosen (suc (suc (suc (suc (suc (suc (suc (suc (suc (suc zero)))))))))) low high g = chosen (part_number Part.Shift) 2 (omega arith) refl g
+loosen (suc (suc (suc (suc (suc (suc (suc (suc (suc (suc (suc zero))))))))))) low high g = chosen (part_number Part.Sum) 2 (omega arith) refl g
+loosen (suc (suc (suc (suc (suc (suc (suc (suc (suc (suc (suc (suc zero)))))))))))) low high g = chosen (part_number Part.Product) 3 (omega arith) refl g
+loosen (suc (suc (suc (suc (suc (suc (suc (suc (suc (suc (suc (suc (suc zero))))))))))))) low high g = chosen (part_number Part.Prefix) 3 (omega arith) refl g
 loosen (suc (suc (suc (suc (suc (suc (suc (suc (suc (suc (suc (suc (suc (suc zero)))))))))))))) low high g = g
 loosen (suc (suc (suc (suc (suc (suc (suc (suc (suc (suc (suc (suc (suc (suc (suc level))))))))))))))) low high g = absurd (omega (arith, high))
 
 -- what the part of a tighter level reads is read by the part of a looser one
-pub looser : (tight level : ℕ) → 1 ≤ level → level ≤ tight → tight ≤ 15 → {w v : List Tok} {s t : Pile} → Goes (symbol.Nonterminal (part_number (level_part tight)) ∷ []) w s v t → Goes (symbol.Nonterminal (part_number (level_part level)) ∷ []) w s v t
+looser : (tight level : ℕ) → 1 ≤ level → level ≤ tight → tight ≤ 15 → {w v : List Tok} {s t : Pile} → Goes (symbol.Nonterminal (part_number (level_part tight)) ∷ []) w s v t → Goes (symbol.Nonterminal (part_number (level_part level)) ∷ []) w s v t
 looser zero level low fits high g = absurd (omega (arith, low, fits))
 looser (suc tight) level low fits high {w} {v} {s} {t} g = elim (cases_Bool (nat_lt tight level)) [
   | inl y ↦
@@ -62,13 +54,9 @@ looser (suc tight) level low fits high {w} {v} {s} {t} g = elim (cases_Bool (nat
 ]
 
 -- a Primary is a postfix operand, and so an expression of each level
-pub primary_at : (level : ℕ) → 1 ≤ level → level ≤ 15 → {w v : List Tok} {s t : Pile} → Goes (symbol.Nonterminal (part_number Part.Primary) ∷ []) w s v t → Goes (symbol.Nonterminal (part_number (level_part level)) ∷ []) w s v t
+pub primary_at : (level : ℕ) → 1 ≤ level → level ≤ 15 → {w v : List Tok} {s t : Pile} → Goes (part_symbol Part.Primary ∷ []) w s v t → Goes (symbol.Nonterminal (part_number (level_part level)) ∷ []) w s v t
 unfolding own
-primary_at level low high g = looser 15 level low high (omega arith) (taken (part_number Part.Postfix) 4 refl refl g)
-
--- a reading with more behind it
-pub and_more : {n : ℕ} {ss : List Symbol} {w u v : List Tok} {s t z : Pile} → Goes (symbol.Nonterminal n ∷ []) w s u t → Goes ss u t v z → Goes (symbol.Nonterminal n ∷ ss) w s v z
-and_more (part p a g nothing) h = part p a g h
+primary_at level low high g = looser 15 level low high (omega arith) (chosen (part_number Part.Postfix) 4 (omega arith) refl g)
 
 -- what stands in parentheses is taken for what it is without them
 pub enclosed_does : (p q : Telling) (t : Tree) (s : Pile) → is_of expressions t ≡ true → does encloses q (made t ∷ started p ∷ s) ≡ Some (made t ∷ s)
@@ -83,8 +71,8 @@ at_enclosed t spells level low high last v s =
     let p : Telling = next (before (enclosed (spelled t) last) v) in
     let below : Pile = started p ∷ s in
     let words = looser (level_of t) 1 (omega arith) spells.low spells.high (spells.reads (Some (kind.Mark sign.LeftParen)) (close ∷ v) below (inr refl)) in
-    let words = subst (λ w. Goes (symbol.Nonterminal (part_number Part.Expr) ∷ []) w below (close ∷ v) (made t ∷ below)) (sym (before_both inside (fixed (kind.Mark sign.RightParen) ∷ []) v)) words in
-    primary_at level low high (taken (part_number Part.Primary) 9 refl refl (mark build.Begin refl refl (whole refl (and_more words (whole refl (mark build.Paren refl (enclosed_does p (next v) t s spells.is) nothing))))))
+    let words = subst (λ w. Goes (part_symbol Part.Expr ∷ []) w below (close ∷ v) (made t ∷ below)) (sym (before_both inside (fixed (kind.Mark sign.RightParen) ∷ []) v)) words in
+    primary_at level low high (chosen (part_number Part.Primary) 9 (omega arith) refl (mark build.Begin refl refl (whole refl (beside words (whole refl (mark build.Paren refl (enclosed_does p (next v) t s spells.is) nothing))))))
 
 -- an expression is read at its place
 pub at_level : (t : Tree) → Spells t → (level : ℕ) → 1 ≤ level → level ≤ 15 → (dividend : Bool) → (last : Option TokenKind) (v : List Tok) (s : Pile) → MayPass level v → Goes (symbol.Nonterminal (part_number (level_part level)) ∷ []) (before (at_place level dividend t (spelled t) last) v) s v (made t ∷ s)

@@ -23,9 +23,10 @@ use Rattle.sp_build.specs.Groups.{fits, is_of, is_in, are_of, is_node, tree_grou
 use Rattle.sp_build.specs.Rules.{Leaf, always, by_name, by_string, by_bytes, by_regex, by_number, by_integer, by_event, Rule, begins, leaves_out, takes, gathers, closes, closes_integer, closes_attribute, encloses, joins, wraps, rule}
 use Rattle.sp_build.specs.Tokens.{form_of, integer_of, attribute_of}
 use Rattle.sp_build.specs.Building.{Stack, Left, left, then_do, popped, gathered, popped_all, opened, parts_of, popped_parts, close_with, push, push_if, worded, token_of, stretch, stretch_from, done_by, marked, with_mark, go_on, all_done}
+use Rattle.sp_build.proofs.Shapes.{and_then}
 use Rattle.sp_round_trip.specs.Bare.{bare, bares, nowhere}
 use Rattle.sp_round_trip.specs.Told.{Telling, telling, word_of}
-use Rattle.sp_round_trip.proofs.Held.{Held, started, made, Pile, After, after, after_do, top, front, start, filled, put, put_if, closed, form_told, does, by_mark, on_pile, does_all}
+use Rattle.sp_round_trip.proofs.Held.{Held, started, made, Pile, After, after, after_do, top, front, start, filled, put, put_if, closed, form_told, does, does_all}
 
 -- what the token at a place tells
 abbrev pub tell_at : List ℕ → List Token → ℕ → Telling
@@ -33,16 +34,14 @@ tell_at source tokens n = telling source (token_of tokens n)
 
 group_bare : (t : Tree) → tree_group (bare t) ≡ tree_group t
 group_bare absent = refl
-group_bare (row ts) = refl
-group_bare (node form span ts) = refl
+group_bare t = refl
 
 pub of_bare : (g : Group) (t : Tree) → is_of g (bare t) ≡ is_of g t
 of_bare g t = ap (λ h. is_in g h) (group_bare t)
 
 node_bare : (t : Tree) → is_node (bare t) ≡ is_node t
 node_bare absent = refl
-node_bare (row ts) = refl
-node_bare (node form span ts) = refl
+node_bare t = refl
 
 are_bare : (g : Group) (ts : Trees) → are_of g (bares ts) ≡ are_of g ts
 are_bare g none = refl
@@ -63,8 +62,7 @@ bare_trees (t ∷ ts) = ap (λ rest. more (bare t) rest) (bare_trees ts)
 
 respan_bare : (span : _) (t : Tree) → bare (respan span t) ≡ bare t
 respan_bare span absent = refl
-respan_bare span (row ts) = refl
-respan_bare span (node form old ts) = refl
+respan_bare span t = refl
 
 if_some : {A B : Type 0} (k : A → B) (b : Bool) (x : A) → option_map k (if b then Some x else None) ≡ (if b then Some (k x) else None)
 if_some k true x = refl
@@ -136,9 +134,8 @@ module _ (tell : ℕ → Telling) where
       ∙ ap (λ x. let found : After (List Tree) = x in filled slots found.value found.rest) (front_held (is_of g) (of_bare g) s ts)
 
   start_held : (s : Stack) → option_map (kept tell) (opened s) ≡ start (piled tell s)
-  start_held [] = refl
   start_held (begun n ∷ s) = refl
-  start_held (built t ∷ s) = refl
+  start_held s = refl
 
   start_then : (s : Stack) (go : ℕ → Stack → Option Stack) (on : Telling → Pile → Option Pile) → ((p : ℕ) (below : Stack) → option_map (piled tell) (go p below) ≡ on (tell p) (piled tell below))
       → option_map (piled tell) (then_do (opened s) go) ≡ after_do (start (piled tell s)) on
@@ -197,11 +194,11 @@ module _ (source : List ℕ) (tokens : List Token) where
       then_held tell bare (piled tell) (popped (one g) s) (λ t rest. push (tree form (span_of t) (t ∷ [])) rest) (λ t rest. put (tree form nowhere (t ∷ [])) rest) (λ t rest. refl)
       ∙ ap (λ o. after_do o (λ t rest. put (tree form nowhere (t ∷ [])) rest)) (top_held tell (one g) s)
 
-  on_held : (o : Option Stack) (p : Option Pile) (go : Stack → Option Stack) (on : Pile → Option Pile) → option_map (piled tell) o ≡ p → ((s : Stack) → option_map (piled tell) (go s) ≡ on (piled tell s)) → option_map (piled tell) (go_on o go) ≡ on_pile p on
-  on_held None p go on e h = ap (λ q. on_pile q on) e
-  on_held (Some s) p go on e h = h s ∙ ap (λ q. on_pile q on) e
+  on_held : (o : Option Stack) (p : Option Pile) (go : Stack → Option Stack) (on : Pile → Option Pile) → option_map (piled tell) o ≡ p → ((s : Stack) → option_map (piled tell) (go s) ≡ on (piled tell s)) → option_map (piled tell) (go_on o go) ≡ and_then p on
+  on_held None p go on e h = ap (λ q. and_then q on) e
+  on_held (Some s) p go on e h = h s ∙ ap (λ q. and_then q on) e
 
-  mark_held : (o : Option Mark) (n : ℕ) (s : Stack) → option_map (piled tell) (with_mark o (λ m. marked m source tokens n s)) ≡ by_mark o (λ m. does (rule m) (tell n) (piled tell s))
+  mark_held : (o : Option Mark) (n : ℕ) (s : Stack) → option_map (piled tell) (with_mark o (λ m. marked m source tokens n s)) ≡ and_then o (λ m. does (rule m) (tell n) (piled tell s))
   mark_held None n s = refl
   mark_held (Some m) n s = done_held (rule m) n s
 
@@ -209,5 +206,5 @@ module _ (source : List ℕ) (tokens : List Token) where
   pub all_held : (events : List Event) (s : Stack) → option_map (piled tell) (all_done source tokens events s) ≡ does_all tell events (piled tell s)
   all_held [] s = refl
   all_held (e ∷ events) s =
-      on_held (with_mark (mark_with e.mark) (λ m. marked m source tokens e.at s)) (by_mark (mark_with e.mark) (λ m. does (rule m) (tell e.at) (piled tell s)))
+      on_held (with_mark (mark_with e.mark) (λ m. marked m source tokens e.at s)) (and_then (mark_with e.mark) (λ m. does (rule m) (tell e.at) (piled tell s)))
       (λ next. all_done source tokens events next) (λ next. does_all tell events next) (mark_held (mark_with e.mark) e.at s) (λ next. all_held events next)

@@ -7,8 +7,7 @@ use Rattle.sp_print.specs.Canonical.{Writing, chain, last_kind}
 use Rattle.sp_print.specs.Words.{Word, kind_of}
 use Rattle.sp_round_trip.specs.Told.{Telling}
 use Rattle.sp_round_trip.proofs.Held.{Pile, started}
-use Rattle.sp_round_trip.proofs.Goes.{pushed}
-use Rattle.sp_round_trip.proofs.Closing.{pushed_append}
+use Rattle.sp_round_trip.proofs.Goes.{pushed, pushed_append}
 use Rattle.sp_round_trip.proofs.Chunks.{Chunk, Owns, chunk_words, Split, no_chunk, a_chunk, wrote}
 use Rattle.sp_round_trip.proofs.Advance.{State, put_on}
 
@@ -30,7 +29,7 @@ pub chain_same : (x y z : Writing) → Same y z → Same (chain x y) (chain x z)
 chain_same x y z same last = ap (λ ws. x last ++ ws) (same (last_kind last (x last)))
 
 -- chunks behind others
-pub joined : {cs ds : List Chunk} {ts us : List Tree} (x : Split cs ts) (y : Split ds us) → (both : Split (cs ++ ds) (ts ++ us)) × Same (wrote both) (chain (wrote x) (wrote y))
+joined : {cs ds : List Chunk} {ts us : List Tree} (x : Split cs ts) (y : Split ds us) → (both : Split (cs ++ ds) (ts ++ us)) × Same (wrote both) (chain (wrote x) (wrote y))
 joined no_chunk y = (y, λ last. refl)
 joined {cs = c ∷ cs} {ds = ds} {us = us} (a_chunk {ts = ts} vs owns rest) y =
     let more = joined rest y in

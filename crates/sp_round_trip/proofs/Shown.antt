@@ -1,18 +1,18 @@
 -- How the trees of each part of the grammar are written, and what is claimed of a part that was read: that what it
 -- built is read from these words.
 use Rattle.std.specs.Prelude.{◌≤◌, ◌⊎◌, if◌then◌else◌}
-use Rattle.std.proofs.Common.{◌≡◌, ℕ, List, [], ◌∷◌, ◌++◌, map, get_or, Bool, true, false, ◌==◌, Option, Some, None}
-use Rattle.sp_parser.specs.declared.symbol.Symbol.{Symbol}
-use Rattle.sp_parser.specs.declared.symbol.Symbol.TheVariants as symbol
-use Rattle.sp_parser.specs.Grammar.{takes, First, All}
+use Rattle.std.proofs.Common.{◌≡◌, ℕ, List, [], ◌∷◌, ◌++◌, map, get_or, Bool, true, false, ◌==◌, Option, Some, None, subst, eqb-true}
 use Rattle.sp_lex.specs.declared.kinds.Mark.TheVariants as sign
 use Rattle.sp_lex.specs.declared.kinds.TokenKind.{TokenKind}
 use Rattle.sp_lex.specs.declared.kinds.TokenKind.TheVariants as kind
+use Rattle.sp_parser.specs.declared.symbol.Symbol.{Symbol}
+use Rattle.sp_parser.specs.declared.symbol.Symbol.TheVariants as symbol
+use Rattle.sp_parser.specs.Grammar.{takes, First, All}
 use Rattle.sp_grammar.specs.declared.terminals.Terminal.{Terminal}
 use Rattle.sp_grammar.specs.declared.terminals.Terminal.TheVariants as token
 use Rattle.sp_grammar.specs.Marks.{mark_with}
 use Rattle.sp_grammar.specs.Terminals.{terminal_number}
-use Rattle.sp_grammar.specs.Written.{Part, part_number, all_parts}
+use Rattle.sp_grammar.specs.Written.{Part, part_number, all_parts, part as part_symbol}
 use Rattle.sp_ast.specs.declared.forms.Form.TheVariants as form_is
 use Rattle.sp_ast.specs.declared.forms.StmtForm.TheVariants as stmt_is
 use Rattle.sp_ast.specs.Trees.{Tree, absent, row, trees, tree}
@@ -23,14 +23,14 @@ use Rattle.sp_print.specs.declared.layouts.Frame.{Frame}
 use Rattle.sp_print.specs.declared.layouts.Frame.TheVariants as frame
 use Rattle.sp_print.specs.declared.layouts.Separator.{Separator}
 use Rattle.sp_print.specs.declared.layouts.Separator.TheVariants as separator
-use Rattle.sp_print.specs.Canonical.{Writing, nothing as no_words, chain, kinds, enclosed, at_place, framed, is_empty_row, level_of, spelled, rowed, parts_of, part_of}
-use Rattle.sp_print.specs.Canonical.{listed as written_listed, followed as written_followed}
+use Rattle.sp_print.specs.Canonical.{Writing, nothing as no_words, chain, kinds, enclosed, at_place, framed, is_empty_row, level_of, spelled, rowed, parts_of, part_of, listed as written_listed, followed as written_followed}
 use Rattle.sp_print.specs.Words.{Word}
 use Rattle.sp_printed_words.specs.Modules.{lines_of}
 use Rattle.sp_round_trip.specs.Bare.{nowhere}
 use Rattle.sp_round_trip.specs.Told.{Telling}
 use Rattle.sp_round_trip.proofs.Held.{Pile, started, made, does}
 use Rattle.sp_round_trip.proofs.Goes.{Tok, entire, half, number, next, coming, Goes, before, pushed}
+use Rattle.sp_build.proofs.Told.{never}
 
 -- how trees are written
 pub data Yield : Type 0 where
@@ -220,6 +220,15 @@ abbrev pub Avoids : Option Terminal → List Tok → Type 0
 Avoids None v = Unit {0}
 Avoids (Some e) v = (coming v == terminal_number e) ≡ false
 
+-- whether it is this token that is avoided
+abbrev pub is_avoided : Option Terminal → Terminal → Bool
+is_avoided None e = false
+is_avoided (Some f) e = terminal_number f == terminal_number e
+
+pub avoided_there : (o : Option Terminal) (e : Terminal) (v : List Tok) → is_avoided o e ≡ true → Avoids o v → Avoids (Some e) v
+avoided_there None e v ok avoids = never ok
+avoided_there (Some f) e v ok avoids = subst (λ n. (coming v == n) ≡ false) (eqb-true (terminal_number f) (terminal_number e) ok) avoids
+
 -- what may come behind a part, behind which this kind came in the original
 abbrev pub MayFollow : ℕ → ℕ → List Tok → Type 0
 MayFollow n came v = Avoids (avoided n) v ⊎ ((is_kept n ≡ true) × (came ≡ terminal_number token.Else))
@@ -244,12 +253,12 @@ pub record Spells (t : Tree) : Type 0 where
   pub reads : (last : Option TokenKind) (v : List Tok) (s : Pile) → MayPass (level_of t) v → Goes (symbol.Nonterminal (part_number (level_part (level_of t))) ∷ []) (before (spelled t last) v) s v (made t ∷ s)
 
 -- The rest of a path of a hook, behind the names xs: more names, and an event or none.
-abbrev pub OnPathClaim : Pile → Pile → Type 0
+abbrev OnPathClaim : Pile → Pile → Type 0
 OnPathClaim s t =
     (xs : List Tree) (p : Telling) (b : Pile) → s ≡ pushed xs (started p ∷ b)
     → (ys : List Tree) × (e : Tree) × (t ≡ made e ∷ made (tree form_is.Path nowhere (xs ++ ys)) ∷ b)
     × ((last : Option TokenKind) (v : List Tok) (q : Telling) (c : Pile)
-    → Goes (symbol.Nonterminal (part_number Part.OnPath) ∷ []) (before (chain (written_followed separator.Scope (parts_of (trees ys))) (framed frame.Scope (part_of e)) last) v) (pushed xs (started q ∷ c)) v (made e ∷ made (tree form_is.Path nowhere (xs ++ ys)) ∷ c))
+    → Goes (part_symbol Part.OnPath ∷ []) (before (chain (written_followed separator.Scope (parts_of (trees ys))) (framed frame.Scope (part_of e)) last) v) (pushed xs (started q ∷ c)) v (made e ∷ made (tree form_is.Path nowhere (xs ++ ys)) ∷ c))
 
 -- The rest of an `if`, behind the branches bs: more branches, and an `else` or none.
 abbrev pub OptElseClaim : List Tok → Pile → Pile → List Tok → Type 0
@@ -258,14 +267,14 @@ OptElseClaim w s t u =
     → (cs : List Tree) × (e : Tree) × (t ≡ made (tree (form_is.Stmt stmt_is.If) nowhere (row (trees (bs ++ cs)) ∷ e ∷ [])) ∷ b)
     × ((coming w ≡ terminal_number token.Else) ⊎ ((cs ≡ []) × (e ≡ absent) × (coming w ≡ coming u)))
     × ((last : Option TokenKind) (v : List Tok) (x y : Telling) (c : Pile) → MayFollow (part_number Part.Stmt) (coming u) v
-    → Goes (symbol.Nonterminal (part_number Part.OptElse) ∷ []) (before (chain (written_followed separator.ElseIf (parts_of (trees cs))) (framed frame.Else (part_of e)) last) v) (pushed bs (started x ∷ started y ∷ c)) v (made (tree (form_is.Stmt stmt_is.If) nowhere (row (trees (bs ++ cs)) ∷ e ∷ [])) ∷ c))
+    → Goes (part_symbol Part.OptElse ∷ []) (before (chain (written_followed separator.ElseIf (parts_of (trees cs))) (framed frame.Else (part_of e)) last) v) (pushed bs (started x ∷ started y ∷ c)) v (made (tree (form_is.Stmt stmt_is.If) nowhere (row (trees (bs ++ cs)) ∷ e ∷ [])) ∷ c))
 
 -- The arguments of a `new`: a row of trees. Where it is empty nothing stands there, and then no `(` may come behind.
-abbrev pub NewArgsClaim : Pile → Pile → Type 0
+abbrev NewArgsClaim : Pile → Pile → Type 0
 NewArgsClaim s t =
     (us : List Tree) × (t ≡ made (row (trees us)) ∷ s)
     × ((last : Option TokenKind) (v : List Tok) (b : Pile) → (us ≡ [] → Avoids (Some token.LeftParen) v)
-    → Goes (symbol.Nonterminal (part_number Part.NewArgs) ∷ []) (before (yielded arguments (row (trees us) ∷ []) last) v) b v (made (row (trees us)) ∷ b))
+    → Goes (part_symbol Part.NewArgs ∷ []) (before (yielded arguments (row (trees us) ∷ []) last) v) b v (made (row (trees us)) ∷ b))
 
 -- words of lines, one behind the other
 abbrev pub flat : List (List Word) → List Word
@@ -273,10 +282,10 @@ flat [] = []
 flat (ws ∷ lines) = ws ++ flat lines
 
 -- declarations, each as a line
-abbrev pub DeclsClaim : Pile → Pile → Type 0
+abbrev DeclsClaim : Pile → Pile → Type 0
 DeclsClaim s t =
     (ts : List Tree) × (t ≡ pushed ts s)
-    × ((v : List Tok) (b : Pile) → Goes (symbol.Nonterminal (part_number Part.Decls) ∷ []) (before (flat (lines_of (trees ts))) v) b v (pushed ts b))
+    × ((v : List Tok) (b : Pile) → Goes (part_symbol Part.Decls ∷ []) (before (flat (lines_of (trees ts))) v) b v (pushed ts b))
 
 -- what is claimed of a part that was read from w to u, and from the pile s to the pile t
 abbrev pub ClaimAs : Manner → ℕ → List Tok → Pile → Pile → List Tok → Type 0

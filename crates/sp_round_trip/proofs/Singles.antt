@@ -1,4 +1,4 @@
--- The kind of token that each terminal of the grammar is, where it is just one.
+-- The kind of token that each terminal of the grammar is, where it is only one.
 use Rattle.std.proofs.Common.{◌≡◌, ℕ, List, [], ◌∷◌, get_or, Bool, true, false, refl}
 use Rattle.sp_lex.specs.declared.kinds.Attribute.TheVariants as attribute
 use Rattle.sp_lex.specs.declared.kinds.Keyword.TheVariants as keyword
@@ -7,6 +7,7 @@ use Rattle.sp_lex.specs.declared.kinds.Property.TheVariants as property
 use Rattle.sp_lex.specs.declared.kinds.TokenKind.{TokenKind}
 use Rattle.sp_lex.specs.declared.kinds.TokenKind.TheVariants as token
 use Rattle.sp_runs.specs.Kinds.{number_of, terminal_of}
+use Rattle.sp_build.proofs.Told.{never}
 
 -- the kinds in the order of the terminals; a name where a terminal is no kind or several
 abbrev all_kinds : List TokenKind
@@ -32,105 +33,18 @@ is_single (token.Attribute attribute.Priority) = true
 is_single _ = false
 
 pub kind_again : (k : TokenKind) → is_single k ≡ true → kind_for (number_of (terminal_of k)) ≡ k
-kind_again (token.Keyword keyword.Module) e = refl
-kind_again (token.Keyword keyword.Import) e = refl
-kind_again (token.Keyword keyword.Public) e = refl
-kind_again (token.Keyword keyword.Type) e = refl
-kind_again (token.Keyword keyword.Const) e = refl
-kind_again (token.Keyword keyword.Function) e = refl
-kind_again (token.Keyword keyword.On) e = refl
-kind_again (token.Keyword keyword.Inout) e = refl
-kind_again (token.Keyword keyword.Unit) e = refl
-kind_again (token.Keyword keyword.Enum) e = refl
-kind_again (token.Keyword keyword.Bitfield) e = refl
-kind_again (token.Keyword keyword.Tuple) e = refl
-kind_again (token.Keyword keyword.Vector) e = refl
-kind_again (token.Keyword keyword.Map) e = refl
-kind_again (token.Keyword keyword.Set) e = refl
-kind_again (token.Keyword keyword.Bool) e = refl
-kind_again (token.Keyword keyword.Bytes) e = refl
-kind_again (token.Keyword keyword.String) e = refl
-kind_again (token.Keyword keyword.Void) e = refl
-kind_again (token.Keyword keyword.Uint8) e = absurd (let q : false ≡ true = e in cc)
-kind_again (token.Keyword keyword.Uint16) e = absurd (let q : false ≡ true = e in cc)
-kind_again (token.Keyword keyword.Uint32) e = absurd (let q : false ≡ true = e in cc)
-kind_again (token.Keyword keyword.Uint64) e = absurd (let q : false ≡ true = e in cc)
-kind_again (token.Keyword keyword.Int8) e = absurd (let q : false ≡ true = e in cc)
-kind_again (token.Keyword keyword.Int16) e = absurd (let q : false ≡ true = e in cc)
-kind_again (token.Keyword keyword.Int32) e = absurd (let q : false ≡ true = e in cc)
-kind_again (token.Keyword keyword.Int64) e = absurd (let q : false ≡ true = e in cc)
-kind_again (token.Keyword keyword.Var) e = refl
-kind_again (token.Keyword keyword.Sink) e = refl
-kind_again (token.Keyword keyword.Switch) e = refl
-kind_again (token.Keyword keyword.Case) e = refl
-kind_again (token.Keyword keyword.Default) e = refl
-kind_again (token.Keyword keyword.If) e = refl
-kind_again (token.Keyword keyword.Else) e = refl
-kind_again (token.Keyword keyword.While) e = refl
-kind_again (token.Keyword keyword.For) e = refl
-kind_again (token.Keyword keyword.In) e = refl
-kind_again (token.Keyword keyword.Foreach) e = refl
-kind_again (token.Keyword keyword.Local) e = refl
-kind_again (token.Keyword keyword.Return) e = refl
-kind_again (token.Keyword keyword.Break) e = refl
-kind_again (token.Keyword keyword.Continue) e = refl
-kind_again (token.Keyword keyword.Print) e = refl
-kind_again (token.Keyword keyword.Assert) e = refl
-kind_again (token.Keyword keyword.Throw) e = refl
-kind_again (token.Keyword keyword.Add) e = refl
-kind_again (token.Keyword keyword.Delete) e = refl
-kind_again (token.Keyword keyword.Stop) e = refl
-kind_again (token.Keyword keyword.Confirm) e = refl
-kind_again (token.Keyword keyword.Reject) e = refl
-kind_again (token.Keyword keyword.New) e = refl
-kind_again (token.Keyword keyword.Cast) e = refl
-kind_again (token.Keyword keyword.Itself) e = refl
-kind_again (token.Keyword keyword.True) e = refl
-kind_again (token.Keyword keyword.False) e = refl
-kind_again (token.Mark mark.ColonColon) e = refl
+kind_again (token.Keyword keyword.Uint8) e = never e
+kind_again (token.Keyword keyword.Uint16) e = never e
+kind_again (token.Keyword keyword.Uint32) e = never e
+kind_again (token.Keyword keyword.Uint64) e = never e
+kind_again (token.Keyword keyword.Int8) e = never e
+kind_again (token.Keyword keyword.Int16) e = never e
+kind_again (token.Keyword keyword.Int32) e = never e
+kind_again (token.Keyword keyword.Int64) e = never e
+kind_again (token.Keyword k) e = refl
 kind_again (token.Mark mark.Colon) e = refl
-kind_again (token.Mark mark.Semicolon) e = refl
-kind_again (token.Mark mark.Comma) e = refl
-kind_again (token.Mark mark.Dot) e = refl
-kind_again (token.Mark mark.QuestionDot) e = refl
-kind_again (token.Mark mark.Question) e = refl
-kind_again (token.Mark mark.LeftParen) e = refl
-kind_again (token.Mark mark.RightParen) e = refl
-kind_again (token.Mark mark.LeftBracket) e = refl
-kind_again (token.Mark mark.RightBracket) e = refl
-kind_again (token.Mark mark.LeftBrace) e = refl
-kind_again (token.Mark mark.RightBrace) e = refl
-kind_again (token.Mark mark.Arrow) e = refl
-kind_again (token.Mark mark.DotDot) e = refl
-kind_again (token.Mark mark.DollarDollar) e = refl
-kind_again (token.Mark mark.Equal) e = refl
-kind_again (token.Mark mark.PlusEqual) e = refl
-kind_again (token.Mark mark.MinusEqual) e = refl
-kind_again (token.Mark mark.EqualEqual) e = refl
-kind_again (token.Mark mark.NotEqual) e = refl
-kind_again (token.Mark mark.Less) e = refl
-kind_again (token.Mark mark.LessEqual) e = refl
-kind_again (token.Mark mark.Greater) e = refl
-kind_again (token.Mark mark.GreaterEqual) e = refl
-kind_again (token.Mark mark.ShiftLeft) e = refl
-kind_again (token.Mark mark.ShiftRight) e = refl
-kind_again (token.Mark mark.Plus) e = refl
-kind_again (token.Mark mark.Minus) e = refl
-kind_again (token.Mark mark.Star) e = refl
-kind_again (token.Mark mark.Slash) e = refl
-kind_again (token.Mark mark.Percent) e = refl
-kind_again (token.Mark mark.Ampersand) e = refl
-kind_again (token.Mark mark.Bar) e = refl
-kind_again (token.Mark mark.Caret) e = refl
-kind_again (token.Mark mark.Tilde) e = refl
-kind_again (token.Mark mark.Bang) e = refl
-kind_again (token.Mark mark.AndAnd) e = refl
-kind_again (token.Mark mark.OrOr) e = refl
-kind_again (token.Mark mark.NotIn) e = refl
-kind_again (token.Property property.ByteOrder) e = refl
-kind_again (token.Property property.SpicyVersion) e = refl
+kind_again (token.Mark m) e = refl
 kind_again (token.Property property.Filter) e = refl
-kind_again (token.Property property.MimeType) e = refl
-kind_again (token.Property property.Description) e = refl
+kind_again (token.Property p) e = refl
 kind_again (token.Attribute attribute.Priority) e = refl
-kind_again _ e = absurd (let q : false ≡ true = e in cc)
+kind_again _ e = never e

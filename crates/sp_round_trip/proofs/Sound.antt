@@ -1,12 +1,12 @@
 -- What the test of a production finds is so: its trees can be read again, from what the chunks on the pile are written as.
 use Rattle.std.specs.Prelude.{not, nat_lt, ◌&&◌, ◌||◌, ◌⊎◌, ◌≤◌, ◌<◌, if◌then◌else◌}
 use Rattle.std.proofs.Common.{◌≡◌, ℕ, List, [], ◌∷◌, ◌++◌, Bool, true, false, ◌==◌, Option, Some, None, cond, refl, sym, ◌∙◌, ap, subst, inl, inr, arith}
-use Rattle.std.proofs.lemmas.Bool.{and_parts, cases_Bool, eqb-true, ltb-true}
+use Rattle.std.proofs.lemmas.Bool.{and_parts, cases_Bool, ltb-true, not-true}
 use Rattle.std.proofs.lemmas.List.{append-nil, append_assoc}
+use Rattle.sp_lex.specs.declared.kinds.TokenKind.{TokenKind}
 use Rattle.sp_parser.specs.declared.symbol.Symbol.{Symbol}
 use Rattle.sp_parser.specs.declared.symbol.Symbol.TheVariants as symbol
-use Rattle.sp_parser.specs.Grammar.{Take, Nothing, First, All, takes, CLOSE, SECOND}
-use Rattle.sp_lex.specs.declared.kinds.TokenKind.{TokenKind}
+use Rattle.sp_parser.specs.Grammar.{Nothing, First, All, takes, CLOSE, SECOND}
 use Rattle.sp_grammar.specs.declared.marks.Mark.{Mark}
 use Rattle.sp_grammar.specs.declared.terminals.Terminal.{Terminal}
 use Rattle.sp_grammar.specs.declared.terminals.Terminal.TheVariants as token
@@ -17,27 +17,22 @@ use Rattle.sp_ast.specs.Trees.{Tree, node, absent, row}
 use Rattle.sp_build.specs.declared.groups.Group.TheVariants.{Expressions as expressions}
 use Rattle.sp_build.specs.Groups.{is_of, is_node}
 use Rattle.sp_build.specs.Rules.{rule}
+use Rattle.sp_build.proofs.Standing.{some_equal, not_some, if_some}
+use Rattle.sp_build.proofs.Told.{never}
+use Rattle.sp_build.proofs.Shapes.{and_then}
 use Rattle.sp_print.specs.Canonical.{last_kind}
 use Rattle.sp_print.specs.Words.{Word, fixed}
 use Rattle.sp_round_trip.proofs.Held.{Pile, does}
-use Rattle.sp_round_trip.proofs.Goes.{Tok, entire, number, next, coming, before, pushed, Goes, nothing, whole, mark}
-use Rattle.sp_round_trip.proofs.Words.{before_both}
-use Rattle.sp_round_trip.proofs.Levels.{and_more}
-use Rattle.sp_round_trip.proofs.Shown.{Yield, one, Manner, plain, expression, in_lines, path_rest, if_rest, new_rest, other, manner_of, avoided, is_kept, Avoids, Fits, Shows, yielded, ClaimAs, Trace, ended, token_passed, half_passed, mark_passed, part_passed}
+use Rattle.sp_round_trip.proofs.Goes.{Tok, entire, number, next, coming, before, pushed, Goes, nothing, whole, mark, before_both}
+use Rattle.sp_round_trip.proofs.Shown.{Yield, one, Manner, plain, expression, manner_of, avoided, is_kept, Avoids, Fits, Shows, yielded, ClaimAs, Trace, ended, token_passed, half_passed, mark_passed, part_passed, is_avoided, avoided_there}
 use Rattle.sp_round_trip.proofs.Expressions.{expression_shows}
 use Rattle.sp_round_trip.proofs.Singles.{kind_for}
 use Rattle.sp_round_trip.proofs.Chunks.{word, tree, wrote}
-use Rattle.sp_round_trip.proofs.Advance.{State, add, Move, stays, eats, stuck, Guard, is_watched, is_all, are_marks, is_avoided, may_be_empty, comes_first, next_fits, move, move_at, then_go, with_yield, yield_of, is_read, shown_number, advance}
-use Rattle.sp_round_trip.proofs.Firsts.{first_tested, paren_tested, else_tested, comes_behind}
+use Rattle.sp_round_trip.proofs.Advance.{State, add, Move, stays, eats, stuck, Guard, is_watched, are_marks, may_be_empty, comes_first, next_fits, move, move_at, then_go, yield_of, is_read, shown_number, advance}
+use Rattle.sp_round_trip.proofs.Firsts.{first_tested, paren_tested, else_tested, comes_behind, follows}
 use Rattle.sp_round_trip.proofs.Piles.{chain_same, alone, Piled, said, Copies, grown}
-use Rattle.sp_round_trip.proofs.Moves.{rule_plain, stayed, ate, eats_itself, not_second}
-
-some_is : {A : Type 0} {x y : A} → Some x ≡ Some y → x ≡ y
-some_is e = cc
-
-if_some : {A : Type 0} (c : Bool) (o : Option A) (y : A) → (if c then o else None) ≡ Some y → (c ≡ true) × (o ≡ Some y)
-if_some true o y e = (refl, e)
-if_some false o y e = absurd (let q : None ≡ Some _ = e in cc)
+use Rattle.sp_round_trip.proofs.Moves.{rule_plain, stayed, ate, eats_itself, not_second, all_taken}
+use Rattle.sp_round_trip.proofs.Steps.{beside, never_first, taken_by}
 
 -- what may come behind the symbols
 abbrev pub Guarded : Guard → ℕ → List Tok → Type 0
@@ -57,7 +52,7 @@ words_on x y z ws vs e h = h ∙ ap (λ q. q ++ vs) e ∙ append_assoc x ws vs
 
 -- what a move does, by what it is
 stay_cases : (m : Move) (stay eat : State → Option State) (τ : State) → then_go m stay eat ≡ Some τ → ((σ : State) × (m ≡ stays σ) × (stay σ ≡ Some τ)) ⊎ ((σ : State) × (m ≡ eats σ) × (eat σ ≡ Some τ))
-stay_cases stuck stay eat τ e = absurd (let q : None ≡ Some _ = e in cc)
+stay_cases stuck stay eat τ e = not_some e
 stay_cases (stays σ) stay eat τ e = inl (σ, refl, e)
 stay_cases (eats σ) stay eat τ e = inr (σ, refl, e)
 
@@ -79,12 +74,8 @@ stay_on guard ss n m follow {σ = σ} next_state τ w u is moves done g more =
 first_half_closes : (e k : ℕ) → takes e k ≡ First → takes e SECOND ≡ Nothing → {A : Type 0} → A
 first_half_closes e k passed none = elim (cases_Bool (e == CLOSE)) [
   | inl y ↦ absurd (let q : Nothing ≡ All = sym none ∙ ap (λ c. cond c (takes CLOSE SECOND) (cond (e == SECOND) All Nothing)) y in cc)
-  | inr n ↦ absurd (half_or_all (e == k) (sym (ap (λ c. cond c (takes CLOSE k) (cond (e == k) All Nothing)) n) ∙ passed))
+  | inr n ↦ absurd (never_first (e == k) (sym (taken_by e k n) ∙ passed))
 ]
-  where
-    half_or_all : (c : Bool) → cond c All Nothing ≡ First → ⊥
-    half_or_all true h = cc
-    half_or_all false h = cc
 
 -- a mark that eats the token that comes, and what comes behind that
 eat_on : (guard : Guard) (ss : List Symbol) (n e : ℕ) (m : Mark) {σ : State} (next_state τ : State) (x : Tok) (w u : List Tok) {b s t z : Pile} → mark_with n ≡ Some m → move (rule m) (Some e) σ ≡ eats next_state → takes e (number x) ≡ All → does (rule m) (next (x ∷ w)) s ≡ Some t → (g : Piled σ b s)
@@ -101,11 +92,6 @@ eat_on guard ss n e m {σ = σ} next_state τ x w u is moves passed done g more 
       ),
     )
 
-is_all_taken : (t : Take) → is_all t ≡ true → t ≡ All
-is_all_taken All h = refl
-is_all_taken First h = absurd (let q : false ≡ true = h in cc)
-is_all_taken Nothing h = absurd (let q : false ≡ true = h in cc)
-
 -- a token, and what comes behind it
 token_on : (guard : Guard) (ss : List Symbol) (e : ℕ) {σ : State} (τ : State) (u : List Tok) {b s z : Pile} → is_read e ≡ true → (g : Piled σ b s)
     → ((h : Piled (add (word (shown_number e)) σ) b s) → Sound guard ss u τ h z) → Sound guard (symbol.Terminal e ∷ ss) u τ g z
@@ -119,32 +105,20 @@ token_on guard ss e τ u ok g more =
         fixed k ∷ ws,
         words_on (said g last) (said h last) (said now last) (fixed k ∷ []) ws (same last ∙ chain_same (said g) (wrote lone.0) (λ l. fixed k ∷ []) lone.1 last) words,
         λ c z v copy may.
-            let (y, read, copied) = goes c z v (copies c z copy) may in (y, whole (is_all_taken (takes e (number_of (terminal_of k))) ok) read, copied),
+            let (y, read, copied) = goes c z v (copies c z copy) may in (y, whole (all_taken (takes e (number_of (terminal_of k))) ok) read, copied),
       ),
     )
 
 watched_tested : (e : Terminal) → is_watched e ≡ true → first_tested (terminal_number e) ≡ true
 watched_tested token.LeftParen ok = paren_tested
 watched_tested token.Else ok = else_tested
-watched_tested e ok = absurd (let q : false ≡ true = ok in cc)
+watched_tested e ok = never ok
 
 marks_only : (ss : List Symbol) {w v : List Tok} {s t : Pile} → are_marks ss ≡ true → Trace ss w s v t → w ≡ v
 marks_only [] ok ended = refl
 marks_only (symbol.Mark m ∷ ss) ok (mark_passed n is done more) = marks_only ss ok more
-marks_only (symbol.Terminal e ∷ ss) ok tr = absurd (let q : false ≡ true = ok in cc)
-marks_only (symbol.Nonterminal e ∷ ss) ok tr = absurd (let q : false ≡ true = ok in cc)
-
-holds_then : (a b : Bool) → (not a || b) ≡ true → a ≡ true → b ≡ true
-holds_then true b h e = h
-holds_then false b h e = absurd (let q : false ≡ true = e in cc)
-
-not_true : {x : Bool} → not x ≡ true → x ≡ false
-not_true {x = true} e = cc
-not_true {x = false} e = refl
-
-avoided_there : (o : Option Terminal) (e : Terminal) (v : List Tok) → is_avoided o e ≡ true → Avoids o v → Avoids (Some e) v
-avoided_there None e v ok avoids = absurd (let q : false ≡ true = ok in cc)
-avoided_there (Some f) e v ok avoids = subst (λ n. (coming v == n) ≡ false) (eqb-true (terminal_number f) (terminal_number e) ok) avoids
+marks_only (symbol.Terminal e ∷ ss) ok tr = never ok
+marks_only (symbol.Nonterminal e ∷ ss) ok tr = never ok
 
 -- what may come behind a part is what comes there
 may_come : (o : Option Terminal) (guard : Guard) (n : ℕ) (ss : List Symbol) {u1 u r v : List Tok} {s t y z : Pile} → next_fits o guard n ss ≡ true → Goes ss r y v z → Trace ss u1 s u t → Guarded guard (coming u) v
@@ -153,14 +127,14 @@ may_come None guard n ss ok goes tr may = inl tt
 may_come (Some e) guard n ss {r = r} {v = v} ok goes tr may =
     let all = and_parts (is_watched e && not (comes_first (terminal_number e) ss)) (not (may_be_empty ss) || (is_avoided guard.avoid e && (not guard.kept || (is_kept n && are_marks ss)))) ok in
     let first = and_parts (is_watched e) (not (comes_first (terminal_number e) ss)) all.0 in
-    elim (comes_behind (terminal_number e) (watched_tested e first.0) goes (not_true first.1)) [
+    elim (comes_behind (terminal_number e) (watched_tested e first.0) goes (not-true _ first.1)) [
       | inl differs ↦ inl differs
       | inr empty ↦
-          let here = and_parts (is_avoided guard.avoid e) (not guard.kept || (is_kept n && are_marks ss)) (holds_then (may_be_empty ss) (is_avoided guard.avoid e && (not guard.kept || (is_kept n && are_marks ss))) all.1 empty.1) in
+          let here = and_parts (is_avoided guard.avoid e) (not guard.kept || (is_kept n && are_marks ss)) (follows (may_be_empty ss) (is_avoided guard.avoid e && (not guard.kept || (is_kept n && are_marks ss))) all.1 empty.1) in
           elim may [
             | inl avoids ↦ inl (subst (λ q. Avoids (Some e) q) (sym empty.0) (avoided_there guard.avoid e v here.0 avoids))
             | inr kept ↦
-                let marks = and_parts (is_kept n) (are_marks ss) (holds_then guard.kept (is_kept n && are_marks ss) here.1 kept.0) in
+                let marks = and_parts (is_kept n) (are_marks ss) (follows guard.kept (is_kept n && are_marks ss) here.1 kept.0) in
                 inr (marks.0, ap coming (marks_only ss marks.1 tr) ∙ kept.1)
           ]
     ]
@@ -171,11 +145,11 @@ Claimed guard n ss σ τ s t u = (y : Yield) × (ts : List Tree) × (t ≡ pushe
 
 expression_node : (x : Tree) → is_of expressions x ≡ true → is_node x ≡ true
 expression_node (node form span ts) e = refl
-expression_node absent e = absurd (let q : false ≡ true = e in cc)
-expression_node (row ts) e = absurd (let q : false ≡ true = e in cc)
+expression_node absent e = never e
+expression_node (row ts) e = never e
 
 claimed : (m : Manner) (guard : Guard) (n : ℕ) (ss : List Symbol) (σ τ : State) (w u : List Tok) (s t : Pile) → manner_of n ≡ m
-    → with_yield (yield_of m) (λ y. if next_fits (avoided n) guard n ss then advance guard ss (add (tree y) σ) else None) ≡ Some τ → ClaimAs m n w s t u → Claimed guard n ss σ τ s t u
+    → and_then (yield_of m) (λ y. if next_fits (avoided n) guard n ss then advance guard ss (add (tree y) σ) else None) ≡ Some τ → ClaimAs m n w s t u → Claimed guard n ss σ τ s t u
 claimed (plain y) guard n ss σ τ w u s t is ok (ts, on, fits, shows) =
     let i = if_some (next_fits (avoided n) guard n ss) (advance guard ss (add (tree y) σ)) τ ok in (y, ts, on, fits, shows, i.0, i.1)
 claimed (expression level) guard n ss σ τ w u s t is ok (x, on, spells) =
@@ -183,15 +157,11 @@ claimed (expression level) guard n ss σ τ w u s t is ok (x, on, spells) =
     let i = if_some (next_fits (avoided n) guard n ss) (advance guard ss (add (tree (one level)) σ)) τ below.1 in
     (one level, x ∷ [], on, (x, refl, expression_node x spells.is), λ last v c may. expression_shows n level is below.0 x spells (coming u) last v c may, i.0, i.1)
   where
-    tighter : (c : Bool) → nat_lt level 15 ≡ c → with_yield (if c then Some (one level) else None) (λ y. if next_fits (avoided n) guard n ss then advance guard ss (add (tree y) σ) else None) ≡ Some τ
+    tighter : (c : Bool) → nat_lt level 15 ≡ c → and_then (if c then Some (one level) else None) (λ y. if next_fits (avoided n) guard n ss then advance guard ss (add (tree y) σ) else None) ≡ Some τ
         → (level ≤ 14) × ((if next_fits (avoided n) guard n ss then advance guard ss (add (tree (one level)) σ) else None) ≡ Some τ)
     tighter true e h = let below : level < 15 = ltb-true level 15 e in (omega (arith, below), h)
-    tighter false e h = absurd (let q : None ≡ Some _ = h in cc)
-claimed in_lines guard n ss σ τ w u s t is ok claim = absurd (let q : None ≡ Some _ = ok in cc)
-claimed path_rest guard n ss σ τ w u s t is ok claim = absurd (let q : None ≡ Some _ = ok in cc)
-claimed if_rest guard n ss σ τ w u s t is ok claim = absurd (let q : None ≡ Some _ = ok in cc)
-claimed new_rest guard n ss σ τ w u s t is ok claim = absurd (let q : None ≡ Some _ = ok in cc)
-claimed other guard n ss σ τ w u s t is ok claim = absurd (let q : None ≡ Some _ = ok in cc)
+    tighter false e h = not_some h
+claimed m guard n ss σ τ w u s t is ok claim = not_some ok
 
 part_on : (guard : Guard) (ss : List Symbol) (n : ℕ) {σ : State} (τ : State) (u1 u : List Tok) {b s t z : Pile} → Claimed guard n ss σ τ s t u1 → Trace ss u1 t u z → (g : Piled σ b s)
     → ((next_state : State) → advance guard ss next_state ≡ Some τ → (h : Piled next_state b t) → Sound guard ss u τ h z) → Sound guard (symbol.Nonterminal n ∷ ss) u τ g z
@@ -207,7 +177,7 @@ part_on guard ss n {σ = σ} τ u1 u {b = b} {s = s} {t = t} {z = z} (y, ts, on,
             words_on (said g last) (said h last) (said now last) (yielded y ts l) ws (same last ∙ chain_same (said g) (wrote lone.0) (yielded y ts) lone.1 last) words,
             λ c z v copy may.
                 let (p, read, copied) = goes c (pushed ts z) v (copies c z copy) may in
-                (p, subst (λ q. Goes (symbol.Nonterminal n ∷ ss) q z v p) (sym (before_both (yielded y ts l) ws v)) (and_more (shows l (before ws v) z (may_come (avoided n) guard n ss fit read tr may)) read), copied),
+                (p, subst (λ q. Goes (symbol.Nonterminal n ∷ ss) q z v p) (sym (before_both (yielded y ts l) ws v)) (beside (shows l (before ws v) z (may_come (avoided n) guard n ss fit read tr may)) read), copied),
           ),
     )
 
@@ -224,7 +194,7 @@ stays_at n m σ τ stay is ok = elim (stay_cases (move (rule m) None σ) stay (�
 -- What the symbols of a production leave, by going over them, they leave on each copy of the pile, from their own words.
 pub sound : (guard : Guard) (ss : List Symbol) (σ τ : State) {w u : List Tok} {b s t : Pile} → advance guard ss σ ≡ Some τ → Trace ss w s u t → (g : Piled σ b s) → Sound guard ss u τ g t
 sound guard [] σ τ {w = w} {b = b} {s = s} ok ended g =
-    subst (λ z. Sound guard [] w z g s) (some_is ok) (g, λ last. ([], sym (append-nil (said g last)), λ c z v copy may. (z, nothing, copy)))
+    subst (λ z. Sound guard [] w z g s) (some_equal ok) (g, λ last. ([], sym (append-nil (said g last)), λ c z v copy may. (z, nothing, copy)))
 sound guard (symbol.Terminal e ∷ ss) σ τ {u = u} ok (token_passed passed tr) g =
     let i = if_some (is_read e) (advance guard ss (add (word (shown_number e)) σ)) τ ok in token_on guard ss e τ u i.0 g (λ h. sound guard ss (add (word (shown_number e)) σ) τ i.1 tr h)
 sound guard (symbol.Terminal e ∷ ss) σ τ {u = u} ok (half_passed passed tr) g =

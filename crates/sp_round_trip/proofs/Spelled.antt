@@ -3,8 +3,8 @@
 use Rattle.std.specs.Prelude.{◌≤◌, ◌||◌}
 use Rattle.std.proofs.Common.{◌≡◌, ℕ, List, [], ◌∷◌, true, false, ◌==◌, Option, refl, sym, subst, inl, inr, arith}
 use Rattle.std.proofs.lemmas.Bool.{cases_Bool, eqb-true}
-use Rattle.sp_parser.specs.declared.symbol.Symbol.TheVariants as symbol
 use Rattle.sp_lex.specs.declared.kinds.TokenKind.{TokenKind}
+use Rattle.sp_parser.specs.declared.symbol.Symbol.TheVariants as symbol
 use Rattle.sp_grammar.specs.Written.{Part, part_number}
 use Rattle.sp_ast.specs.Operators.{level}
 use Rattle.sp_ast.specs.declared.operators.BinaryOp.{BinaryOp}
@@ -15,6 +15,7 @@ use Rattle.sp_ast.specs.declared.forms.ExprForm.TheVariants as expr_is
 use Rattle.sp_ast.specs.Trees.{Tree, Trees, node, none, trees}
 use Rattle.sp_build.specs.declared.groups.Group.TheVariants.{Expressions as expressions}
 use Rattle.sp_build.specs.Groups.{is_of}
+use Rattle.sp_build.proofs.Told.{never}
 use Rattle.sp_print.specs.Canonical.{form_level, spelled}
 use Rattle.sp_round_trip.specs.Bare.{nowhere}
 use Rattle.sp_round_trip.proofs.Held.{Pile, made}
@@ -37,7 +38,7 @@ forms_bind (form_is.Expr (expr_is.Unary op)) ts h k = (refl, (omega arith, omega
 forms_bind (form_is.Expr (expr_is.Binary op)) ts h k = (refl, operators_bind op)
 forms_bind (form_is.Expr expr_is.New) ts h k = absurd (let q : true ≡ false = k in cc)
 forms_bind (form_is.Expr form) ts h k = (refl, (omega arith, omega arith))
-forms_bind form ts h k = absurd (let q : false ≡ true = h in cc)
+forms_bind form ts h k = never h
 
 -- what a Primary reads, or the part of a level, the part of the level reads
 lifted : (n tight : ℕ) → IsLevel tight → ((n == part_number Part.Primary) || (n == part_number (level_part tight))) ≡ true → {w v : List Tok} {s t : Pile} → Goes (symbol.Nonterminal n ∷ []) w s v t → Goes (symbol.Nonterminal (part_number (level_part tight)) ∷ []) w s v t
@@ -50,7 +51,7 @@ lifted n tight is reads {w} {v} {s} {t} g = elim (cases_Bool (n == part_number P
 
 is_expressions : (form : Form) (ts : Trees) → is_expression form ≡ true → is_of expressions (node form nowhere ts) ≡ true
 is_expressions (form_is.Expr form) ts h = refl
-is_expressions form ts h = absurd (let q : false ≡ true = h in cc)
+is_expressions form ts h = never h
 
 pub spells_of : (n : ℕ) (form : Form) (ts : List Tree) → is_expression form ≡ true → is_new form ≡ false → ((n == part_number Part.Primary) || (n == part_number (level_part (form_level form none)))) ≡ true
     → ((last : Option TokenKind) (v : List Tok) (s : Pile) → MayPass (form_level form none) v → Goes (symbol.Nonterminal n ∷ []) (before (spelled (node form nowhere (trees ts)) last) v) s v (made (node form nowhere (trees ts)) ∷ s))

@@ -1,41 +1,44 @@
--- The first step of a trace, and of a reading.
+-- The first step of a trace: a token, a mark or a part comes first; and the steps of a reading that put it together again.
 use Rattle.std.specs.Prelude.{◌<◌, length, cond, option_map}
 use Rattle.std.specs.Int.{bit_at}
 use Rattle.std.proofs.Common.{◌≡◌, ℕ, List, [], ◌∷◌, map, Bool, true, false, ◌==◌, Option, Some, None, refl, sym, ◌∙◌, ap, subst, inl, inr}
 use Rattle.std.proofs.lemmas.Bool.{cases_Bool, eqb-true, cond-false}
 use Rattle.std.proofs.lemmas.Nat.Bits.{bit_at-zero}
+use Rattle.sp_lex.specs.declared.kinds.TokenKind.{TokenKind}
+use Rattle.sp_lex.specs.declared.kinds.Hook.{Hook}
 use Rattle.sp_parser.specs.declared.symbol.Symbol.{Symbol}
 use Rattle.sp_parser.specs.declared.symbol.Symbol.TheVariants as symbol
-use Rattle.sp_parser.specs.Grammar.{takes, First, All, Nothing, CLOSE, SECOND, Applies, production_of, productions_of, ahead}
+use Rattle.sp_parser.specs.Grammar.{right, takes, First, All, Nothing, CLOSE, SECOND, production_of, productions_of, ahead}
 use Rattle.sp_grammar.specs.declared.marks.Mark.{Mark}
 use Rattle.sp_grammar.specs.Marks.{mark_with}
+use Rattle.sp_grammar.specs.Terminals.{terminal_number}
+use Rattle.sp_grammar.specs.declared.terminals.Terminal.TheVariants as terminal
 use Rattle.sp_grammar.specs.Own.{own}
 use Rattle.sp_grammar.specs.declared.marks.Mark.TheVariants as build
+use Rattle.sp_grammar.specs.Written.{mark as mark_symbol, kind as kind_symbol}
 use Rattle.sp_ast.specs.declared.forms.Form.{Form}
 use Rattle.sp_ast.specs.declared.forms.Form.TheVariants as form_is
-use Rattle.sp_lex.specs.declared.kinds.TokenKind.{TokenKind}
-use Rattle.sp_print.specs.Words.{Word, name}
-use Rattle.sp_print.specs.Words.{number as numeral}
-use Rattle.sp_printed_words.specs.Sound.{read_as}
-use Rattle.sp_round_trip.proofs.Held.{form_told}
 use Rattle.sp_ast.specs.Trees.{Tree, absent, tree, in_row}
 use Rattle.sp_ast.specs.declared.words.IntWord.{IntWord}
 use Rattle.sp_ast.specs.declared.words.AttributeName.{AttributeName}
 use Rattle.sp_build.specs.Tokens.{integer_of, attribute_of, hook_name_of}
-use Rattle.sp_lex.specs.declared.kinds.Hook.{Hook}
 use Rattle.sp_build.specs.declared.groups.Group.{Group}
 use Rattle.sp_build.specs.declared.groups.Slot.{Slot}
-use Rattle.sp_round_trip.specs.Bare.{nowhere}
-use Rattle.sp_round_trip.specs.Told.{Telling}
-use Rattle.sp_round_trip.proofs.Leaves.{some_is, mapped, event_told}
-use Rattle.sp_round_trip.proofs.Closing.{gathered_all, closed_all, wrapped}
 use Rattle.sp_build.specs.Groups.{is_node}
 use Rattle.sp_build.specs.Rules.{Leaf, by_name, by_number, by_event, rule, gathers, closes, closes_integer, closes_attribute, wraps, takes as takes_leaf}
-use Rattle.sp_round_trip.proofs.Held.{Pile, started, made, put_if, closed, does}
+use Rattle.sp_build.proofs.Standing.{not_some, some_equal}
+use Rattle.sp_build.proofs.Told.{never}
+use Rattle.sp_print.specs.Words.{Word, name, number as numeral}
+use Rattle.sp_printed_words.specs.Sound.{read_as}
+use Rattle.sp_round_trip.specs.Bare.{nowhere}
+use Rattle.sp_round_trip.specs.Told.{Telling}
+use Rattle.sp_round_trip.proofs.Held.{form_told, Pile, started, made, put_if, closed, does}
+use Rattle.sp_round_trip.proofs.Leaves.{mapped, event_told}
+use Rattle.sp_round_trip.proofs.Closing.{gathered_all, closed_all, wrapped}
 use Rattle.sp_round_trip.proofs.Goes.{Tok, entire, half, tells, number, next, coming, pushed, Goes, nothing, whole, first_half, mark, part}
-use Rattle.sp_round_trip.proofs.Shown.{Claim, ClaimAs, Yield, Fits, Shows, IsOneNode, MayFollow, Avoids, avoided, is_kept, plain, one, manner_of, Trace, ended, token_passed, half_passed, mark_passed, part_passed}
+use Rattle.sp_round_trip.proofs.Shown.{Spells, expression, Claim, ClaimAs, Yield, Fits, Shows, MayFollow, Avoids, avoided, is_kept, plain, one, manner_of, Trace, ended, token_passed, half_passed, mark_passed, part_passed, IsOneNode}
 
-never_first : (b : Bool) → cond b All Nothing ≡ First → ⊥
+pub never_first : (b : Bool) → cond b All Nothing ≡ First → ⊥
 never_first true h = absurd cc
 never_first false h = absurd cc
 
@@ -43,82 +46,94 @@ by_kind : (e k : ℕ) → cond (e == k) All Nothing ≡ All → e ≡ k
 by_kind e k h = elim (cases_Bool (e == k)) [ inl y ↦ eqb-true e k y | inr z ↦ absurd (let q : Nothing ≡ All = sym (cond-false (e == k) All Nothing z) ∙ h in cc) ]
 
 -- a terminal but the one that closes a list of types takes only a token of its own kind, and takes it whole
-taken_by : (e k : ℕ) → (e == CLOSE) ≡ false → takes e k ≡ cond (e == k) All Nothing
+pub taken_by : (e k : ℕ) → (e == CLOSE) ≡ false → takes e k ≡ cond (e == k) All Nothing
 taken_by e k h = cond-false (e == CLOSE) _ (cond (e == k) All Nothing) h
 
 pub is_token : (e : ℕ) (x : Tok) → (e == CLOSE) ≡ false → takes e (number x) ≡ All → number x ≡ e
 is_token e x h taken = sym (by_kind e (number x) (sym (taken_by e (number x) h) ∙ taken))
 
-pub passes_token : (e : ℕ) {ss : List Symbol} {w v : List Tok} {s t : Pile} → (e == CLOSE) ≡ false → Trace (symbol.Terminal e ∷ ss) w s v t
+pub passes_token : {e : ℕ} {ss : List Symbol} {w v : List Tok} {s t : Pile} → (e == CLOSE) ≡ false → Trace (symbol.Terminal e ∷ ss) w s v t
     → (x : Tok) × (rest : List Tok) × (w ≡ x ∷ rest) × (takes e (number x) ≡ All) × Trace ss rest s v t
-passes_token e h (token_passed {x = x} {w = rest} taken trace) = (x, rest, refl, taken, trace)
-passes_token e h (half_passed {x = x} taken trace) = absurd (never_first (e == number (entire x)) (sym (taken_by e (number (entire x)) h) ∙ taken))
+passes_token h (token_passed {x = x} {w = rest} taken trace) = (x, rest, refl, taken, trace)
+passes_token {e} h (half_passed {x = x} taken trace) = absurd (never_first (e == number (entire x)) (sym (taken_by e (number (entire x)) h) ∙ taken))
 
-pub passes_mark : (n : ℕ) (m : Mark) {ss : List Symbol} {w v : List Tok} {s u : Pile} → mark_with n ≡ Some m → Trace (symbol.Mark n ∷ ss) w s v u
+-- a mark does what its rule does
+pub passes_mark : {n : ℕ} {ss : List Symbol} {w v : List Tok} {s u : Pile} (m : Mark) → mark_with n ≡ Some m → Trace (symbol.Mark n ∷ ss) w s v u
     → (t : Pile) × (does (rule m) (next w) s ≡ Some t) × Trace ss w t v u
-passes_mark n m {w = w} {s = s} h (mark_passed {t = t} also is done trace) = let e : also ≡ m = (let q : Some also ≡ Some m = sym is ∙ h in cc) in (t, subst (λ x. does (rule x) (next w) s ≡ Some t) e done, trace)
+passes_mark {w = w} {s = s} m h (mark_passed {t = t} also is done trace) =
+    let e : also ≡ m = some_equal (sym is ∙ h) in (t, subst (λ x. does (rule x) (next w) s ≡ Some t) e done, trace)
 
-pub passes_part : (n : ℕ) {ss : List Symbol} {w v : List Tok} {s z : Pile} → Trace (symbol.Nonterminal n ∷ ss) w s v z
+-- a mark of which it is known what it does
+pub passes_known : {n : ℕ} {ss : List Symbol} {w v : List Tok} {s u : Pile} (m : Mark) (t : Pile) → mark_with n ≡ Some m → does (rule m) (next w) s ≡ Some t → Trace (symbol.Mark n ∷ ss) w s v u → Trace ss w t v u
+passes_known {ss = ss} {w = w} {v = v} {u = u} m t is known trace =
+    let (x, done, rest) = passes_mark m is trace in subst (λ p. Trace ss w p v u) (some_equal (sym done ∙ known)) rest
+
+pub passes_part : {n : ℕ} {ss : List Symbol} {w v : List Tok} {s z : Pile} → Trace (symbol.Nonterminal n ∷ ss) w s v z
     → (u : List Tok) × (t : Pile) × Claim n w s t u × Trace ss u t v z
-passes_part n (part_passed {u = u} {t = t} claim trace) = (u, t, claim, trace)
+passes_part (part_passed {u = u} {t = t} claim trace) = (u, t, claim, trace)
 
 -- a part that is written as these trees are
 pub passes_trees : (n : ℕ) (y : Yield) {ss : List Symbol} {w v : List Tok} {s z : Pile} → manner_of n ≡ plain y → Trace (symbol.Nonterminal n ∷ ss) w s v z
     → (u : List Tok) × (ts : List Tree) × Fits y ts × Shows n y ts (coming u) × Trace ss u (pushed ts s) v z
-passes_trees n y {ss = ss} {v = v} {s = s} {z = z} is (part_passed {w = w} {u = u} {t = t} claim trace) =
-    let (ts, pile, fits, shows) = subst (λ m. ClaimAs m n w s t u) is claim in (u, ts, fits, shows, subst (λ p. Trace ss u p v z) pile trace)
-
-one_node : (n level : ℕ) {ss : List Symbol} {u v : List Tok} {s z : Pile} (ts : List Tree) → IsOneNode ts → Shows n (one level) ts (coming u) → Trace ss u (pushed ts s) v z
-    → (x : Tree) × (is_node x ≡ true) × Shows n (one level) (x ∷ []) (coming u) × Trace ss u (made x ∷ s) v z
-one_node n level {ss = ss} {u = u} {v = v} {s = s} {z = z} ts (x, same, node) shows trace = (x, node, subst (λ xs. Shows n (one level) xs (coming u)) same shows, subst (λ xs. Trace ss u (pushed xs s) v z) same trace)
+passes_trees n y {ss = ss} {w = w} {v = v} {s = s} {z = z} is trace =
+    let (u, t, claim, rest) = passes_part trace in
+    let (ts, pile, fits, shows) = subst (λ m. ClaimAs m n w s t u) is claim in (u, ts, fits, shows, subst (λ p. Trace ss u p v z) pile rest)
 
 -- a part that is one tree
 pub passes_one : (n level : ℕ) {ss : List Symbol} {w v : List Tok} {s z : Pile} → manner_of n ≡ plain (one level) → Trace (symbol.Nonterminal n ∷ ss) w s v z
     → (u : List Tok) × (x : Tree) × (is_node x ≡ true) × Shows n (one level) (x ∷ []) (coming u) × Trace ss u (made x ∷ s) v z
-passes_one n level is trace = let (u, ts, fits, shows, rest) = passes_trees n (one level) is trace in let (x, node, shows_one, behind) = one_node n level ts fits shows rest in (u, x, node, shows_one, behind)
+passes_one n level {ss = ss} {v = v} {s = s} {z = z} is trace =
+    let (u, ts, fits, shows, rest) = passes_trees n (one level) is trace in
+    let (x, same, node) = fits in (u, x, node, subst (λ xs. Shows n (one level) xs (coming u)) same shows, subst (λ xs. Trace ss u (pushed xs s) v z) same rest)
+
+-- a part that is an expression
+pub passes_expression : (n level : ℕ) {ss : List Symbol} {w v : List Tok} {s z : Pile} → manner_of n ≡ expression level → Trace (symbol.Nonterminal n ∷ ss) w s v z
+    → (u : List Tok) × (x : Tree) × Spells x × Trace ss u (made x ∷ s) v z
+passes_expression n level {ss = ss} {w = w} {v = v} {s = s} {z = z} is trace =
+    let (u, t, claim, rest) = passes_part trace in
+    let (x, pile, spells) = subst (λ m. ClaimAs m n w s t u) is claim in (u, x, spells, subst (λ p. Trace ss u p v z) pile rest)
 
 -- the beginning of a tree
-pub passes_begin : {ss : List Symbol} {w v : List Tok} {s u : Pile} → Trace (symbol.Mark 0 ∷ ss) w s v u → Trace ss w (started (next w) ∷ s) v u
-passes_begin {ss = ss} {w = w} {v = v} {s = s} {u = u} trace =
-    let (t, done, rest) = passes_mark 0 build.Begin refl trace in subst (λ p. Trace ss w p v u) (some_is (sym done)) rest
+pub passes_begin : {ss : List Symbol} {w v : List Tok} {s u : Pile} → Trace (mark_symbol build.Begin ∷ ss) w s v u → Trace ss w (started (next w) ∷ s) v u
+passes_begin {w = w} {s = s} trace = passes_known build.Begin (started (next w) ∷ s) refl refl trace
 
 -- a part that is left out
-pub passes_absent : {ss : List Symbol} {w v : List Tok} {s u : Pile} → Trace (symbol.Mark 16 ∷ ss) w s v u → Trace ss w (made absent ∷ s) v u
-passes_absent {ss = ss} {w = w} {v = v} {s = s} {u = u} trace =
-    let (t, done, rest) = passes_mark 16 build.Absent refl trace in subst (λ p. Trace ss w p v u) (some_is (sym done)) rest
+pub passes_absent : {ss : List Symbol} {w v : List Tok} {s u : Pile} → Trace (mark_symbol build.Absent ∷ ss) w s v u → Trace ss w (made absent ∷ s) v u
+passes_absent {s = s} trace = passes_known build.Absent (made absent ∷ s) refl refl trace
 
 -- trees that make a row wherever they stand behind a beginning
 abbrev pub Gather : List Tree → Type 0
 Gather us = (x q : Telling) (c : Pile) → does gathers x (pushed us (started q ∷ c)) ≡ Some (made (in_row us) ∷ c)
 
-pub passes_row : (us : List Tree) (p : Telling) {ss : List Symbol} {w v : List Tok} {s u : Pile} → Trace (symbol.Mark 2 ∷ ss) w (pushed us (started p ∷ s)) v u → Gather us × Trace ss w (made (in_row us) ∷ s) v u
+pub passes_row : (us : List Tree) (p : Telling) {ss : List Symbol} {w v : List Tok} {s u : Pile} → Trace (mark_symbol build.Row ∷ ss) w (pushed us (started p ∷ s)) v u → Gather us × Trace ss w (made (in_row us) ∷ s) v u
 passes_row us p {ss = ss} {w = w} {v = v} {s = s} {u = u} trace =
-    let (t, done, rest) = passes_mark 2 build.Row refl trace in
+    let (t, done, rest) = passes_mark build.Row refl trace in
     let (is, gather) = gathered_all us p s t (next w) done in
     (gather, subst (λ x. Trace ss w x v u) is rest)
 
-was_put : (o : Option Form) (s t : Pile) → put_if o s ≡ Some t → (form : Form) × (o ≡ Some form) × (t ≡ made (tree form nowhere []) ∷ s)
-was_put None s t h = absurd (let q : None ≡ Some t = h in cc)
-was_put (Some form) s t h = (form, refl, sym (some_is h))
+-- a tree of one token is of the alternative that the token tells
+pub was_put : (o : Option Form) (s t : Pile) → put_if o s ≡ Some t → (form : Form) × (o ≡ Some form) × (t ≡ made (tree form nowhere []) ∷ s)
+was_put None s t h = not_some h
+was_put (Some form) s t h = (form, refl, sym (some_equal h))
 
 whole_word : (e : ℕ) (x : Tok) → takes e SECOND ≡ Nothing → takes e (number x) ≡ All → (y : Word) × (x ≡ entire y)
 whole_word e (entire y) second taken = (y, refl)
 whole_word e (half y) second taken = absurd (let q : Nothing ≡ All = sym second ∙ taken in cc)
 
 name_told : (k : TokenKind) (x : Word) (form : Form) → form_told (by_name (λ y. form_is.Name y)) k x ≡ Some form → (y : List ℕ) × (x ≡ name y) × (form ≡ form_is.Name y)
-name_told k (name y) form h = (y, refl, sym (some_is h))
+name_told k (name y) form h = (y, refl, sym (some_equal h))
 name_told k x form h = absurd cc
 
 number_told : (k : TokenKind) (x : Word) (form : Form) → form_told (by_number (λ n. form_is.Number n)) k x ≡ Some form → (n : ℕ) × (form ≡ form_is.Number n)
-number_told k (numeral n) form h = (n, sym (some_is h))
+number_told k (numeral n) form h = (n, sym (some_equal h))
 number_told k x form h = absurd cc
 
 -- a tree of one token, by the word that told it
-pub passes_leaf : (n e : ℕ) (m : Mark) (l : Leaf) {ss : List Symbol} {w v : List Tok} {s z : Pile} → mark_with n ≡ Some m → rule m ≡ takes_leaf l → (e == CLOSE) ≡ false → takes e SECOND ≡ Nothing → Trace (symbol.Mark n ∷ symbol.Terminal e ∷ ss) w s v z
+passes_leaf : {n e : ℕ} (m : Mark) (l : Leaf) {ss : List Symbol} {w v : List Tok} {s z : Pile} → mark_with n ≡ Some m → rule m ≡ takes_leaf l → (e == CLOSE) ≡ false → takes e SECOND ≡ Nothing → Trace (symbol.Mark n ∷ symbol.Terminal e ∷ ss) w s v z
     → (x : Word) × (form : Form) × (takes e (number (entire x)) ≡ All) × (form_told l (read_as x) x ≡ Some form) × (rest : List Tok) × Trace ss rest (made (tree form nowhere []) ∷ s) v z
-passes_leaf n e m l {ss = ss} {w = w} {v = v} {s = s} {z = z} is does_so itself second trace =
-    let (t, done, behind) = passes_mark n m is trace in
-    let (x, rest, begins_so, taken, ends) = passes_token e itself behind in
+passes_leaf {e = e} m l {ss = ss} {w = w} {v = v} {s = s} {z = z} is does_so itself second trace =
+    let (t, done, behind) = passes_mark m is trace in
+    let (x, rest, begins_so, taken, ends) = passes_token itself behind in
     let took : put_if (form_told l (tells x).kind (tells x).word) s ≡ Some t = subst (λ y. put_if (form_told l (next y).kind (next y).word) s ≡ Some t) begins_so (subst (λ r. does r (next w) s ≡ Some t) does_so done) in
     let (word, is_word) = whole_word e x second taken in
     let told = subst (λ y. put_if (form_told l (tells y).kind (tells y).word) s ≡ Some t) is_word took in
@@ -126,24 +141,24 @@ passes_leaf n e m l {ss = ss} {w = w} {v = v} {s = s} {z = z} is does_so itself 
     (word, form, subst (λ y. takes e (number y) ≡ All) is_word taken, told_so, rest, subst (λ p. Trace ss rest p v z) pile ends)
 
 -- the tree of a name, of a number and of an event
-pub passes_name : {ss : List Symbol} {w v : List Tok} {s z : Pile} → Trace (symbol.Mark 1 ∷ symbol.Terminal 1 ∷ ss) w s v z
-    → (x : List ℕ) × (takes 1 (number (entire (name x))) ≡ All) × (rest : List Tok) × Trace ss rest (made (tree (form_is.Name x) nowhere []) ∷ s) v z
+pub passes_name : {ss : List Symbol} {w v : List Tok} {s z : Pile} → Trace (mark_symbol build.Name ∷ kind_symbol terminal.Id ∷ ss) w s v z
+    → (x : List ℕ) × (takes (terminal_number terminal.Id) (number (entire (name x))) ≡ All) × (rest : List Tok) × Trace ss rest (made (tree (form_is.Name x) nowhere []) ∷ s) v z
 passes_name {ss = ss} {v = v} {s = s} {z = z} trace =
-    let (x, form, taken, told, rest, behind) = passes_leaf 1 1 build.Name (by_name (λ y. form_is.Name y)) refl refl refl refl trace in
+    let (x, form, taken, told, rest, behind) = passes_leaf build.Name (by_name (λ y. form_is.Name y)) refl refl refl refl trace in
     let (y, is, its) = name_told (read_as x) x form told in
-    (y, subst (λ q. takes 1 (number (entire q)) ≡ All) is taken, rest, subst (λ f. Trace ss rest (made (tree f nowhere []) ∷ s) v z) its behind)
+    (y, subst (λ q. takes (terminal_number terminal.Id) (number (entire q)) ≡ All) is taken, rest, subst (λ f. Trace ss rest (made (tree f nowhere []) ∷ s) v z) its behind)
 
-pub passes_number : {ss : List Symbol} {w v : List Tok} {s z : Pile} → Trace (symbol.Mark 34 ∷ symbol.Terminal 36 ∷ ss) w s v z
+pub passes_number : {ss : List Symbol} {w v : List Tok} {s z : Pile} → Trace (mark_symbol build.Number ∷ kind_symbol terminal.Number ∷ ss) w s v z
     → (n : ℕ) × (rest : List Tok) × Trace ss rest (made (tree (form_is.Number n) nowhere []) ∷ s) v z
 passes_number {ss = ss} {v = v} {s = s} {z = z} trace =
-    let (x, form, taken, told, rest, behind) = passes_leaf 34 36 build.Number (by_number (λ n. form_is.Number n)) refl refl refl refl trace in
+    let (x, form, taken, told, rest, behind) = passes_leaf build.Number (by_number (λ n. form_is.Number n)) refl refl refl refl trace in
     let (n, its) = number_told (read_as x) x form told in
     (n, rest, subst (λ f. Trace ss rest (made (tree f nowhere []) ∷ s) v z) its behind)
 
-pub passes_event : {ss : List Symbol} {w v : List Tok} {s z : Pile} → Trace (symbol.Mark 17 ∷ symbol.Terminal 16 ∷ ss) w s v z
+pub passes_event : {ss : List Symbol} {w v : List Tok} {s z : Pile} → Trace (mark_symbol build.Event ∷ kind_symbol terminal.Event ∷ ss) w s v z
     → (h : Hook) × (rest : List Tok) × Trace ss rest (made (tree (form_is.Event (hook_name_of h)) nowhere []) ∷ s) v z
 passes_event {ss = ss} {v = v} {s = s} {z = z} trace =
-    let (x, form, taken, told, rest, behind) = passes_leaf 17 16 build.Event (by_event (λ h. form_is.Event h)) refl refl refl refl trace in
+    let (x, form, taken, told, rest, behind) = passes_leaf build.Event (by_event (λ h. form_is.Event h)) refl refl refl refl trace in
     let (h, kind, its) = event_told (read_as x) (λ h. form_is.Event h) x form told in
     (h, rest, subst (λ f. Trace ss rest (made (tree f nowhere []) ∷ s) v z) (sym its) behind)
 
@@ -151,21 +166,30 @@ passes_event {ss = ss} {v = v} {s = s} {z = z} trace =
 abbrev pub Close : List Slot → Form → List Tree → Type 0
 Close slots form us = (x q : Telling) (c : Pile) → does (closes slots form) x (pushed us (started q ∷ c)) ≡ Some (made (tree form nowhere us) ∷ c)
 
-pub passes_closes : (n : ℕ) (m : Mark) (slots : List Slot) (form : Form) (us : List Tree) (p : Telling) {ss : List Symbol} {w v : List Tok} {s u : Pile}
+pub passes_closes : {n : ℕ} (m : Mark) (slots : List Slot) (form : Form) (us : List Tree) (p : Telling) {ss : List Symbol} {w v : List Tok} {s u : Pile}
     → mark_with n ≡ Some m → rule m ≡ closes slots form → Trace (symbol.Mark n ∷ ss) w (pushed us (started p ∷ s)) v u → Close slots form us × Trace ss w (made (tree form nowhere us) ∷ s) v u
-passes_closes n m slots form us p {ss = ss} {w = w} {v = v} {s = s} {u = u} is does_so trace =
-    let (t, done, rest) = passes_mark n m is trace in
+passes_closes m slots form us p {ss = ss} {w = w} {v = v} {s = s} {u = u} is does_so trace =
+    let (t, done, rest) = passes_mark m is trace in
     let closed_so : closed slots (λ x. Some form) (pushed us (started p ∷ s)) ≡ Some t = subst (λ r. does r (next w) (pushed us (started p ∷ s)) ≡ Some t) does_so done in
     let (its, told, pile, again) = closed_all slots (λ x. Some form) us p s t closed_so in
-    let same : its ≡ form = some_is (sym told) in
+    let same : its ≡ form = some_equal (sym told) in
     (λ x q c. again q c told ∙ ap (λ f. Some (made (tree f nowhere us) ∷ c)) same, subst (λ z. Trace ss w z v u) (pile ∙ ap (λ f. made (tree f nowhere us) ∷ s) same) rest)
 
-pub passes_none : {w v : List Tok} {s t : Pile} → Trace [] w s v t → (w ≡ v) × (s ≡ t)
+-- nothing is left to pass
+pub passes_none : {w v : List Tok} {s t : Pile} → Trace [] w s v t → (w ≡ v) × (t ≡ s)
 passes_none ended = (refl, refl)
+
+-- a part that built one tree
+pub builds_one : {n came : ℕ} {s t : Pile} (x : Tree) → t ≡ made x ∷ s → is_node x ≡ true → Shows n (one 1) (x ∷ []) came → (ts : List Tree) × (t ≡ pushed ts s) × IsOneNode ts × Shows n (one 1) ts came
+builds_one x pile node shows = (x ∷ [], pile, (x, refl, node), shows)
 
 -- a part read, and then what comes behind it
 pub beside : {n : ℕ} {ss : List Symbol} {w u v : List Tok} {s t z : Pile} → Goes (symbol.Nonterminal n ∷ []) w s u t → Goes ss u t v z → Goes (symbol.Nonterminal n ∷ ss) w s v z
 beside (part p may reads nothing) rest = part p may reads rest
+
+-- an alternative that may stand before anything
+pub chosen : (n p : ℕ) → p < length (productions_of own n) → (production_of own n p).avoid ≡ 0 → {w v : List Tok} {s t : Pile} → Goes (right own n p) w s v t → Goes (symbol.Nonterminal n ∷ []) w s v t
+chosen n p below free {w} reads = part p (record { below = below; allowed = subst (λ a. bit_at a (ahead (map number w)) ≡ 0) (sym free) (bit_at-zero (ahead (map number w))) }) reads nothing
 
 pub reads_mark : {n : ℕ} {ss : List Symbol} {w v : List Tok} {s u : Pile} → Goes (symbol.Mark n ∷ ss) w s v u → (t : Pile) × Goes ss w t v u
 reads_mark (mark {t = t} m is done reads) = (t, reads)
@@ -176,10 +200,6 @@ reads_token e h (first_half {x = x} taken reads) = absurd (never_first (e == num
 
 pub reads_nothing : {w v : List Tok} {s t : Pile} → Goes [] w s v t → w ≡ v
 reads_nothing nothing = refl
-
--- an alternative that may stand before anything
-pub anywhere : (n p : ℕ) (w : List Tok) → p < length (productions_of own n) → (production_of own n p).avoid ≡ 0 → Applies own n p (map number w)
-anywhere n p w below free = record { below = below; allowed = subst (λ a. bit_at a (ahead (map number w)) ≡ 0) (sym free) (bit_at-zero (ahead (map number w))) }
 
 -- a tree that is closed with what the token tells at which it began
 closed_by : {A : Type 0} (slots : List Slot) (tell : Telling → Option A) (form : A → Form) (us : List Tree) (p : Telling) (s t : Pile) → closed slots (λ q. option_map form (tell q)) (pushed us (started p ∷ s)) ≡ Some t
@@ -192,26 +212,26 @@ closed_by slots tell form us p s t h =
 abbrev pub CloseBy : {A : Type 0} → List Slot → (Telling → Option A) → (A → Form) → List Tree → A → Type 0
 CloseBy slots tell form us a = (q : Telling) (c : Pile) → tell q ≡ Some a → closed slots (λ x. option_map form (tell x)) (pushed us (started q ∷ c)) ≡ Some (made (tree (form a) nowhere us) ∷ c)
 
-pub passes_integer : (n : ℕ) (m : Mark) (slots : List Slot) (form : IntWord → Form) (us : List Tree) (p : Telling) {ss : List Symbol} {w v : List Tok} {s u : Pile}
+pub passes_integer : {n : ℕ} (m : Mark) (slots : List Slot) (form : IntWord → Form) (us : List Tree) (p : Telling) {ss : List Symbol} {w v : List Tok} {s u : Pile}
     → mark_with n ≡ Some m → rule m ≡ closes_integer slots form → Trace (symbol.Mark n ∷ ss) w (pushed us (started p ∷ s)) v u
     → (a : IntWord) × CloseBy slots (λ q. integer_of q.kind) form us a × Trace ss w (made (tree (form a) nowhere us) ∷ s) v u
-passes_integer n m slots form us p {ss = ss} {w = w} {v = v} {s = s} {u = u} is does_so trace =
-    let (t, done, rest) = passes_mark n m is trace in
+passes_integer m slots form us p {ss = ss} {w = w} {v = v} {s = s} {u = u} is does_so trace =
+    let (t, done, rest) = passes_mark m is trace in
     let (a, told, pile, again) = closed_by slots (λ q. integer_of q.kind) form us p s t (subst (λ r. does r (next w) (pushed us (started p ∷ s)) ≡ Some t) does_so done) in
     (a, again, subst (λ z. Trace ss w z v u) pile rest)
 
-pub passes_attribute : (n : ℕ) (m : Mark) (slots : List Slot) (form : AttributeName → Form) (us : List Tree) (p : Telling) {ss : List Symbol} {w v : List Tok} {s u : Pile}
+pub passes_attribute : {n : ℕ} (m : Mark) (slots : List Slot) (form : AttributeName → Form) (us : List Tree) (p : Telling) {ss : List Symbol} {w v : List Tok} {s u : Pile}
     → mark_with n ≡ Some m → rule m ≡ closes_attribute slots form → Trace (symbol.Mark n ∷ ss) w (pushed us (started p ∷ s)) v u
     → (a : AttributeName) × CloseBy slots (λ q. attribute_of q.kind) form us a × Trace ss w (made (tree (form a) nowhere us) ∷ s) v u
-passes_attribute n m slots form us p {ss = ss} {w = w} {v = v} {s = s} {u = u} is does_so trace =
-    let (t, done, rest) = passes_mark n m is trace in
+passes_attribute m slots form us p {ss = ss} {w = w} {v = v} {s = s} {u = u} is does_so trace =
+    let (t, done, rest) = passes_mark m is trace in
     let (a, told, pile, again) = closed_by slots (λ q. attribute_of q.kind) form us p s t (subst (λ r. does r (next w) (pushed us (started p ∷ s)) ≡ Some t) does_so done) in
     (a, again, subst (λ z. Trace ss w z v u) pile rest)
 
-pub passes_wraps : (n : ℕ) (m : Mark) (g : Group) (form : Form) (x : Tree) {ss : List Symbol} {w v : List Tok} {s u : Pile} → mark_with n ≡ Some m → rule m ≡ wraps g form → Trace (symbol.Mark n ∷ ss) w (made x ∷ s) v u
+pub passes_wraps : {n : ℕ} (m : Mark) (g : Group) (form : Form) (x : Tree) {ss : List Symbol} {w v : List Tok} {s u : Pile} → mark_with n ≡ Some m → rule m ≡ wraps g form → Trace (symbol.Mark n ∷ ss) w (made x ∷ s) v u
     → Trace ss w (made (tree form nowhere (x ∷ [])) ∷ s) v u
-passes_wraps n m g form x {ss = ss} {w = w} {v = v} {s = s} {u = u} is does_so trace =
-    let (t, done, rest) = passes_mark n m is trace in
+passes_wraps m g form x {ss = ss} {w = w} {v = v} {s = s} {u = u} is does_so trace =
+    let (t, done, rest) = passes_mark m is trace in
     subst (λ z. Trace ss w z v u) (wrapped g form x s t (next w) (subst (λ r. does r (next w) (made x ∷ s) ≡ Some t) does_so done)).0 rest
 
 -- what may come behind a part behind which no `else` that came before may come

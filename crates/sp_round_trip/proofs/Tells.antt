@@ -1,9 +1,10 @@
 -- The trees of a text tell only what its tokens tell.
 use Rattle.std.specs.Prelude.{if◌then◌else◌, ◌&&◌}
 use Rattle.std.specs.List.{AllByRecursion}
-use Rattle.std.proofs.Common.{◌≡◌, ℕ, zero, suc, ◌<◌, ◌≤◌, ◌⊎◌, length, option_map, inl, inr, ⊎_elim, arith, List, [], ◌∷◌, reverse, Bool, true, false, Option, Some, None, refl, sym, subst}
+use Rattle.std.proofs.Common.{◌≡◌, ℕ, ◌<◌, length, option_map, inl, inr, ⊎_elim, List, [], ◌∷◌, reverse, Bool, true, false, Option, Some, None, refl, sym, subst}
 use Rattle.std.proofs.Math.ListN.{get_or-eq_default}
 use Rattle.std.proofs.lemmas.List.{get_or_default}
+use Rattle.std.proofs.lemmas.Bool.{and_parts, cases_lt}
 use Rattle.sp_lex.specs.declared.kinds.TokenKind.{TokenKind}
 use Rattle.sp_lex.specs.declared.kinds.TokenKind.TheVariants as token
 use Rattle.sp_lex.specs.declared.kinds.Absent.TheVariants as absent_word
@@ -13,7 +14,6 @@ use Rattle.sp_lex.specs.Lexed.{Lexed}
 use Rattle.sp_lex.specs.Literals.{number_value}
 use Rattle.sp_lex.specs.Readings.{bytes_of, token_at}
 use Rattle.sp_literals.specs.Values.{string_value, bytes_value, numbered, regex_text}
-use Rattle.sp_read_unit.specs.Modules.{IsModuleTree}
 use Rattle.sp_parser.specs.declared.symbol.Event.{Event}
 use Rattle.sp_grammar.specs.declared.marks.Mark.{Mark}
 use Rattle.sp_grammar.specs.declared.marks.Mark.TheVariants as build
@@ -22,7 +22,7 @@ use Rattle.sp_ast.specs.declared.forms.Form.{Form}
 use Rattle.sp_ast.specs.declared.words.IntWord.{IntWord}
 use Rattle.sp_ast.specs.declared.words.AttributeName.{AttributeName}
 use Rattle.sp_ast.specs.declared.words.HookName.{HookName}
-use Rattle.sp_ast.specs.Trees.{Tree, absent, row, node, trees, tree, in_row, respan, span_of}
+use Rattle.sp_ast.specs.Trees.{Tree, absent, trees, tree, in_row, respan, span_of}
 use Rattle.sp_build.specs.declared.stack.Item.TheVariants.{Begun as begun, Built as built}
 use Rattle.sp_build.specs.declared.groups.Group.TheVariants.{Expressions as expressions}
 use Rattle.sp_build.specs.declared.groups.Sort.{Sort}
@@ -35,6 +35,7 @@ use Rattle.sp_build.specs.Tokens.{form_of, integer_of, attribute_of, hook_name_o
 use Rattle.sp_build.specs.Building.{Stack, Left, left, then_do, popped, gathered, popped_all, opened, parts_of, popped_parts, close_with, push, push_if, worded, token_of, no_token, stretch, stretch_from, done_by, marked, with_mark, go_on, all_done}
 use Rattle.sp_print.specs.Own.{own_words}
 use Rattle.sp_print.specs.Words.{Word, fixed, name, text, bytes, regex, number}
+use Rattle.sp_read_unit.specs.Modules.{IsModuleTree}
 use Rattle.sp_printed_words.specs.Sound.{is_fixed}
 use Rattle.sp_printed_words.specs.Trees.{TellsOnly, TellOnly}
 use Rattle.sp_printed_words.specs.Told.{IsTold}
@@ -69,164 +70,32 @@ rule_tells : (m : Mark) → RuleTells (rule m)
 rule_tells build.Begin = tt
 rule_tells build.Absent = tt
 rule_tells build.Row = tt
+rule_tells build.Paren = tt
 rule_tells build.Name = λ x. refl
 rule_tells build.Text = λ x. refl
 rule_tells build.Number = λ x. refl
 rule_tells build.Event = λ x. refl
-rule_tells build.Path = refl
-rule_tells build.ModuleDecl = refl
-rule_tells build.ImportDecl = refl
-rule_tells build.ByteOrderDecl = refl
-rule_tells build.VersionDecl = refl
-rule_tells build.TypeDecl = refl
-rule_tells build.PublicTypeDecl = refl
-rule_tells build.ConstDecl = refl
-rule_tells build.PublicConstDecl = refl
-rule_tells build.FunctionDecl = refl
-rule_tells build.PublicFunctionDecl = refl
-rule_tells build.OnDecl = refl
-rule_tells build.Hook = refl
-rule_tells build.EachBody = refl
-rule_tells build.HookBody = refl
-rule_tells build.InoutParameter = refl
-rule_tells build.Parameter = refl
-rule_tells build.PathType = refl
 rule_tells build.IntType = λ x. refl
-rule_tells build.BoolType = refl
-rule_tells build.BytesType = refl
-rule_tells build.StringType = refl
-rule_tells build.VoidType = refl
-rule_tells build.TupleType = refl
-rule_tells build.VectorType = refl
-rule_tells build.SetType = refl
-rule_tells build.MapType = refl
-rule_tells build.EnumType = refl
-rule_tells build.BitfieldType = refl
-rule_tells build.Unit = refl
-rule_tells build.UnitType = refl
-rule_tells build.Label = refl
-rule_tells build.Bits = refl
-rule_tells build.FilterItem = refl
-rule_tells build.ByteOrderItem = refl
-rule_tells build.MimeTypeItem = refl
-rule_tells build.DescriptionItem = refl
-rule_tells build.VariableItem = refl
-rule_tells build.SinkItem = refl
-rule_tells build.OnItem = refl
 rule_tells build.NameTarget = λ x. refl
 rule_tells build.EventTarget = λ x. refl
-rule_tells build.PartItem = refl
-rule_tells build.SwitchPart = refl
-rule_tells build.Arm = refl
-rule_tells build.OtherwiseGuard = refl
-rule_tells build.ValuesGuard = refl
-rule_tells build.LookAheadGuard = refl
-rule_tells build.NothingBody = refl
-rule_tells build.OneBody = refl
-rule_tells build.ManyBody = refl
-rule_tells build.Field = refl
-rule_tells build.FieldPart = refl
-rule_tells build.Count = refl
 rule_tells build.Attribute = λ x. refl
-rule_tells build.TypeBase = refl
-rule_tells build.UnitBase = refl
 rule_tells build.BytesBase = λ x. refl
 rule_tells build.RegexBase = λ x. refl
 rule_tells build.NumberBase = λ x. refl
 rule_tells build.IntBase = λ x. refl
-rule_tells build.GroupBase = refl
-rule_tells build.Block = refl
-rule_tells build.BlockStmt = refl
-rule_tells build.LocalStmt = refl
-rule_tells build.IfStmt = refl
-rule_tells build.Branch = refl
-rule_tells build.WhileStmt = refl
-rule_tells build.ForStmt = refl
-rule_tells build.SwitchStmt = refl
-rule_tells build.Case = refl
-rule_tells build.ReturnStmt = refl
-rule_tells build.BreakStmt = refl
-rule_tells build.ContinueStmt = refl
-rule_tells build.StopStmt = refl
-rule_tells build.ConfirmStmt = refl
-rule_tells build.RejectStmt = refl
-rule_tells build.PrintStmt = refl
-rule_tells build.ThrowStmt = refl
-rule_tells build.AssertStmt = refl
-rule_tells build.AddStmt = refl
-rule_tells build.DeleteStmt = refl
-rule_tells build.ExprStmt = refl
-rule_tells build.SetStmt = refl
-rule_tells build.AddToStmt = refl
-rule_tells build.SubtractFromStmt = refl
-rule_tells build.Choice = refl
-rule_tells build.Or = refl
-rule_tells build.And = refl
-rule_tells build.In = refl
-rule_tells build.NotIn = refl
-rule_tells build.Equal = refl
-rule_tells build.NotEqual = refl
-rule_tells build.Less = refl
-rule_tells build.LessEqual = refl
-rule_tells build.Greater = refl
-rule_tells build.GreaterEqual = refl
-rule_tells build.BitOr = refl
-rule_tells build.BitXor = refl
-rule_tells build.BitAnd = refl
-rule_tells build.ShiftLeft = refl
-rule_tells build.ShiftRight = refl
-rule_tells build.Add = refl
-rule_tells build.Subtract = refl
-rule_tells build.Multiply = refl
-rule_tells build.Divide = refl
-rule_tells build.Remainder = refl
-rule_tells build.Not = refl
-rule_tells build.Negate = refl
-rule_tells build.Complement = refl
-rule_tells build.Member = refl
-rule_tells build.SetMember = refl
-rule_tells build.Index = refl
-rule_tells build.Call = refl
-rule_tells build.PathExpr = refl
-rule_tells build.SelfExpr = refl
-rule_tells build.CurrentExpr = refl
 rule_tells build.NumberExpr = λ x. refl
 rule_tells build.StringExpr = λ x. refl
 rule_tells build.BytesExpr = λ x. refl
 rule_tells build.RegexExpr = λ x. refl
-rule_tells build.TrueExpr = refl
-rule_tells build.FalseExpr = refl
-rule_tells build.Paren = tt
-rule_tells build.TupleExpr = refl
-rule_tells build.VectorExpr = refl
-rule_tells build.SetExpr = refl
-rule_tells build.MapExpr = refl
-rule_tells build.Pair = refl
-rule_tells build.EmptyVectorExpr = refl
-rule_tells build.EmptySetExpr = refl
-rule_tells build.EmptyMapExpr = refl
 rule_tells build.TypedNumberExpr = λ x. refl
-rule_tells build.CastExpr = refl
-rule_tells build.NewExpr = refl
-rule_tells build.SizeExpr = refl
-
-both : (a b : Bool) → a && b ≡ true → (a ≡ true) × (b ≡ true)
-both true true e = (refl, refl)
-both true false e = absurd cc
-both false b e = absurd cc
-
-either : (n m : ℕ) → (n < m) ⊎ (m ≤ n)
-either zero zero = inr (omega arith)
-either zero (suc m) = inl (omega arith)
-either (suc n) zero = inr (omega arith)
-either (suc n) (suc m) = ⊎_elim (λ h. inl (omega (arith, h))) (λ h. inr (omega (arith, h))) (either n m)
+rule_tells m = refl
 
 -- What holds of all words of one text each that the profile has, and of those that the tokens of a text tell, holds of
 -- those that its trees tell.
 module _ (P : Word → Type 0) (of_fixed : (k : TokenKind) → is_fixed k ≡ true → P (fixed k)) where
   fixed_hold : (ws : List Word) → all_fixed ws ≡ true → AllByRecursion P ws
   fixed_hold [] e = tt
-  fixed_hold (fixed kind ∷ ws) e = let h = both (is_fixed kind) (all_fixed ws) e in (of_fixed kind h.0, fixed_hold ws h.1)
+  fixed_hold (fixed kind ∷ ws) e = let h = and_parts (is_fixed kind) (all_fixed ws) e in (of_fixed kind h.0, fixed_hold ws h.1)
   fixed_hold (w ∷ ws) e = absurd cc
 
   -- it holds of all words that the trees of a list tell, and those on a stack
@@ -308,8 +177,7 @@ module _ (P : Word → Type 0) (of_fixed : (k : TokenKind) → is_fixed k ≡ tr
 
   respan_tells : (span : _) (t : Tree) → TellsOnly P t → TellsOnly P (respan span t)
   respan_tells span absent h = h
-  respan_tells span (row ts) h = h
-  respan_tells span (node form old ts) h = h
+  respan_tells span t h = h
 
   -- it holds of the words of the alternative that a token is of, and of those that the token tells
   abbrev LeafHolds : Option Form → Type 0
@@ -357,7 +225,7 @@ module _ (P : Word → Type 0) (of_fixed : (k : TokenKind) → is_fixed k ≡ tr
   none_told its (regex x) told = let e = told.0 in absurd cc
 
   -- it holds of the words that each token of a text tells
-  abbrev pub EachTells : List ℕ → List Token → Type 0
+  abbrev EachTells : List ℕ → List Token → Type 0
   EachTells source tokens = (n : ℕ) → n < length tokens → TokenTells (numbered tokens n).kind (bytes_of source (numbered tokens n))
 
   token_tells : (source : List ℕ) (tokens : List Token) → EachTells source tokens → (n : ℕ) → TokenTells (token_of tokens n).kind (bytes_of source (token_of tokens n))
@@ -365,7 +233,7 @@ module _ (P : Word → Type 0) (of_fixed : (k : TokenKind) → is_fixed k ≡ tr
       ⊎_elim
       (λ inside. subst (λ t. let x : Token = t in TokenTells x.kind (bytes_of source x)) (get_or_default tokens n (token_at token.Id 0 0) no_token inside) (each n inside))
       (λ past. subst (λ t. let x : Token = t in TokenTells x.kind (bytes_of source x)) (sym (get_or-eq_default tokens no_token past)) (none_told (bytes_of source no_token)))
-      (either n (length tokens))
+      (cases_lt n (length tokens))
 
   done_on : (r : Rule) → RuleTells r → (source : List ℕ) (tokens : List Token) → EachTells source tokens → (n : ℕ) (s : Stack) → On s → OnSome (done_by r source tokens n s)
   done_on begins tells source tokens each n s on = on

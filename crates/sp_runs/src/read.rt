@@ -21,8 +21,8 @@ pub struct Parsed {
 
 /// Reads the longest run of tokens from `at` on that begins some text of this kind. Where the run is such a text, the
 /// answer is its marks and the place behind it. Where it is none, the refusal is at the next token, or at the end of the
-/// text: M30 where that token is a word out of profile, and else M3. Each token of the run is looked at twice, and none
-/// behind the run but the next.
+/// text: M30 where that token is a word out of profile, and else M3. Each token of the run is looked at once where it
+/// ends the text, else at most twice, and none behind the run but the next.
 pub fn read_from(alloc: Global, tokens: &Tokens, start: Start, at: u32) -> Result<Parsed, ReadFault>
     requires at { at ≤ length tokens.now.list }
     ensures read { IfOk result (λ p. IsRead start tokens.now.list at p.events.items p.to) }

@@ -1,21 +1,16 @@
-use Rattle.std.proofs.Common.{List, subst, refl, IfSome, IfNone}
-use Rattle.sp_parser.specs.declared.symbol.Event.{Event}
-use Rattle.sp_parser.specs.Grammar.{Derives}
-use Rattle.sp_parser.proofs.Longest.{rest_is, run_is, longest_of}
+use Rattle.std.proofs.Common.{refl, subst, drop}
+use Rattle.sp_parser.specs.declared.outcome.Outcome.TheVariants.{Text, Refused}
+use Rattle.sp_parser.specs.Outcome.{IsParsedWhole}
+use Rattle.sp_parser.proofs.Longest.{rest_is, text_is_longest}
 use Rattle.sp_parser.proofs.entry.parse_from.Goals as goal
 
-pub returns-in-Some : goal.returns-in-Some
-returns-in-Some g c = (
-  c.in_ok-n.n,
-  refl,
-  longest_of g.G.Grammar.table c.args.nonterminal _ _ c.in_ok-n.n (rest_is _ _ c.count.result c.args.at c.count.ensures c.part-rest.ensures) c.in_ok-n.ensures.within c.in_ok-n.ensures.begins c.in_ok-n.ensures.longest,
-  subst (λ w. Derives g.G.Grammar.table c.args.nonterminal w c.in-Some.events.items) (run_is _ _ _ c.count.result c.args.at c.in_ok-n.n c.count.ensures c.part-rest.ensures c.part.ensures) (subst (λ o. IfSome o (λ v. Derives g.G.Grammar.table c.args.nonterminal (g.K.Kinds.kinds c.part.result) v.items)) c.in-Some.is c.in_ok-events.ensures.text),
-)
+pub returns-in-Text : goal.returns-in-Text
+returns-in-Text g c =
+    let whole : IsParsedWhole g.G.Grammar.table c.args.nonterminal (g.K.Kinds.kinds c.part-rest.result) (Text c.in-Text.events c.in-Text.n) = subst (λ o. IsParsedWhole g.G.Grammar.table c.args.nonterminal (g.K.Kinds.kinds c.part-rest.result) o) c.in-Text.is c.in_ok-events.ensures in
+    let run = text_is_longest g.G.Grammar.table c.args.nonterminal (g.K.Kinds.kinds c.part-rest.result) (drop c.args.at (g.K.Kinds.kinds c.args.tokens.now)) c.in-Text.events.items c.in-Text.n (rest_is _ _ c.count.result c.args.at c.count.ensures c.part-rest.ensures) whole.0 whole.1 in
+    (c.in-Text.n, refl, run.0, run.1)
 
-pub returns-in-None : goal.returns-in-None
-returns-in-None g c = (
-  c.in_ok-n.n,
-  refl,
-  longest_of g.G.Grammar.table c.args.nonterminal _ _ c.in_ok-n.n (rest_is _ _ c.count.result c.args.at c.count.ensures c.part-rest.ensures) c.in_ok-n.ensures.within c.in_ok-n.ensures.begins c.in_ok-n.ensures.longest,
-  subst (λ w. (τ : List Event) → Derives g.G.Grammar.table c.args.nonterminal w τ → ⊥) (run_is _ _ _ c.count.result c.args.at c.in_ok-n.n c.count.ensures c.part-rest.ensures c.part.ensures) (subst (λ o. IfNone o ((τ : List Event) → Derives g.G.Grammar.table c.args.nonterminal (g.K.Kinds.kinds c.part.result) τ → ⊥)) c.in-None.is c.in_ok-events.ensures.none),
-)
+pub part-requires-clause-within : goal.part-requires-clause-within
+part-requires-clause-within g c =
+    let whole : IsParsedWhole g.G.Grammar.table c.args.nonterminal (g.K.Kinds.kinds c.part-rest.result) (Refused c.in-Refused.n) = subst (λ o. IsParsedWhole g.G.Grammar.table c.args.nonterminal (g.K.Kinds.kinds c.part-rest.result) o) c.in-Refused.is c.in_ok-events.ensures in
+    whole.0.within

@@ -1,4 +1,4 @@
-use Rattle.sp_round_trip.proofs.Telling.{same_tree}
+use Rattle.sp_round_trip.proofs.AlikeTexts.{same_tree}
 use Rattle.sp_round_trip.proofs.laws.trees_are_of_words.Goals as goal
 
 pub returns : goal.returns

@@ -1,4 +1,4 @@
-use Rattle.sp_round_trip.proofs.Placed.{words_placed}
+use Rattle.sp_round_trip.proofs.PlacedWords.{words_placed}
 use Rattle.sp_round_trip.proofs.laws.words_of_a_read_module_are_placed.Goals as goal
 
 pub returns : goal.returns

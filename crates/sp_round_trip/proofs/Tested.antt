@@ -1,24 +1,22 @@
 -- A production whose test holds: what it built can be read again.
 use Rattle.std.specs.Prelude.{nat_lt, ◌&&◌, ◌||◌, ◌<◌, if◌then◌else◌}
-use Rattle.std.specs.Int.{bit_at}
 use Rattle.std.proofs.Common.{◌≡◌, ℕ, List, [], ◌∷◌, ◌++◌, map, Bool, true, false, ◌==◌, Option, Some, None, refl, sym, ◌∙◌, ap, subst, inl, inr, arith}
 use Rattle.std.proofs.lemmas.Bool.{and_parts, or_cases, eqb-true, ltb-true}
 use Rattle.std.proofs.lemmas.List.{append-nil}
-use Rattle.std.proofs.lemmas.Nat.Bits.{bit_at-zero}
-use Rattle.sp_parser.specs.declared.symbol.Symbol.{Symbol}
-use Rattle.sp_parser.specs.declared.symbol.Symbol.TheVariants as symbol
-use Rattle.sp_parser.specs.Grammar.{Applies, right, ahead, production_of}
 use Rattle.sp_lex.specs.declared.kinds.TokenKind.{TokenKind}
+use Rattle.sp_parser.specs.declared.symbol.Symbol.{Symbol}
+use Rattle.sp_parser.specs.Grammar.{Applies, right, production_of}
 use Rattle.sp_grammar.specs.declared.terminals.Terminal.TheVariants as token
 use Rattle.sp_grammar.specs.declared.terminals.Terminal.{Terminal}
 use Rattle.sp_grammar.specs.Terminals.{terminal_number}
 use Rattle.sp_grammar.specs.Own.{own}
 use Rattle.sp_grammar.specs.Written.{Part, part_number}
 use Rattle.sp_ast.specs.Trees.{Tree, node, trees}
+use Rattle.sp_build.proofs.Told.{never}
 use Rattle.sp_print.specs.Canonical.{spelled}
 use Rattle.sp_round_trip.specs.Bare.{nowhere}
 use Rattle.sp_round_trip.proofs.Held.{Pile, made}
-use Rattle.sp_round_trip.proofs.Goes.{Tok, number, coming, before, pushed, Goes, nothing, part}
+use Rattle.sp_round_trip.proofs.Goes.{Tok, number, coming, before, pushed, Goes}
 use Rattle.sp_round_trip.proofs.Shown.{Yield, Manner, plain, expression, avoided, level_part, Avoids, MayPass, Spells, ClaimAs, Trace}
 use Rattle.sp_round_trip.proofs.Spelled.{spells_of}
 use Rattle.sp_round_trip.proofs.Chunks.{Chunk, built, chunk_words, Split, no_chunk, a_chunk, wrote, ends_as}
@@ -26,13 +24,11 @@ use Rattle.sp_round_trip.proofs.Laid.{ends_again}
 use Rattle.sp_round_trip.proofs.Advance.{State, Guard, guard_of, unguarded, advance, is_yield, is_spelled, avoids_only, is_again}
 use Rattle.sp_round_trip.proofs.Piles.{Piled, bottom, above}
 use Rattle.sp_round_trip.proofs.Sound.{Guarded, Onward, sound}
+use Rattle.sp_round_trip.proofs.Steps.{chosen}
 
 -- a production that may be taken before anything
-abbrev pub IsFree : ℕ → ℕ → Type 0
+abbrev IsFree : ℕ → ℕ → Type 0
 IsFree n p = (production_of own n p).avoid ≡ 0
-
-pub taken_again : (n p : ℕ) → IsFree n p → (x : List Tok) {w v : List Tok} {s t : Pile} → Applies own n p (map number x) → Goes (right own n p) w s v t → Goes (symbol.Nonterminal n ∷ []) w s v t
-taken_again n p free x {w = w} a g = part p (record { below = a.below; allowed = subst (λ z. bit_at z (ahead (map number w)) ≡ 0) (sym free) (bit_at-zero (ahead (map number w))) }) g nothing
 
 -- What is left of a production that began on nothing: the trees of these chunks, which are read again from their words.
 abbrev Left : Guard → List Symbol → List Tok → List Chunk → Pile → Pile → Type 0
@@ -55,22 +51,22 @@ left_by : (guard : Guard) (ss : List Symbol) (cs : List Chunk) {w u : List Tok} 
 left_by guard ss cs {u = u} ok tr = let (now, on) = sound guard ss ([] ∷ []) (cs ∷ []) ok tr (bottom [] no_chunk refl) in left_of guard ss u now on
 
 yield_some : (y : Yield) (o : Option State) → is_yield y o ≡ true → (cs : List Chunk) × (o ≡ Some (cs ∷ [])) × (ends_as y cs ≡ true)
-yield_some y None e = absurd (let q : false ≡ true = e in cc)
-yield_some y (Some []) e = absurd (let q : false ≡ true = e in cc)
+yield_some y None e = never e
+yield_some y (Some []) e = never e
 yield_some y (Some (cs ∷ [])) e = (cs, refl, e)
-yield_some y (Some (cs ∷ ds ∷ σ)) e = absurd (let q : false ≡ true = e in cc)
+yield_some y (Some (cs ∷ ds ∷ σ)) e = never e
 
 plain_again : (n p : ℕ) (y : Yield) → IsFree n p → is_yield y (advance (guard_of n) (right own n p) ([] ∷ [])) ≡ true → {w u : List Tok} {s t : Pile} → Applies own n p (map number w) → Trace (right own n p) w s u t → ClaimAs (plain y) n w s t u
 plain_again n p y free ok {w = w} a tr =
     let (cs, found, ends) = yield_some y (advance (guard_of n) (right own n p) ([] ∷ [])) ok in
     let (ts, sp, is, goes) = left_by (guard_of n) (right own n p) cs found tr in
     let (fits, words) = ends_again y cs ts ends sp in
-    (ts, is, fits, λ last v c may. taken_again n p free w a (subst (λ q. Goes (right own n p) (before q v) c v (pushed ts c)) (words last) (goes last v c may)))
+    (ts, is, fits, λ last v c may. chosen n p a.below free (subst (λ q. Goes (right own n p) (before q v) c v (pushed ts c)) (words last) (goes last v c may)))
 
 spelled_some : (n : ℕ) (passes : Bool) (o : Option State) → is_spelled n passes o ≡ true
     → (level : ℕ) × (o ≡ Some ((built level ∷ []) ∷ [])) × ((if passes then level == 15 else nat_lt level 15) ≡ true) × (((n == part_number Part.Primary) || (n == part_number (level_part level))) ≡ true)
 spelled_some n passes (Some ((built level ∷ []) ∷ [])) e = let b = and_parts (if passes then level == 15 else nat_lt level 15) ((n == part_number Part.Primary) || (n == part_number (level_part level))) e in (level, refl, b.0, b.1)
-spelled_some n passes o e = absurd (let q : false ≡ true = e in cc)
+spelled_some n passes o e = never e
 
 -- an expression that is left is spelled, if what may come behind it is what its level lets pass
 expression_again : (n p level : ℕ) (guard : Guard) (w u : List Tok) → IsFree n p → (((n == part_number Part.Primary) || (n == part_number (level_part level))) ≡ true) → {s t : Pile}
@@ -82,7 +78,7 @@ expression_again n p level guard w u free fits {s = s} a may (ts, a_chunk us (fo
       x,
       e ∙ ap (λ zs. pushed zs s) all,
       spells_of n form parts expression_is not_new (subst (λ l. ((n == part_number Part.Primary) || (n == part_number (level_part l))) ≡ true) (sym level_is) fits) (λ last v c pass.
-          taken_again n p free w a (subst (λ zs. Goes (right own n p) (before (spelled x last) v) c v (pushed zs c)) all
+          chosen n p a.below free (subst (λ zs. Goes (right own n p) (before (spelled x last) v) c v (pushed zs c)) all
           (subst (λ q. Goes (right own n p) (before q v) c v (pushed (us ++ []) c)) (words last) (goes last v c (may v (subst (λ l. MayPass l v) level_is pass)))))),
     )
 
@@ -109,4 +105,4 @@ spelled_again n p level free ok {w = w} {u = u} a tr =
 pub test_again : (m : Manner) (n p : ℕ) → IsFree n p → is_again m n (right own n p) ≡ true → {w u : List Tok} {s t : Pile} → Applies own n p (map number w) → Trace (right own n p) w s u t → ClaimAs m n w s t u
 test_again (plain y) n p free ok a tr = plain_again n p y free ok a tr
 test_again (expression level) n p free ok a tr = spelled_again n p level free ok a tr
-test_again m n p free ok a tr = absurd (let q : false ≡ true = ok in cc)
+test_again m n p free ok a tr = never ok

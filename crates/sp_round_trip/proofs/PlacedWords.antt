@@ -1,6 +1,6 @@
 -- Each word of the canonical text of a module that was read stands where it may.
-use Rattle.std.proofs.Common.{None, subst}
 use Rattle.std.specs.List.{AllByRecursion}
+use Rattle.std.proofs.Common.{None, subst}
 use Rattle.sp_lex.specs.Lexed.{Lexed, IsLexed}
 use Rattle.sp_ast.specs.Trees.{Tree, Trees, absent, row, node, none, more}
 use Rattle.sp_read_unit.specs.Modules.{IsModuleTree}
@@ -8,14 +8,13 @@ use Rattle.sp_printed_words.specs.Modules.{module_lines}
 use Rattle.sp_printed_words.specs.Sound.{IsSound, ArePlaced}
 use Rattle.sp_printed_words.specs.Trees.{TellsOnly, TellOnly}
 use Rattle.sp_printed_words.proofs.Placed.{module_placed}
-use Rattle.sp_round_trip.specs.Bare.{bare, bares}
-use Rattle.sp_round_trip.proofs.Converted.{goes_of_tree}
-use Rattle.sp_round_trip.proofs.Nowhere.{lines_same}
-use Rattle.sp_round_trip.proofs.Tells.{module_tells}
 use Rattle.sp_printed_words.proofs.Told.{told_sound}
-use Rattle.sp_printed_words.specs.Sound.{IsSound}
-use Rattle.sp_round_trip.proofs.Tops.{module_formed}
-use Rattle.sp_round_trip.proofs.Worded.{told_words}
+use Rattle.sp_round_trip.specs.Bare.{bare, bares}
+use Rattle.sp_round_trip.proofs.TextReadings.{goes_of_tree}
+use Rattle.sp_round_trip.proofs.Placeless.{lines_same}
+use Rattle.sp_round_trip.proofs.Tells.{module_tells}
+use Rattle.sp_round_trip.proofs.FormedModules.{module_formed}
+use Rattle.sp_round_trip.proofs.ToldWords.{told_words}
 
 -- a tree apart from places tells what the tree tells
 mutual

@@ -1,10 +1,11 @@
 -- Readings of a text by the grammar in its own words are readings of the words that its tokens tell, with what their marks
 -- build, and back.
 use Rattle.std.specs.Prelude.{option_map}
-use Rattle.std.proofs.Common.{◌≡◌, ℕ, suc, ◌+◌, get_or, arith, List, [], ◌∷◌, map, Bool, true, false, cond, ◌==◌, Option, Some, None, refl, ap, sym, ◌∙◌, subst}
+use Rattle.std.proofs.Common.{◌≡◌, ℕ, suc, ◌+◌, get_or, arith, List, [], ◌∷◌, map, Bool, true, false, cond, ◌==◌, Option, Some, refl, ap, sym, ◌∙◌, subst}
+use Rattle.std.proofs.Math.ListN.{get_or-map}
+use Rattle.std.proofs.lemmas.Simd.{map-map}
 use Rattle.sp_lex.specs.Lexed.{Lexed}
 use Rattle.sp_parser.specs.declared.symbol.Symbol.{Symbol}
-use Rattle.sp_parser.specs.declared.symbol.Symbol.TheVariants as symbol
 use Rattle.sp_parser.specs.declared.symbol.Event.{Event}
 use Rattle.sp_parser.specs.Grammar.{Derives, takes, Nothing, First, All, Applies, SECOND, CLOSE, event}
 use Rattle.sp_grammar.specs.declared.marks.Mark.{Mark}
@@ -14,24 +15,26 @@ use Rattle.sp_grammar.specs.Own.{own}
 use Rattle.sp_grammar.specs.Reads.{Reads}
 use Rattle.sp_grammar.specs.Reads as reads
 use Rattle.sp_grammar.specs.Starts.{start_number}
-use Rattle.sp_grammar.specs.Written.{Part, part_number}
+use Rattle.sp_grammar.specs.Written.{Part, part as part_symbol}
 use Rattle.sp_grammar.specs.declared.language.Start.TheVariants.{Module}
 use Rattle.sp_grammar.proofs.OwnWords.{read_of_table, table_of_read}
-use Rattle.sp_ast.specs.Trees.{Tree}
 use Rattle.sp_runs.specs.Kinds.{numbers_of, number_of, terminal_of}
+use Rattle.sp_ast.specs.Trees.{Tree}
 use Rattle.sp_build.specs.Groups.{is_of}
 use Rattle.sp_build.specs.Starting.{group_of}
 use Rattle.sp_build.specs.Building.{all_done, no_token}
 use Rattle.sp_build.specs.Rules.{rule}
+use Rattle.sp_build.proofs.Standing.{then_some}
+use Rattle.sp_build.proofs.Shapes.{and_then}
 use Rattle.sp_print.specs.Words.{Word}
 use Rattle.sp_read_unit.specs.Modules.{IsModuleTree}
 use Rattle.sp_round_trip.specs.Bare.{bare}
 use Rattle.sp_round_trip.specs.Told.{Telling, telling, told}
-use Rattle.sp_round_trip.proofs.Held.{Pile, made, does, by_mark, on_pile, does_all}
+use Rattle.sp_round_trip.proofs.Held.{Pile, made, does, does_all}
 use Rattle.sp_round_trip.proofs.Goes.{Tok, entire, half, tells, number, ending, next, Goes, telling_of, before}
 use Rattle.sp_round_trip.proofs.Goes as goes
 use Rattle.sp_round_trip.proofs.Machine.{piled, tell_at, all_held, of_bare}
-use Rattle.sp_round_trip.proofs.Telling.{get_map, map_of, one_left}
+use Rattle.sp_round_trip.proofs.AlikeTexts.{one_left}
 
 -- equal lists begin and end alike
 parts_same : {A : Type 0} (x y : A) (xs ys : List A) → x ∷ xs ≡ y ∷ ys → (x ≡ y) × (xs ≡ ys)
@@ -47,13 +50,8 @@ second_is_whole e h = by_kind (e == CLOSE) (e == SECOND) h
     by_kind false false h = absurd cc
 
 -- a mark that was passed has its rule, which did what it does
-mark_passed : (o : Option Mark) (go : Mark → Option Pile) (on : Pile → Option Pile) (z : Pile) → on_pile (by_mark o go) on ≡ Some z → (m : Mark) × (t : Pile) × (o ≡ Some m) × (go m ≡ Some t) × (on t ≡ Some z)
-mark_passed None go on z h = absurd cc
-mark_passed (Some m) go on z h = by_pile (go m) refl h
-  where
-    by_pile : (p : Option Pile) → go m ≡ p → on_pile p on ≡ Some z → (k : Mark) × (t : Pile) × (Some m ≡ Some k) × (go k ≡ Some t) × (on t ≡ Some z)
-    by_pile None e h = absurd cc
-    by_pile (Some t) e h = (m, t, refl, e, h)
+mark_passed : (o : Option Mark) (go : Mark → Option Pile) (on : Pile → Option Pile) (z : Pile) → and_then (and_then o go) on ≡ Some z → (m : Mark) × (t : Pile) × (o ≡ Some m) × (go m ≡ Some t) × (on t ≡ Some z)
+mark_passed o go on z h = let (t, there, then_on) = then_some (and_then o go) on z h in let (m, is, did) = then_some o go t there in (m, t, is, did, then_on)
 
 module _ (tell : ℕ → Telling) where
   -- from a place on, the tokens tell these words
@@ -119,9 +117,9 @@ module _ (tell : ℕ → Telling) where
         marks = λ τ. (let b = a.marks τ in (
           event n i ∷ b.0,
           reads.mark b.1,
-          ap (λ o. on_pile (by_mark o (λ k. does (rule k) (tell i) s)) (λ next. does_all tell b.0 next)) is
-              ∙ ap (λ told. on_pile (does (rule m) told s) (λ next. does_all tell b.0 next)) (next_told i w stands)
-              ∙ ap (λ o. on_pile o (λ next. does_all tell b.0 next)) built ∙ b.2,
+          ap (λ o. and_then (and_then o (λ k. does (rule k) (tell i) s)) (λ next. does_all tell b.0 next)) is
+              ∙ ap (λ told. and_then (does (rule m) told s) (λ next. does_all tell b.0 next)) (next_told i w stands)
+              ∙ ap (λ o. and_then o (λ next. does_all tell b.0 next)) built ∙ b.2,
         ));
       }
   reads_of_goes (goes.part p applies r q) i stands =
@@ -140,7 +138,7 @@ stand_if_told tell (w ∷ ws) i h = (ap tell (omega arith) ∙ h 0, stand_if_tol
 
 -- the words that the tokens of a text tell stand there
 told_stand : (lexed : Lexed) (ws : List Word) → told lexed ≡ map telling_of ws → Stands (tell_at lexed.text lexed.list) 0 (before ws [])
-told_stand lexed ws e = stand_if_told (tell_at lexed.text lexed.list) ws 0 (λ n. ap (tell_at lexed.text lexed.list) (omega arith) ∙ get_map (telling lexed.text) lexed.list n no_token ∙ ap (λ ts. get_or ts n ending) e)
+told_stand lexed ws e = stand_if_told (tell_at lexed.text lexed.list) ws 0 (λ n. ap (tell_at lexed.text lexed.list) (omega arith) ∙ sym (get_or-map (telling lexed.text) lexed.list n no_token) ∙ ap (λ ts. get_or ts n ending) e)
 
 numbers_before : (ws : List Word) → map (λ t. let x : Telling = t in number_of (terminal_of x.kind)) (map telling_of ws) ≡ map number (before ws [])
 numbers_before [] = refl
@@ -149,16 +147,16 @@ numbers_before (w ∷ ws) = ap (λ ks. number (entire w) ∷ ks) (numbers_before
 -- and their kinds are those of the tokens
 told_numbers : (lexed : Lexed) (ws : List Word) → told lexed ≡ map telling_of ws → numbers_of lexed.list ≡ map number (before ws [])
 told_numbers lexed ws e =
-    map_of (telling lexed.text) (λ t. let x : Telling = t in number_of (terminal_of x.kind)) lexed.list
+    sym (map-map (λ t. let x : Telling = t in number_of (terminal_of x.kind)) (telling lexed.text) lexed.list)
     ∙ ap (λ ts. map (λ t. let x : Telling = t in number_of (terminal_of x.kind)) ts) e ∙ numbers_before ws
 
 -- the reading of a module that reads all words and builds this
 abbrev pub ReadsModule : List Tok → Tree → Type 0
-ReadsModule w t = Goes (symbol.Nonterminal (part_number Part.Module) ∷ []) w [] [] (made t ∷ [])
+ReadsModule w t = Goes (part_symbol Part.Module ∷ []) w [] [] (made t ∷ [])
 
-whole_module : (w v : List Tok) (s : Pile) (t : Tree) → Goes (symbol.Nonterminal (part_number Part.Module) ∷ []) w [] v s → map number v ≡ [] → Some s ≡ Some (made t ∷ []) → ReadsModule w t
+whole_module : (w v : List Tok) (s : Pile) (t : Tree) → Goes (part_symbol Part.Module ∷ []) w [] v s → map number v ≡ [] → Some s ≡ Some (made t ∷ []) → ReadsModule w t
 whole_module w (x ∷ v) s t r e h = absurd cc
-whole_module w [] s t r e h = let same : s ≡ made t ∷ [] = cc in subst (λ p. Goes (symbol.Nonterminal (part_number Part.Module) ∷ []) w [] [] p) same r
+whole_module w [] s t r e h = let same : s ≡ made t ∷ [] = cc in subst (λ p. Goes (part_symbol Part.Module ∷ []) w [] [] p) same r
 
 -- a module that was read is read from the words that its tokens tell
 pub goes_of_tree : (lexed : Lexed) (m : Tree) (ws : List Word) → told lexed ≡ map telling_of ws → IsModuleTree lexed m → ReadsModule (before ws []) (bare m)

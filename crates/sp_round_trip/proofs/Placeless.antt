@@ -26,34 +26,27 @@ use Rattle.sp_round_trip.specs.Bare.{bare, bares}
 -- what decides on the parentheses round a tree
 is_absent_bare : (t : Tree) → is_absent (bare t) ≡ is_absent t
 is_absent_bare absent = refl
-is_absent_bare (row ts) = refl
-is_absent_bare (node form span ts) = refl
+is_absent_bare t = refl
 
 empty_bare : (t : Tree) → is_empty_row (bare t) ≡ is_empty_row t
-empty_bare absent = refl
 empty_bare (row none) = refl
-empty_bare (row (more t ts)) = refl
-empty_bare (node form span ts) = refl
+empty_bare t = refl
 
 arguments_bare : (ts : Trees) → is_bare (bares ts) ≡ is_bare ts
-arguments_bare none = refl
-arguments_bare (more path none) = refl
 arguments_bare (more path (more arguments ts)) = empty_bare arguments
+arguments_bare ts = refl
 
 form_level_bare : (form : Form) (ts : Trees) → form_level form (bares ts) ≡ form_level form ts
 form_level_bare (form_is.Expr expr_is.New) ts = ap (λ b. if b then 14 else 15) (arguments_bare ts)
 form_level_bare form ts = refl
 
 level_bare : (t : Tree) → level_of (bare t) ≡ level_of t
-level_bare absent = refl
-level_bare (row ts) = refl
 level_bare (node form span ts) = form_level_bare form ts
+level_bare t = refl
 
 skip_bare : (t : Tree) → is_skip (bare t) ≡ is_skip t
-skip_bare absent = refl
-skip_bare (row ts) = refl
 skip_bare (node (form_is.Name x) span ts) = refl
-skip_bare (node form span ts) = refl
+skip_bare t = refl
 
 mutual
   divides_bare : (t : Tree) → divides_behind (bare t) ≡ divides_behind t
@@ -62,22 +55,15 @@ mutual
   divides_bare (node form span ts) = last_bare form ts
 
   last_bare : (form : Form) (ts : Trees) → last_divides form (bares ts) ≡ last_divides form ts
-  last_bare (form_is.Expr expr_is.Member) none = refl
-  last_bare (form_is.Expr expr_is.Member) (more t none) = refl
   last_bare (form_is.Expr expr_is.Member) (more t (more n ts)) = ap not (skip_bare n)
-  last_bare (form_is.Expr (expr_is.Unary op)) none = refl
   last_bare (form_is.Expr (expr_is.Unary op)) (more t ts) = ap (λ n. nat_lt n 13 || divides_behind (bare t)) (level_bare t) ∙ ap (λ b. nat_lt (level_of t) 13 || b) (divides_bare t)
-  last_bare (form_is.Expr (expr_is.Binary op)) none = refl
-  last_bare (form_is.Expr (expr_is.Binary op)) (more t none) = refl
   last_bare (form_is.Expr (expr_is.Binary op)) (more t (more u ts)) =
       ap (λ n. nat_lt n (level op + 1) || divides_behind (bare u)) (level_bare u) ∙ ap (λ b. nat_lt (level_of u) (level op + 1) || b) (divides_bare u)
   last_bare form ts = refl
 
 regex_bare : (t : Tree) → is_regex (bare t) ≡ is_regex t
-regex_bare absent = refl
-regex_bare (row ts) = refl
 regex_bare (node (form_is.Expr (expr_is.Regex x)) span ts) = refl
-regex_bare (node form span ts) = refl
+regex_bare t = refl
 
 needs_bare : (tight : ℕ) (dividend : Bool) (t : Tree) (before : Option TokenKind) → needs_parentheses tight dividend (bare t) before ≡ needs_parentheses tight dividend t before
 needs_bare tight dividend t before =
@@ -150,16 +136,12 @@ lines_bare none = refl
 lines_bare (more t ts) = ap (λ w. w None ∷ lines_of (bares ts)) (spelled_bare t) ∙ ap (λ lines. spelled t None ∷ lines) (lines_bare ts)
 
 row_bare : (t : Tree) → row_of (bare t) ≡ bares (row_of t)
-row_bare absent = refl
 row_bare (row ts) = refl
-row_bare (node form span ts) = refl
+row_bare t = refl
 
 declarations_bare : (m : Tree) → declarations (bare m) ≡ bares (declarations m)
-declarations_bare absent = refl
-declarations_bare (row ts) = refl
-declarations_bare (node form span none) = refl
-declarations_bare (node form span (more name none)) = refl
 declarations_bare (node form span (more name (more r ts))) = row_bare r
+declarations_bare t = refl
 
 -- the words of a module are those of the module apart from places
 pub lines_same : (m : Tree) → module_lines (bare m) ≡ module_lines m

@@ -1,11 +1,12 @@
--- The alternatives of parts of which it is proved one by one that they can be read again, to be found by their part and
--- their place in it.
+-- The alternatives of which the test does not hold, as their canonical text has other tokens or parentheses, or as their
+-- trees are no plain list: each by its part and its place in it, with the proof that it has its claim.
 use Rattle.std.specs.Prelude.{◌&&◌, ◌||◌}
-use Rattle.std.proofs.Common.{◌≡◌, ℕ, List, [], ◌∷◌, map, Bool, true, false, ◌==◌, subst, inl, inr}
+use Rattle.std.proofs.Common.{◌≡◌, ℕ, List, [], ◌∷◌, map, Bool, true, false, ◌==◌, subst, inl, inr, refl}
 use Rattle.std.proofs.lemmas.Bool.{and_parts, cases_Bool, eqb-true}
 use Rattle.sp_parser.specs.Grammar.{Applies, right}
 use Rattle.sp_grammar.specs.Written.{Part, part_number}
 use Rattle.sp_grammar.specs.Own.{own}
+use Rattle.sp_build.proofs.Told.{never}
 use Rattle.sp_round_trip.proofs.Held.{Pile}
 use Rattle.sp_round_trip.proofs.Goes.{Tok, number}
 use Rattle.sp_round_trip.proofs.Shown.{Claim, Trace}
@@ -18,9 +19,9 @@ use Rattle.sp_round_trip.proofs.HookDeclarations.{on_shown}
 use Rattle.sp_round_trip.proofs.HookPaths.{more_path_shown, path_event_shown, path_end_shown}
 use Rattle.sp_round_trip.proofs.IfStatements.{if_shown}
 use Rattle.sp_round_trip.proofs.IntegerBases.{number_base_shown, integer_base_shown}
-use Rattle.sp_round_trip.proofs.Keeping.{keeps_expr, keeps_or, keeps_and, keeps_membership, keeps_equality, keeps_order, keeps_bit_or, keeps_bit_xor, keeps_bit_and, keeps_shift, keeps_sum, keeps_product, keeps_prefix, keeps_postfix, keeps_parentheses}
-use Rattle.sp_round_trip.proofs.News.{makes_new, has_arguments, has_no_arguments}
-use Rattle.sp_round_trip.proofs.Operands.{divides, calls}
+use Rattle.sp_round_trip.proofs.KeptTrees.{kept, keeps_parentheses}
+use Rattle.sp_round_trip.proofs.NewExpressions.{makes_new, has_arguments, has_no_arguments}
+use Rattle.sp_round_trip.proofs.DivisionsAndCalls.{divides, calls}
 use Rattle.sp_round_trip.proofs.Parameters.{parameters_shown, no_parameters_shown}
 use Rattle.sp_round_trip.proofs.Semicolons.{semicolon_shown, no_semicolon_shown}
 use Rattle.sp_round_trip.proofs.TypedNumbers.{types_number}
@@ -39,6 +40,7 @@ abbrev alternative : (n p : ℕ) → Claimed n p → Alternative
 alternative n p c = record { of = n; place = p; claimed = c }
 
 abbrev pub alternatives : List Alternative
+unfolding own
 alternatives =
     alternative (part_number Part.Decls) 0 (λ w u s t a g. declarations_shown w u s t g)
     ∷ alternative (part_number Part.Decls) 1 (λ w u s t a g. no_declarations_shown w u s t g)
@@ -60,22 +62,22 @@ alternatives =
     ∷ alternative (part_number Part.OptElse) 0 (λ w u s t a g. else_if_shown w u s t g)
     ∷ alternative (part_number Part.OptElse) 1 (λ w u s t a g. else_shown w u s t g)
     ∷ alternative (part_number Part.OptElse) 2 (λ w u s t a g. no_else_shown w u s t a g)
-    ∷ alternative (part_number Part.Expr) 1 (λ w u s t a g. keeps_expr g)
-    ∷ alternative (part_number Part.Or) 1 (λ w u s t a g. keeps_or g)
-    ∷ alternative (part_number Part.And) 1 (λ w u s t a g. keeps_and g)
-    ∷ alternative (part_number Part.Membership) 2 (λ w u s t a g. keeps_membership g)
-    ∷ alternative (part_number Part.Equality) 2 (λ w u s t a g. keeps_equality g)
-    ∷ alternative (part_number Part.Order) 4 (λ w u s t a g. keeps_order g)
-    ∷ alternative (part_number Part.BitOr) 1 (λ w u s t a g. keeps_bit_or g)
-    ∷ alternative (part_number Part.BitXor) 1 (λ w u s t a g. keeps_bit_xor g)
-    ∷ alternative (part_number Part.BitAnd) 1 (λ w u s t a g. keeps_bit_and g)
-    ∷ alternative (part_number Part.Shift) 2 (λ w u s t a g. keeps_shift g)
-    ∷ alternative (part_number Part.Sum) 2 (λ w u s t a g. keeps_sum g)
+    ∷ alternative (part_number Part.Expr) 1 (λ w u s t a g. kept (part_number Part.Expr) (part_number Part.Or) 1 2 refl refl g)
+    ∷ alternative (part_number Part.Or) 1 (λ w u s t a g. kept (part_number Part.Or) (part_number Part.And) 2 3 refl refl g)
+    ∷ alternative (part_number Part.And) 1 (λ w u s t a g. kept (part_number Part.And) (part_number Part.Membership) 3 4 refl refl g)
+    ∷ alternative (part_number Part.Membership) 2 (λ w u s t a g. kept (part_number Part.Membership) (part_number Part.Equality) 4 5 refl refl g)
+    ∷ alternative (part_number Part.Equality) 2 (λ w u s t a g. kept (part_number Part.Equality) (part_number Part.Order) 5 6 refl refl g)
+    ∷ alternative (part_number Part.Order) 4 (λ w u s t a g. kept (part_number Part.Order) (part_number Part.BitOr) 6 7 refl refl g)
+    ∷ alternative (part_number Part.BitOr) 1 (λ w u s t a g. kept (part_number Part.BitOr) (part_number Part.BitXor) 7 8 refl refl g)
+    ∷ alternative (part_number Part.BitXor) 1 (λ w u s t a g. kept (part_number Part.BitXor) (part_number Part.BitAnd) 8 9 refl refl g)
+    ∷ alternative (part_number Part.BitAnd) 1 (λ w u s t a g. kept (part_number Part.BitAnd) (part_number Part.Shift) 9 10 refl refl g)
+    ∷ alternative (part_number Part.Shift) 2 (λ w u s t a g. kept (part_number Part.Shift) (part_number Part.Sum) 10 11 refl refl g)
+    ∷ alternative (part_number Part.Sum) 2 (λ w u s t a g. kept (part_number Part.Sum) (part_number Part.Product) 11 12 refl refl g)
     ∷ alternative (part_number Part.Product) 1 (λ w u s t a g. divides g)
-    ∷ alternative (part_number Part.Product) 3 (λ w u s t a g. keeps_product g)
-    ∷ alternative (part_number Part.Prefix) 3 (λ w u s t a g. keeps_prefix g)
+    ∷ alternative (part_number Part.Product) 3 (λ w u s t a g. kept (part_number Part.Product) (part_number Part.Prefix) 12 13 refl refl g)
+    ∷ alternative (part_number Part.Prefix) 3 (λ w u s t a g. kept (part_number Part.Prefix) (part_number Part.Postfix) 13 14 refl refl g)
     ∷ alternative (part_number Part.Postfix) 3 (λ w u s t a g. calls g)
-    ∷ alternative (part_number Part.Postfix) 4 (λ w u s t a g. keeps_postfix g)
+    ∷ alternative (part_number Part.Postfix) 4 (λ w u s t a g. kept (part_number Part.Postfix) (part_number Part.Primary) 14 15 refl refl g)
     ∷ alternative (part_number Part.Primary) 9 (λ w u s t a g. keeps_parentheses g)
     ∷ alternative (part_number Part.Primary) 17 (λ w u s t a g. types_number g)
     ∷ alternative (part_number Part.Primary) 19 (λ w u s t a g. makes_new g)
@@ -88,7 +90,7 @@ is_among n p [] = false
 is_among n p (a ∷ others) = (a.of == n && a.place == p) || is_among n p others
 
 pub claimed_among : (alternatives : List Alternative) (n p : ℕ) → is_among n p alternatives ≡ true → Claimed n p
-claimed_among [] n p h = absurd (let q : false ≡ true = h in cc)
+claimed_among [] n p h = never h
 claimed_among (a ∷ others) n p h = elim (cases_Bool (a.of == n && a.place == p)) [
   | inl y ↦
       let same = and_parts (a.of == n) (a.place == p) y in

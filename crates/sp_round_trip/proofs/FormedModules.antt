@@ -1,20 +1,20 @@
 -- A module that was read is formed, by what stands on top of the pile from symbol to symbol of the grammar.
-use Rattle.std.specs.Prelude.{if◌then◌else◌, ◌==◌, ◌&&◌, ◌||◌}
-use Rattle.std.proofs.Common.{append-nil, ◌≡◌, ℕ, zero, suc, ◌<◌, length, get_or, cond, eqb-true, arith, List, [], ◌∷◌, ◌++◌, reverse, Bool, true, false, Option, Some, None, refl, sym, subst, ap, ◌∙◌, rules, tests}
-use Rattle.sp_parser.specs.declared.symbol.Symbol.{Symbol}
-use Rattle.sp_parser.specs.declared.symbol.Symbol.TheVariants as symbol
-use Rattle.sp_parser.specs.Grammar.{takes, Nothing, First, All, SECOND, right, Production, at_production}
+use Rattle.std.specs.Prelude.{if◌then◌else◌, ◌==◌, ◌||◌}
+use Rattle.std.proofs.Common.{append-nil, ◌≡◌, ℕ, eqb-true, List, [], ◌∷◌, ◌++◌, reverse, Bool, true, false, Option, Some, None, refl, sym, subst, ap, ◌∙◌, rules, tests}
 use Rattle.sp_lex.specs.Signs.{word_kind}
 use Rattle.sp_lex.specs.declared.kinds.TokenKind.{TokenKind}
 use Rattle.sp_lex.specs.declared.kinds.TokenKind.TheVariants as token
+use Rattle.sp_parser.specs.declared.symbol.Symbol.{Symbol}
+use Rattle.sp_parser.specs.declared.symbol.Symbol.TheVariants as symbol
+use Rattle.sp_parser.specs.Grammar.{takes, First, All, SECOND, right, Production}
 use Rattle.sp_grammar.specs.declared.marks.Mark.{Mark}
 use Rattle.sp_grammar.specs.declared.marks.Mark.TheVariants as build
 use Rattle.sp_grammar.specs.declared.terminals.Terminal.TheVariants as terminal
 use Rattle.sp_grammar.specs.Marks.{mark_with}
 use Rattle.sp_grammar.specs.Terminals.{terminal_number}
 use Rattle.sp_grammar.specs.Own.{own}
-use Rattle.sp_grammar.specs.Written.{Part, part_number}
-use Rattle.sp_grammar.specs.Written.{part as part_symbol}
+use Rattle.sp_grammar.specs.Written.{Part, part_number, part as part_symbol}
+use Rattle.sp_grammar.proofs.Spans.{every_production, one_production}
 use Rattle.sp_runs.specs.Kinds.{number_of, terminal_of}
 use Rattle.sp_ast.specs.declared.forms.Form.TheVariants as form_is
 use Rattle.sp_ast.specs.declared.forms.ExprForm.TheVariants as expr_is
@@ -24,16 +24,17 @@ use Rattle.sp_build.specs.declared.groups.Sort.TheVariants.{One as one, Rows as 
 use Rattle.sp_build.specs.declared.groups.Slot.TheVariants.{Part as part, Several as several}
 use Rattle.sp_build.specs.Groups.{is_of}
 use Rattle.sp_build.specs.Rules.{by_name, rule}
-use Rattle.sp_build.proofs.Standing.{some_equal, not_some}
+use Rattle.sp_build.proofs.Standing.{some_equal, not_some, if_some, then_some}
+use Rattle.sp_build.proofs.Shapes.{and_then}
 use Rattle.sp_print.specs.Words.{Word, name}
 use Rattle.sp_printed_words.specs.Sound.{read_as}
 use Rattle.sp_printed_words.specs.Formed.{is_name, IsId, AreIds, first, IsFormedModule}
 use Rattle.sp_round_trip.specs.Bare.{nowhere}
 use Rattle.sp_round_trip.specs.Told.{Telling}
 use Rattle.sp_round_trip.proofs.Held.{started, made, Pile, After, after, after_do, top, front, start, filled, put, put_if, does, form_told}
-use Rattle.sp_round_trip.proofs.Goes.{Tok, entire, half, number, next, tells, Goes, nothing, whole, first_half, mark}
-use Rattle.sp_round_trip.proofs.Goes.{part as read_part}
-use Rattle.sp_round_trip.proofs.Formed.{both, Nearly, Good, On, OnSome, OnAfter, AllOf, Fill, Fitting, name_is, top_on, front_on, start_on, then_on, then_after, free_of, formed_of, free_parts, formed_parts, mark_suits, RuleSuits, does_on}
+use Rattle.sp_round_trip.proofs.Goes.{Tok, entire, half, number, next, tells, Goes, nothing, whole, first_half, mark, part as read_part}
+use Rattle.sp_round_trip.proofs.FormedTrees.{Nearly, Good, On, OnSome, OnAfter, AllOf, Fill, Fitting, name_is, top_on, front_on, start_on, then_on, then_after, free_of, formed_of, free_parts, formed_parts, mark_suits, RuleSuits, does_on}
+use Rattle.sp_round_trip.proofs.Steps.{never_first}
 
 -- What stands on top of the pile: anything, a name that is an ID, a name of which the token comes next, a name that may be
 -- `skip`, or a module. All else on the pile is formed, and its names are IDs.
@@ -228,61 +229,30 @@ covers modular modular = true
 covers modular any = true
 covers st st' = false
 
-abbrev next_state : Option State → (State → Option State) → Option State
-next_state None go = None
-next_state (Some st) go = go st
-
-abbrev mark_state : Option Mark → (Mark → Option State) → Option State
-mark_state None go = None
-mark_state (Some m) go = go m
-
 abbrev after_symbol : State → Symbol → Option State
 after_symbol st (symbol.Terminal e) = Some (after_token st e)
-after_symbol st (symbol.Mark n) = mark_state (mark_with n) (λ m. after_mark st m)
+after_symbol st (symbol.Mark n) = and_then (mark_with n) (λ m. after_mark st m)
 after_symbol st (symbol.Nonterminal n) = if covers st (before_part n) then Some (after_part n) else None
 
 abbrev run : State → List Symbol → Option State
 run st [] = Some st
-run st (x ∷ ss) = next_state (after_symbol st x) (λ after. run after ss)
+run st (x ∷ ss) = and_then (after_symbol st x) (λ after. run after ss)
 
 abbrev ends_in : Option State → State → Bool
 ends_in None st = false
 ends_in (Some st') st = covers st' st
 
 -- the productions of a part keep to it
-abbrev keep : State → State → List Production → Bool
-keep st st' [] = true
-keep st st' (p ∷ ps) = ends_in (run st p.symbols) st' && keep st st' ps
+abbrev keeps : ℕ → Production → Bool
+keeps n r = ends_in (run (before_part n) r.symbols) (after_part n)
 
-abbrev all_keep : (ℕ → State) → (ℕ → State) → List (List Production) → Bool
-all_keep front behind [] = true
-all_keep front behind (ps ∷ pss) = keep (front 0) (behind 0) ps && all_keep (λ n. front (suc n)) (λ n. behind (suc n)) pss
-
-own_keeps : all_keep before_part after_part own.productions ≡ true
+own_keeps : every_production own keeps ≡ true
 unfolding own
 own_keeps = refl
-
-kept : (st st' : State) (ps : List Production) (p : ℕ) → keep st st' ps ≡ true → p < length ps → ends_in (run st (at_production ps p).symbols) st' ≡ true
-kept st st' [] p e below = absurd (omega arith)
-kept st st' (q ∷ ps) zero e below = (both (ends_in (run st q.symbols) st') (keep st st' ps) e).0
-kept st st' (q ∷ ps) (suc p) e below = kept st st' ps p (both (ends_in (run st q.symbols) st') (keep st st' ps) e).1 (omega arith)
-
-all_kept : (front behind : ℕ → State) (pss : List (List Production)) (n p : ℕ) → all_keep front behind pss ≡ true → p < length (get_or pss n []) → ends_in (run (front n) (at_production (get_or pss n []) p).symbols) (behind n) ≡ true
-all_kept front behind [] n p e below = absurd (omega arith)
-all_kept front behind (ps ∷ pss) zero p e below = kept (front 0) (behind 0) ps p (both (keep (front 0) (behind 0) ps) (all_keep (λ n. front (suc n)) (λ n. behind (suc n)) pss) e).0 below
-all_kept front behind (ps ∷ pss) (suc n) p e below = all_kept (λ n. front (suc n)) (λ n. behind (suc n)) pss n p (both (keep (front 0) (behind 0) ps) (all_keep (λ n. front (suc n)) (λ n. behind (suc n)) pss) e).1 below
-
-next_some : (o : Option State) (go : State → Option State) (st : State) → next_state o go ≡ Some st → (x : State) × (o ≡ Some x) × (go x ≡ Some st)
-next_some None go st e = not_some e
-next_some (Some x) go st e = (x, refl, e)
 
 ended : (o : Option State) (st : State) → ends_in o st ≡ true → (x : State) × (o ≡ Some x) × (covers x st ≡ true)
 ended None st e = cc
 ended (Some x) st e = (x, refl, e)
-
-if_covered : (b : Bool) (o : Option State) (st : State) → (if b then o else None) ≡ Some st → (b ≡ true) × (o ≡ Some st)
-if_covered true o st e = (refl, e)
-if_covered false o st e = not_some e
 
 named_loose : (s : Pile) → On s → HasName s → IsLoose s
 named_loose (made t ∷ s) on has = (on.0.0, on.1)
@@ -319,37 +289,29 @@ pending_by false k x w s e take is = pending_loose (tells x).word s is
 token_means : (st : State) (k : ℕ) (x : Tok) (w : List Tok) (s : Pile) → takes k (number x) ≡ All → Means st (x ∷ w) s → Means (after_token st k) w s
 token_means pending k x w s take is = pending_by (k == an_id) k x w s refl take is
 token_means any k x w s take is = is
-token_means named k x w s take is = is
-token_means loose k x w s take is = is
-token_means modular k x w s take is = is
-
-no_half : (b : Bool) → cond b All Nothing ≡ First → ⊥
-no_half true e = cc
-no_half false e = cc
+token_means st k x w s take is = is
 
 half_by : (b : Bool) (k : ℕ) (x : Word) (w : List Tok) (s : Pile) → (k == an_id) ≡ b → takes k (number (entire x)) ≡ First → IsPending x s → Means (if b then named else loose) w s
-half_by true k x w s e take is = absurd (no_half (an_id == number (entire x)) (subst (λ n. takes n (number (entire x)) ≡ First) (eqb-true k an_id e) take))
+half_by true k x w s e take is = absurd (never_first (an_id == number (entire x)) (subst (λ n. takes n (number (entire x)) ≡ First) (eqb-true k an_id e) take))
 half_by false k x w s e take is = pending_loose x s is
 
 half_means : (st : State) (k : ℕ) (x : Word) (w : List Tok) (s : Pile) → takes k (number (entire x)) ≡ First → Means st (entire x ∷ w) s → Means (after_token st k) (half x ∷ w) s
 half_means pending k x w s take is = half_by (k == an_id) k x (half x ∷ w) s refl take is
 half_means any k x w s take is = is
-half_means named k x w s take is = is
-half_means loose k x w s take is = is
-half_means modular k x w s take is = is
+half_means st k x w s take is = is
 
 goes_on : {ss : List Symbol} {w v : List Tok} {s t : Pile} (st st' : State) → run st ss ≡ Some st' → Means st w s → Goes ss w s v t → Means st' v t
 goes_on st st' e is (nothing {w = w} {s = s}) = subst (λ x. Means x w s) (some_equal e) is
 goes_on st st' e is (whole {e = k} {x = x} {w = w} {s = s} take rest) = goes_on (after_token st k) st' e (token_means st k x w s take is) rest
 goes_on st st' e is (first_half {e = k} {x = x} {w = w} {s = s} take rest) = goes_on (after_token st k) st' e (half_means st k x w s take is) rest
 goes_on st st' e is (mark {n = n} {ss = ss} {w = w} {s = s} {t = t} m there d rest) =
-    let h = next_some (mark_state (mark_with n) (λ m. after_mark st m)) (λ after. run after ss) st' e in
-    let g : after_mark st m ≡ Some h.0 = subst (λ o. mark_state o (λ m. after_mark st m) ≡ Some h.0) there h.1 in
+    let h = then_some (and_then (mark_with n) (λ m. after_mark st m)) (λ after. run after ss) st' e in
+    let g : after_mark st m ≡ Some h.0 = subst (λ o. and_then o (λ m. after_mark st m) ≡ Some h.0) there h.1 in
     goes_on h.0 st' h.2 (mark_means m st h.0 w s t g is d) rest
 goes_on st st' e is (read_part {n = n} {ss = ss} {w = w} {u = u} {s = s} {t = t} p applies inner rest) =
-    let h = next_some (if covers st (before_part n) then Some (after_part n) else None) (λ after. run after ss) st' e in
-    let g = if_covered (covers st (before_part n)) (Some (after_part n)) h.0 h.1 in
-    let k = ended (run (before_part n) (right own n p)) (after_part n) (all_kept before_part after_part own.productions n p own_keeps applies.below) in
+    let h = then_some (if covers st (before_part n) then Some (after_part n) else None) (λ after. run after ss) st' e in
+    let g = if_some (covers st (before_part n)) (Some (after_part n)) h.0 h.1 in
+    let k = ended (run (before_part n) (right own n p)) (after_part n) (one_production own keeps n p own_keeps applies.below) in
     let left = cover_means k.0 (after_part n) u t k.2 (goes_on (before_part n) k.0 k.1 (cover_means st (before_part n) w s g.0 is) inner) in
     goes_on h.0 st' h.2 (subst (λ x. Means x u t) (some_equal g.1) left) rest
 

@@ -7,17 +7,18 @@ use Rattle.sp_parser.specs.declared.symbol.Symbol.{Symbol}
 use Rattle.sp_parser.specs.Grammar.{Applies, right, production_of, productions_of}
 use Rattle.sp_grammar.specs.Own.{own}
 use Rattle.sp_grammar.specs.Written.{Part, part_number}
+use Rattle.sp_grammar.proofs.Spans.{below, below_all}
 use Rattle.sp_ast.specs.Trees.{Tree}
+use Rattle.sp_build.proofs.Told.{never}
+use Rattle.sp_printed_words.specs.Modules.{module_lines}
 use Rattle.sp_round_trip.proofs.Held.{Pile}
 use Rattle.sp_round_trip.proofs.Goes.{Tok, number, before, Goes, nothing, whole, first_half, mark, part}
-use Rattle.sp_round_trip.proofs.Shown.{flat, Manner, plain, expression, in_lines, path_rest, if_rest, new_rest, other, manner_of, Claim, ClaimAs, Trace, ended, token_passed, half_passed, mark_passed, part_passed}
+use Rattle.sp_round_trip.proofs.Shown.{flat, Manner, other, manner_of, Claim, ClaimAs, Trace, ended, token_passed, half_passed, mark_passed, part_passed}
 use Rattle.sp_round_trip.proofs.Advance.{is_again}
 use Rattle.sp_round_trip.proofs.Declarations.{module_shown}
-use Rattle.sp_printed_words.specs.Modules.{module_lines}
-use Rattle.sp_round_trip.proofs.Converted.{ReadsModule}
-use Rattle.sp_round_trip.proofs.Again.{test_again}
-use Rattle.sp_round_trip.proofs.Alternatives.{alternatives, is_among, claimed_among}
-use Rattle.sp_grammar.proofs.Spans.{below, below_all}
+use Rattle.sp_round_trip.proofs.TextReadings.{ReadsModule}
+use Rattle.sp_round_trip.proofs.Tested.{test_again}
+use Rattle.sp_round_trip.proofs.SpecialAlternatives.{alternatives, is_among, claimed_among}
 
 abbrev is_other : Manner → Bool
 is_other other = true
@@ -41,12 +42,7 @@ shown_all = refl
 
 nothing_claimed : (m : Manner) (n : ℕ) (w u : List Tok) (s t : Pile) → is_other m ≡ true → ClaimAs m n w s t u
 nothing_claimed other n w u s t ok = tt
-nothing_claimed (plain y) n w u s t ok = absurd (let q : false ≡ true = ok in cc)
-nothing_claimed (expression level) n w u s t ok = absurd (let q : false ≡ true = ok in cc)
-nothing_claimed in_lines n w u s t ok = absurd (let q : false ≡ true = ok in cc)
-nothing_claimed path_rest n w u s t ok = absurd (let q : false ≡ true = ok in cc)
-nothing_claimed if_rest n w u s t ok = absurd (let q : false ≡ true = ok in cc)
-nothing_claimed new_rest n w u s t ok = absurd (let q : false ≡ true = ok in cc)
+nothing_claimed m n w u s t ok = never ok
 
 -- each production has its claim
 produced : (n p : ℕ) (w u : List Tok) (s t : Pile) → Applies own n p (map number w) → Trace (right own n p) w s u t → Claim n w s t u
@@ -63,7 +59,7 @@ produced n p w u s t a trace =
     ]
 
 -- a reading, with the claim of each part
-pub traced : {ss : List Symbol} {w v : List Tok} {s t : Pile} → Goes ss w s v t → Trace ss w s v t
+traced : {ss : List Symbol} {w v : List Tok} {s t : Pile} → Goes ss w s v t → Trace ss w s v t
 traced nothing = ended
 traced (whole passed g) = token_passed passed (traced g)
 traced (first_half passed g) = half_passed passed (traced g)

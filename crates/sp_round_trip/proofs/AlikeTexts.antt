@@ -1,14 +1,16 @@
--- Texts that tell the same.
+-- Texts that tell the same are the same module, apart from places.
 use Rattle.std.specs.Prelude.{option_map}
-use Rattle.std.proofs.Common.{◌≡◌, ℕ, zero, suc, List, [], ◌∷◌, map, get_or, Option, Some, None, true, refl, ap, sym, ◌∙◌, subst}
+use Rattle.std.proofs.Common.{◌≡◌, ℕ, [], ◌∷◌, map, get_or, Option, Some, None, true, refl, ap, sym, ◌∙◌, subst}
 use Rattle.std.proofs.Math.Path.{fun_ext}
+use Rattle.std.proofs.Math.ListN.{get_or-map}
+use Rattle.std.proofs.lemmas.Simd.{map-map}
 use Rattle.sp_lex.specs.Lexed.{Lexed}
 use Rattle.sp_parser.specs.Grammar.{Derives}
 use Rattle.sp_grammar.specs.Language.{language}
 use Rattle.sp_grammar.specs.Starts.{start_number}
 use Rattle.sp_grammar.specs.declared.language.Start.TheVariants.{Module}
-use Rattle.sp_ast.specs.Trees.{Tree}
 use Rattle.sp_runs.specs.Kinds.{numbers_of, number_of, terminal_of}
+use Rattle.sp_ast.specs.Trees.{Tree}
 use Rattle.sp_build.specs.declared.stack.Item.TheVariants.{Begun as begun, Built as built}
 use Rattle.sp_build.specs.Groups.{is_of}
 use Rattle.sp_build.specs.Starting.{group_of}
@@ -19,26 +21,17 @@ use Rattle.sp_round_trip.specs.Told.{Telling, telling, told}
 use Rattle.sp_round_trip.proofs.Held.{made, does_all}
 use Rattle.sp_round_trip.proofs.Machine.{piled, tell_at, all_held, of_bare}
 
-pub get_map : {A B : Type 0} (f : A → B) (xs : List A) (n : ℕ) (d : A) → f (get_or xs n d) ≡ get_or (map f xs) n (f d)
-get_map f [] n d = refl
-get_map f (x ∷ xs) zero d = refl
-get_map f (x ∷ xs) (suc n) d = get_map f xs n d
-
 -- each token tells the same
 tell_same : (first second : Lexed) → told first ≡ told second → (n : ℕ) → tell_at first.text first.list n ≡ tell_at second.text second.list n
 tell_same first second e n =
-    get_map (telling first.text) first.list n no_token ∙ ap (λ ts. get_or ts n (telling first.text no_token)) e ∙ sym (get_map (telling second.text) second.list n no_token)
-
-pub map_of : {A B C : Type 0} (f : A → B) (g : B → C) (xs : List A) → map (λ x. g (f x)) xs ≡ map g (map f xs)
-map_of f g [] = refl
-map_of f g (x ∷ xs) = ap (λ ys. g (f x) ∷ ys) (map_of f g xs)
+    sym (get_or-map (telling first.text) first.list n no_token) ∙ ap (λ ts. get_or ts n (telling first.text no_token)) e ∙ get_or-map (telling second.text) second.list n no_token
 
 -- the kinds of the tokens are the same
 numbers_same : (first second : Lexed) → told first ≡ told second → numbers_of first.list ≡ numbers_of second.list
 numbers_same first second e =
-    map_of (telling first.text) (λ t. let x : Telling = t in number_of (terminal_of x.kind)) first.list
+    sym (map-map (λ t. let x : Telling = t in number_of (terminal_of x.kind)) (telling first.text) first.list)
     ∙ ap (λ ts. map (λ t. let x : Telling = t in number_of (terminal_of x.kind)) ts) e
-    ∙ sym (map_of (telling second.text) (λ t. let x : Telling = t in number_of (terminal_of x.kind)) second.list)
+    ∙ map-map (λ t. let x : Telling = t in number_of (terminal_of x.kind)) (telling second.text) second.list
 
 -- the one tree that is left
 pub one_left : (tell : ℕ → Telling) (o : Option Stack) (t : Tree) → option_map (piled tell) o ≡ Some (made t ∷ []) → (u : Tree) × (o ≡ Some (built u ∷ [])) × (bare u ≡ t)

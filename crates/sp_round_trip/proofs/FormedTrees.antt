@@ -1,14 +1,12 @@
--- A tree that is built of formed trees is formed.
-use Rattle.std.specs.Prelude.{if◌then◌else◌, ◌==◌, ◌&&◌, not, option_map}
-use Rattle.std.proofs.Common.{◌≡◌, ℕ, List, [], ◌∷◌, ◌++◌, reverse, Bool, true, false, Option, Some, None, refl, sym, subst, ap, ◌∙◌, eq-eqb, eqb-true}
-use Rattle.std.proofs.lemmas.List.{reverse-append}
-use Rattle.sp_lex.specs.declared.kinds.TokenKind.{TokenKind}
-use Rattle.sp_lex.specs.declared.kinds.TokenKind.TheVariants as token
+-- What a rule builds of formed trees is formed, unless it is the rule of names or that of paths.
+use Rattle.std.specs.Prelude.{if◌then◌else◌, ◌&&◌, not, option_map}
+use Rattle.std.proofs.Common.{◌≡◌, List, [], ◌∷◌, ◌++◌, reverse, Bool, true, false, Option, Some, None, refl, sym, subst, ap, ◌∙◌, eq-eqb, eqb-true}
+use Rattle.std.proofs.lemmas.List.{reverse-append, append-nil}
+use Rattle.std.proofs.lemmas.Bool.{and_parts}
 use Rattle.sp_grammar.specs.declared.marks.Mark.{Mark}
 use Rattle.sp_grammar.specs.declared.marks.Mark.TheVariants as build
 use Rattle.sp_ast.specs.declared.words.IntWord.{IntWord}
 use Rattle.sp_ast.specs.declared.words.AttributeName.{AttributeName}
-use Rattle.sp_ast.specs.declared.words.HookName.{HookName}
 use Rattle.sp_ast.specs.declared.forms.Form.{Form}
 use Rattle.sp_ast.specs.declared.forms.Form.TheVariants as form_is
 use Rattle.sp_ast.specs.declared.forms.ExprForm.TheVariants as expr_is
@@ -21,15 +19,15 @@ use Rattle.sp_build.specs.declared.groups.Sort.{Sort}
 use Rattle.sp_build.specs.declared.groups.Sort.TheVariants.{One as one, Optional as optional, Rows as rows}
 use Rattle.sp_build.specs.declared.groups.Slot.{Slot}
 use Rattle.sp_build.specs.declared.groups.Slot.TheVariants.{Part as part, Several as several}
-use Rattle.sp_build.specs.Groups.{group_number, group, same_group, is_in, is_of, are_of, fits, is_node}
-use Rattle.sp_build.specs.Rules.{Leaf, always, by_name, by_string, by_bytes, by_regex, by_number, by_integer, by_event, Rule, begins, leaves_out, takes, gathers, closes, closes_integer, closes_attribute, encloses, joins, wraps, rule}
-use Rattle.sp_build.specs.Tokens.{integer_of, attribute_of, hook_name_of}
+use Rattle.sp_build.specs.Groups.{same_group, is_in, is_of, are_of, fits, is_node, group_number, group}
+use Rattle.sp_build.specs.Rules.{Rule, begins, leaves_out, takes, gathers, closes, closes_integer, closes_attribute, encloses, joins, wraps, rule}
+use Rattle.sp_build.specs.Tokens.{integer_of, attribute_of}
 use Rattle.sp_print.specs.Canonical.{row_of}
-use Rattle.sp_print.specs.Words.{Word, name, text, bytes, regex, number}
 use Rattle.sp_printed_words.specs.Formed.{is_expression, is_path, is_declaration, is_name, IsId, is_regex_base, AreDeclarations, HaveNoRegexBase, first, second, but_base, HasParts, IsFormed, AreFormed}
 use Rattle.sp_round_trip.specs.Bare.{nowhere}
 use Rattle.sp_round_trip.specs.Told.{Telling}
 use Rattle.sp_round_trip.proofs.Held.{started, made, Pile, After, after, after_do, top, front, start, filled, put, put_if, closed, does, form_told}
+use Rattle.sp_round_trip.proofs.Leaves.{EachForm, of_told}
 
 -- What is known of a tree on a pile. A row may still have bases in it, and a name is no `skip`.
 abbrev pub Nearly : Tree → Type 0
@@ -77,10 +75,6 @@ onto_append (x ∷ xs) ys slots = onto_append xs ys (x ∷ slots)
 onto_reverse : (xs slots : List Slot) → onto (reverse xs) slots ≡ xs ++ slots
 onto_reverse [] slots = refl
 onto_reverse (x ∷ xs) slots = ap (λ ys. onto ys slots) (reverse-append (x ∷ []) xs) ∙ onto_append (reverse xs) (x ∷ []) slots ∙ ap (λ ys. x ∷ ys) (onto_reverse xs slots)
-
-append_none : (xs : List Slot) → xs ++ [] ≡ xs
-append_none [] = refl
-append_none (x ∷ xs) = ap (λ ys. x ∷ ys) (append_none xs)
 
 pub then_on : {A : Type 0} (Q : A → Type 0) (o : Option (After A)) (go : A → Pile → Option Pile) → OnAfter Q o → ((x : A) (s : Pile) → Q x → On s → OnSome (go x s)) → OnSome (after_do o go)
 then_on Q None go h by = tt
@@ -130,7 +124,7 @@ filled_on (several g ∷ xs) slots ts s on fill =
     filled_on xs (several g ∷ slots) (front (is_of g) s ts).value (front (is_of g) s ts).rest found.3 (found.0, ts, found.1, found.2, fill)
 
 parts_on : (slots : List Slot) (s : Pile) → On s → OnAfter (Fill slots) (filled (reverse slots) [] s)
-parts_on slots s on = subst (λ xs. OnAfter (Fill xs) (filled (reverse slots) [] s)) (onto_reverse slots [] ∙ append_none slots) (filled_on (reverse slots) [] [] s on tt)
+parts_on slots s on = subst (λ xs. OnAfter (Fill xs) (filled (reverse slots) [] s)) (onto_reverse slots [] ∙ append-nil slots) (filled_on (reverse slots) [] [] s on tt)
 
 -- What slots want: the group of the first part, and of the second one.
 abbrev group_first : List Slot → Option Group
@@ -172,7 +166,7 @@ but_slot (form_is.Base base_is.Group) (part b ∷ slots) = slots
 but_slot form slots = slots
 
 -- the slots want what the alternative wants of its parts
-abbrev pub wants : Form → List Slot → Bool
+abbrev wants : Form → List Slot → Bool
 wants (form_is.Name x) slots = false
 wants form_is.Path slots = false
 wants (form_is.Expr expr_is.Path) slots = is_in paths (group_first slots)
@@ -188,25 +182,14 @@ wants form slots = true
 abbrev suits : Form → List Slot → Bool
 suits form slots = wants form slots && are_free (but_slot form slots) && rows_free slots
 
-pub both : (a b : Bool) → (a && b) ≡ true → (a ≡ true) × (b ≡ true)
-both true b h = (refl, h)
-both false b h = cc
-
-number_like : (g h : Group) (n : ℕ) → same_group g h ≡ true → (group_number h == n) ≡ true → (group_number g == n) ≡ true
-number_like g h n e f = eq-eqb (group_number g) n (eqb-true (group_number g) (group_number h) e ∙ eqb-true (group_number h) n f)
-
-of_like : (g h : Group) (t : Tree) → same_group g h ≡ true → is_of h t ≡ true → is_of g t ≡ true
-of_like g h (node form span ts) e f = number_like g h (group_number (group form)) e f
-of_like g h (row ts) e f = cc
-of_like g h absent e f = cc
+is_of_like : (g h : Group) (t : Tree) → same_group g h ≡ true → is_of h t ≡ true → is_of g t ≡ true
+is_of_like g h (node form span ts) e f = eq-eqb (group_number g) (group_number (group form)) (eqb-true (group_number g) (group_number h) e ∙ eqb-true (group_number h) (group_number (group form)) f)
+is_of_like g h t e f = cc
 
 first_of : (g : Group) (slots : List Slot) (ts : List Tree) → is_in g (group_first slots) ≡ true → Fill slots ts → is_of g (first (trees ts)) ≡ true
-first_of g (part (one h) ∷ slots) (t ∷ ts) e fill = of_like g h t e fill.0
+first_of g (part (one h) ∷ slots) (t ∷ ts) e fill = is_of_like g h t e fill.0
 first_of g (part (one h) ∷ slots) [] e fill = absurd fill
-first_of g (part (optional h) ∷ slots) ts e fill = cc
-first_of g (part (rows h) ∷ slots) ts e fill = cc
-first_of g (several h ∷ slots) ts e fill = cc
-first_of g [] ts e fill = cc
+first_of g slots ts e fill = cc
 
 second_of : (g : Group) (slots : List Slot) (ts : List Tree) → is_in g (group_second slots) ≡ true → Fill slots ts → is_of g (second (trees ts)) ≡ true
 second_of g (part sort ∷ slots) (t ∷ ts) e fill = first_of g slots ts e fill.2
@@ -217,31 +200,23 @@ second_of g [] ts e fill = cc
 -- a tree of a group is of an alternative of it
 path_is : (t : Tree) → is_of paths t ≡ true → is_path t ≡ true
 path_is (node form_is.Path span ts) e = refl
-path_is (node form span ts) e = cc
-path_is (row ts) e = cc
-path_is absent e = cc
+path_is t e = cc
 
 expression_is : (t : Tree) → is_of expressions t ≡ true → is_expression t ≡ true
 expression_is (node (form_is.Expr form) span ts) e = refl
-expression_is (node form span ts) e = cc
-expression_is (row ts) e = cc
-expression_is absent e = cc
+expression_is t e = cc
 
 pub name_is : (t : Tree) → is_of names t ≡ true → is_name t ≡ true
 name_is (node (form_is.Name x) span ts) e = refl
-name_is (node form span ts) e = cc
-name_is (row ts) e = cc
-name_is absent e = cc
+name_is t e = cc
 
 declaration_is : (t : Tree) → is_of declarations t ≡ true → is_declaration t ≡ true
 declaration_is (node (form_is.Decl form) span ts) e = refl
-declaration_is (node form span ts) e = cc
-declaration_is (row ts) e = cc
-declaration_is absent e = cc
+declaration_is t e = cc
 
 declarations_are : (g : Group) (ts : Trees) → same_group declarations g ≡ true → are_of g ts ≡ true → AreDeclarations ts
 declarations_are g none e all = tt
-declarations_are g (more t ts) e all = let h = both (is_of g t) (are_of g ts) all in (declaration_is t (of_like declarations g t e h.0), declarations_are g ts e h.1)
+declarations_are g (more t ts) e all = let h = and_parts (is_of g t) (are_of g ts) all in (declaration_is t (is_of_like declarations g t e h.0), declarations_are g ts e h.1)
 
 row_declared : (g : Group) (t : Tree) → same_group declarations g ≡ true → fits (rows g) t ≡ true → AreDeclarations (row_of t)
 row_declared g (row ts) e fit = declarations_are g ts e fit
@@ -255,7 +230,7 @@ second_declared (part sort ∷ part (rows g) ∷ slots) [] e fill = tt
 second_declared slots ts e fill = cc
 
 good_second : (slots : List Slot) (ts : List Tree) → is_in names (group_second slots) ≡ true → Fill slots ts → IsId (second (trees ts))
-good_second (part sort ∷ part (one g) ∷ slots) (t ∷ u ∷ ts) e fill = fill.2.1.1 (name_is u (of_like names g u e fill.2.0))
+good_second (part sort ∷ part (one g) ∷ slots) (t ∷ u ∷ ts) e fill = fill.2.1.1 (name_is u (is_of_like names g u e fill.2.0))
 good_second (part sort ∷ part (one g) ∷ slots) (t ∷ []) e fill = absurd fill.2
 good_second (part sort ∷ part (one g) ∷ slots) [] e fill = absurd fill
 good_second slots ts e fill = cc
@@ -268,7 +243,7 @@ wanted (form_is.Expr expr_is.Member) slots ts e fill = name_is (second (trees ts
 wanted (form_is.Expr expr_is.SetMember) slots ts e fill = good_second slots ts e fill
 wanted (form_is.Expr (expr_is.Unary op)) slots ts e fill = expression_is (first (trees ts)) (first_of expressions slots ts e fill)
 wanted (form_is.Expr (expr_is.Binary op)) slots ts e fill =
-    let h = both (is_in expressions (group_first slots)) (is_in expressions (group_second slots)) e in
+    let h = and_parts (is_in expressions (group_first slots)) (is_in expressions (group_second slots)) e in
     (expression_is (first (trees ts)) (first_of expressions slots ts h.0 fill), expression_is (second (trees ts)) (second_of expressions slots ts h.1 fill))
 wanted (form_is.Decl decl_is.On) slots ts e fill = path_is (first (trees ts)) (first_of paths slots ts e fill)
 wanted form_is.Module slots ts e fill = second_declared slots ts e fill
@@ -290,7 +265,7 @@ free_in (rows g) absent e f = refl
 
 free_row : (g : Group) (ts : Trees) → not (same_group g bases) ≡ true → are_of g ts ≡ true → HaveNoRegexBase ts
 free_row g none e f = tt
-free_row g (more t ts) e f = let h = both (is_of g t) (are_of g ts) f in (free_of g t e h.0, free_row g ts e h.1)
+free_row g (more t ts) e f = let h = and_parts (is_of g t) (are_of g ts) f in (free_of g t e h.0, free_row g ts e h.1)
 
 free_all : (g : Group) (us vs : List Tree) → not (same_group g bases) ≡ true → AllOf g us → HaveNoRegexBase (trees vs) → HaveNoRegexBase (trees (us ++ vs))
 free_all g [] vs e all rest = rest
@@ -300,9 +275,9 @@ pub free_parts : (slots : List Slot) (ts : List Tree) → are_free slots ≡ tru
 free_parts [] [] e fill = tt
 free_parts [] (t ∷ ts) e fill = absurd fill
 free_parts (part sort ∷ slots) [] e fill = absurd fill
-free_parts (part sort ∷ slots) (t ∷ ts) e fill = let h = both (is_free sort) (are_free slots) e in (free_in sort t h.0 fill.0, free_parts slots ts h.1 fill.2)
+free_parts (part sort ∷ slots) (t ∷ ts) e fill = let h = and_parts (is_free sort) (are_free slots) e in (free_in sort t h.0 fill.0, free_parts slots ts h.1 fill.2)
 free_parts (several g ∷ slots) ts e fill =
-    let h = both (not (same_group g bases)) (are_free slots) e in
+    let h = and_parts (not (same_group g bases)) (are_free slots) e in
     subst (λ us. HaveNoRegexBase (trees us)) (sym fill.2) (free_all g fill.0 fill.1 h.0 fill.3 (free_parts slots fill.1 h.1 fill.4))
 
 but_free : (form : Form) (ts : Trees) → HaveNoRegexBase ts → HaveNoRegexBase (but_base form ts)
@@ -311,7 +286,7 @@ but_free (form_is.Base base_is.Group) (more b ts) free = free.1
 but_free form ts free = free
 
 free_but : (form : Form) (slots : List Slot) (ts : List Tree) → are_free (but_slot form slots) ≡ true → Fill slots ts → HaveNoRegexBase (but_base form (trees ts))
-free_but form_is.Field (part a ∷ part b ∷ slots) (t ∷ u ∷ ts) e fill = let h = both (is_free a) (are_free slots) e in (free_in a t h.0 fill.0, free_parts slots ts h.1 fill.2.2)
+free_but form_is.Field (part a ∷ part b ∷ slots) (t ∷ u ∷ ts) e fill = let h = and_parts (is_free a) (are_free slots) e in (free_in a t h.0 fill.0, free_parts slots ts h.1 fill.2.2)
 free_but (form_is.Base base_is.Group) (part b ∷ slots) (u ∷ ts) e fill = free_parts slots ts e fill.2
 free_but form_is.Field (part a ∷ part b ∷ slots) (t ∷ []) e fill = absurd fill.2
 free_but form_is.Field (part a ∷ part b ∷ slots) [] e fill = absurd fill
@@ -339,7 +314,7 @@ pub formed_parts : (slots : List Slot) (ts : List Tree) → rows_free slots ≡ 
 formed_parts [] [] e fill = tt
 formed_parts [] (t ∷ ts) e fill = absurd fill
 formed_parts (part sort ∷ slots) [] e fill = absurd fill
-formed_parts (part sort ∷ slots) (t ∷ ts) e fill = let h = both (is_row_free sort) (rows_free slots) e in (formed_in sort t h.0 fill.0 fill.1.0, formed_parts slots ts h.1 fill.2)
+formed_parts (part sort ∷ slots) (t ∷ ts) e fill = let h = and_parts (is_row_free sort) (rows_free slots) e in (formed_in sort t h.0 fill.0 fill.1.0, formed_parts slots ts h.1 fill.2)
 formed_parts (several g ∷ slots) ts e fill = subst (λ us. AreFormed (trees us)) (sym fill.2) (formed_all g fill.0 fill.1 fill.3 (formed_parts slots fill.1 e fill.4))
 
 no_name : (form : Form) (slots : List Slot) (ts : List Tree) → wants form slots ≡ true → is_name (tree form nowhere ts) ≡ true → IsId (tree form nowhere ts)
@@ -348,23 +323,13 @@ no_name form slots ts e f = cc
 
 good_tree : (form : Form) (slots : List Slot) (ts : List Tree) → suits form slots ≡ true → Fill slots ts → Good (tree form nowhere ts)
 good_tree form slots ts e fill =
-    let g = both (wants form slots && are_free (but_slot form slots)) (rows_free slots) e in
-    let h = both (wants form slots) (are_free (but_slot form slots)) g.0 in
+    let g = and_parts (wants form slots && are_free (but_slot form slots)) (rows_free slots) e in
+    let h = and_parts (wants form slots) (are_free (but_slot form slots)) g.0 in
     ((wanted form slots ts h.0 fill, free_but form slots ts h.1 fill, formed_parts slots ts g.1 fill), no_name form slots ts h.0)
 
 -- what rules build is what its alternative wants
-abbrev LeafSuits : Leaf → Type 0
-LeafSuits (always form) = suits form [] ≡ true
-LeafSuits (by_name form) = (x : List ℕ) → suits (form x) [] ≡ true
-LeafSuits (by_string form) = (x : List ℕ) → suits (form x) [] ≡ true
-LeafSuits (by_bytes form) = (x : List ℕ) → suits (form x) [] ≡ true
-LeafSuits (by_regex form) = (x : List ℕ) → suits (form x) [] ≡ true
-LeafSuits (by_number form) = (n : ℕ) → suits (form n) [] ≡ true
-LeafSuits (by_integer form) = (w : IntWord) → suits (form w) [] ≡ true
-LeafSuits (by_event form) = (h : HookName) → suits (form h) [] ≡ true
-
 abbrev pub RuleSuits : Rule → Type 0
-RuleSuits (takes l) = LeafSuits l
+RuleSuits (takes l) = EachForm (λ form. suits form [] ≡ true) l
 RuleSuits (closes slots form) = suits form slots ≡ true
 RuleSuits (closes_integer slots form) = (w : IntWord) → suits (form w) slots ≡ true
 RuleSuits (closes_attribute slots form) = (a : AttributeName) → suits (form a) slots ≡ true
@@ -404,20 +369,9 @@ mark_suits build.TypedNumberExpr = λ x. refl
 mark_suits m = refl
 
 -- what a rule does on a pile of such trees
-integer_on : (o : Option IntWord) (form : IntWord → Form) (s : Pile) → ((w : IntWord) → suits (form w) [] ≡ true) → On s → OnSome (put_if (option_map form o) s)
-integer_on None form s suit on = tt
-integer_on (Some w) form s suit on = (good_tree (form w) [] [] (suit w) tt, on)
-
-leaf_on : (l : Leaf) → LeafSuits l → (kind : TokenKind) (word : Word) (s : Pile) → On s → OnSome (put_if (form_told l kind word) s)
-leaf_on (always form) suit kind word s on = (good_tree form [] [] suit tt, on)
-leaf_on (by_name form) suit kind (name x) s on = (good_tree (form x) [] [] (suit x) tt, on)
-leaf_on (by_string form) suit kind (text x) s on = (good_tree (form x) [] [] (suit x) tt, on)
-leaf_on (by_bytes form) suit kind (bytes x) s on = (good_tree (form x) [] [] (suit x) tt, on)
-leaf_on (by_regex form) suit kind (regex x) s on = (good_tree (form x) [] [] (suit x) tt, on)
-leaf_on (by_number form) suit kind (number n) s on = (good_tree (form n) [] [] (suit n) tt, on)
-leaf_on (by_integer form) suit kind word s on = integer_on (integer_of kind) form s suit on
-leaf_on (by_event form) suit (token.Hook h) word s on = (good_tree (form (hook_name_of h)) [] [] (suit (hook_name_of h)) tt, on)
-leaf_on l suit kind word s on = tt
+leaf_on : (o : Option Form) (s : Pile) → ((form : Form) → o ≡ Some form → suits form [] ≡ true) → On s → OnSome (put_if o s)
+leaf_on None s suit on = tt
+leaf_on (Some form) s suit on = (good_tree form [] [] (suit form refl) tt, on)
 
 some_on : {A : Type 0} (o : Option A) (form : A → Form) (slots : List Slot) (ts : List Tree) (s : Pile) → ((x : A) → suits (form x) slots ≡ true) → Fill slots ts → On s
     → OnSome (after_do (option_map (λ f. after f s) (option_map form o)) (λ f under. put (tree f nowhere ts) under))
@@ -448,7 +402,7 @@ nodes_on (made t ∷ s) ts on formed = nodes_if (is_node t) (front is_node s (t 
 pub does_on : (r : Rule) → RuleSuits r → (t : Telling) (s : Pile) → On s → OnSome (does r t s)
 does_on begins suit t s on = on
 does_on leaves_out suit t s on = ((tt, λ e. cc), on)
-does_on (takes l) suit t s on = leaf_on l suit t.kind t.word s on
+does_on (takes l) suit t s on = leaf_on (form_told l t.kind t.word) s (λ form told. of_told (λ its. suits its [] ≡ true) l t.kind t.word form suit told) on
 does_on gathers suit t s on =
     let found = front is_node s [] in
     let all = nodes_on s [] on tt in
