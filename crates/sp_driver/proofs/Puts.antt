@@ -2,8 +2,8 @@
 use Rattle.std.specs.Prelude.{Result, Ok, Err, OnErr}
 use Rattle.std.proofs.Common.{◌≡◌, ◌<◌, ◌+◌, ℕ, List, [], ◌∷◌, ◌++◌, length, take, drop, get_or, Option, sym, ap, ◌∙◌, refl, append_assoc}
 use Rattle.std.proofs.lemmas.List.{append-nil, take_more, take-append-drop}
-use Rattle.sp_io.specs.Moved.{appended, prepended, Moves}
-use Rattle.sp_io.proofs.Moves.{appended-appended, appended-nil, prepended-prepended}
+use Rattle.sp_io.specs.Moved.{appended}
+use Rattle.sp_io.proofs.Moves.{appended-appended, appended-nil}
 use Rattle.sp_events.specs.declared.event.Event.{Event}
 use Rattle.sp_json.specs.Lines.{line_of, lines_of}
 use Rattle.sp_command.specs.Puts.{IsPartPut}
@@ -43,11 +43,6 @@ part_some flow es i n e h0 h h1 text lt is so put line = (
   ),
   put ∙ ap (λ x. appended x (take n text)) so ∙ appended-appended h0 _ _,
 )
-
--- a further part of the piece was taken
-pub took_more : (most : ℕ) (l0 l l1 : Option (List ℕ)) (old new piece : List ℕ) → l0 ≡ prepended old l → Moves most l l1 old new piece → l0 ≡ prepended new l1
-took_more most l0 l l1 old new piece so m =
-    so ∙ ap (λ x. prepended old x) m.left ∙ prepended-prepended old piece l1 ∙ ap (λ p. prepended p l1) (sym m.into)
 
 -- nothing was put
 pub part_nothing : (h : Option (List ℕ)) (bytes : List ℕ) → IsPartPut h h bytes

@@ -2,7 +2,7 @@
 use Rattle.std.specs.Prelude.{◌≡◌, length, map, true, refl}
 use Rattle.sp_grammar.specs.declared.tables.TheConstants.{SPANS, ROWS, SYMBOLS}
 use Rattle.sp_parser.specs.Grammar.{Table}
-use Rattle.sp_parser.specs.Rows.{table_from, table_fits}
+use Rattle.sp_parser.specs.Rows.{table_from}
 use Rattle.sp_parser.specs.Certificate.{Certificate}
 use Rattle.sp_parser.specs.Test.{table_test}
 use Rattle.sp_grammar.specs.Sets.{sets}
@@ -18,9 +18,6 @@ language_sets = sets
 pub language_tested : table_test language language_sets ≡ true
 unfolding language language_sets
 language_tested = refl
-
-pub language_fits : table_fits SPANS ROWS SYMBOLS ≡ true
-language_fits = refl
 
 pub language_is : language ≡ table_from SPANS ROWS SYMBOLS
 unfolding language

@@ -1,11 +1,11 @@
 -- What the parts of a line come to.
 use Rattle.std.specs.Prelude.{ℤ, pos, negsuc, Option, None, Some, map as list_map}
-use Rattle.std.proofs.Common.{◌≡◌, ◌≤◌, ◌<◌, ◌+◌, ℕ, Bool, false, ◌||◌, List, [], ◌∷◌, ◌++◌, length, take, drop, get_or, sym, ap, ◌∙◌, refl}
+use Rattle.std.proofs.Common.{◌≡◌, ◌≤◌, ◌<◌, ◌+◌, ℕ, Bool, false, ◌||◌, List, [], ◌∷◌, ◌++◌, length, take, get_or, sym, ap, ◌∙◌, refl}
 use Rattle.std.specs.declared.cmp.Ordering.{Ordering}
 use Rattle.std.proofs.lemmas.Bool.{or_parts}
 use Rattle.std.specs.Prelude.{encode_utf8, encode_utf8_all}
 use Rattle.std.proofs.lemmas.Str.{encodes-append}
-use Rattle.std.proofs.lemmas.List.{append-nil, drop_more, take_more, take_all}
+use Rattle.std.proofs.lemmas.List.{append-nil, take_more, take_all}
 use Rattle.std.specs.Ordering.{match_ordering, nat_cmp}
 use Rattle.std.specs.Cmp.Lexicographic.{slice_cmp}
 use Rattle.serde_json.specs.Data.{Data, number, unsigned, array, item, no_items, Members, member, no_members, put}
@@ -120,11 +120,3 @@ trees_whole ds ts i le is = ap items_of (is ∙ ap (λ xs. list_map tree_json xs
 
 pub pairs_whole : (ds : List Data) (ps : List (TreeData × TreeData)) (i : ℕ) → length ps ≤ i → ds ≡ list_map pair_json (take i ps) → items_of ds ≡ pairs_json (pairs_of ps)
 pairs_whole ds ps i le is = ap items_of (is ∙ ap (λ xs. list_map pair_json xs) (take_all i ps le)) ∙ pairs_listed ps
-
--- a range's number was put
-pub range_step : (ranges : List (List ℕ × ℕ)) (i : ℕ) (r : List ℕ × ℕ) (ms next : Members) → i < length ranges → r ≡ get_or ranges i r
-    → next ≡ put r.0 (number (unsigned r.1)) ms
-    → with_ranges (drop (i + 1) ranges) next ≡ with_ranges (drop i ranges) ms
-range_step ranges i r ms next lt is e =
-    ap (λ m. with_ranges (drop (i + 1) ranges) m) e
-    ∙ ap (λ rs. with_ranges rs ms) (sym (drop_more ranges i r lt ∙ ap (λ g. g ∷ drop (i + 1) ranges) (sym is)))

@@ -7,8 +7,8 @@ use Rattle.std.proofs.lemmas.List.{drop_more}
 use Rattle.sp_parser.specs.declared.symbol.Symbol.{Symbol}
 use Rattle.sp_parser.specs.declared.table.Row.{Row}
 use Rattle.sp_parser.specs.declared.table.Span.{Span}
-use Rattle.sp_parser.specs.Grammar.{no_production, at_production, chosen, productions_of}
-use Rattle.sp_parser.specs.Rows.{production_from, productions_from, rows_fit, spans_fit, productions_in, table_from}
+use Rattle.sp_parser.specs.Grammar.{no_production, at_production, chosen}
+use Rattle.sp_parser.specs.Rows.{production_from, productions_from, rows_fit, spans_fit}
 
 get_production : (ss : List Symbol) (xs : List Row) (i : ℕ) (d : Row) → i < length xs → get_or (productions_from ss xs) i no_production ≡ production_from ss (get_or xs i d)
 get_production ss [] i d h = absurd (omega arith)
@@ -49,8 +49,3 @@ take_fits ss (x ∷ xs) (suc a) t = let b = and_parts (nat_le x.from x.to && nat
 
 pub range_fits : (ss : List Symbol) (xs : List Row) (a b : ℕ) → rows_fit ss xs ≡ true → rows_fit ss (slice_range xs a b) ≡ true
 range_fits ss xs a b t = take_fits ss (drop a xs) (b - a) (drop_fits ss xs a t)
-
-pub productions_at : (spans : List Span) (rows : List Row) (ss : List Symbol) (i : ℕ) (d : Span) → i < length spans → productions_of (table_from spans rows ss) i ≡ productions_in rows ss (get_or spans i d)
-productions_at [] rows ss i d h = absurd (omega arith)
-productions_at (p ∷ spans) rows ss zero d h = refl
-productions_at (p ∷ spans) rows ss (suc i) d h = productions_at spans rows ss i d (omega arith)

@@ -9,7 +9,7 @@ use Rattle.sp_parser.specs.declared.symbol.Step.{Step}
 use Rattle.sp_parser.specs.declared.symbol.Step.TheVariants.{Whole, Half, Refused, Emptied}
 use Rattle.sp_parser.specs.Grammar.{Table, productions_of, right, predict, takes, Nothing, First, All, ahead, Derivation, event, Advances, Tells, taken_of, SECOND, CLOSE}
 use Rattle.sp_parser.specs.Certificate.{Certificate, IsCertified, Ready, steps_of}
-use Rattle.sp_parser.proofs.Moves.{stay, then, move_whole, move_half, no_move, move_mark, move_predict, no_predict, fits_predict, token_end}
+use Rattle.sp_parser.proofs.Moves.{then, move_whole, move_half, no_move, move_mark, move_predict, no_predict, fits_predict, token_end}
 use Rattle.sp_parser.proofs.Ends.{fewer, listed-append}
 
 pub record Moved (g : Table) (f : Certificate) (i : ℕ) (ss : List Symbol) (k : ℕ) (ts : List Symbol) (before after : List Event) : Type 0 where
@@ -21,9 +21,6 @@ pub record Moved (g : Table) (f : Certificate) (i : ℕ) (ss : List Symbol) (k :
 append-nil : (ε : List Event) → ε ++ [] ≡ ε
 append-nil [] = refl
 append-nil (x ∷ ε) = ap (λ r. x ∷ r) (append-nil ε)
-
-pub moved_start : (g : Table) (f : Certificate) (i : ℕ) (ss : List Symbol) (k : ℕ) (before : List Event) → Ready f ss → Moved g f i ss k ss before before
-moved_start g f i ss k before r = record { ready = r; left = []; events = sym (append-nil before); moves = λ w e. stay g i ss w }
 
 -- the parts of the record after one more move
 more : (g : Table) (i : ℕ) (ss : List Symbol) (w : List ℕ) (ts : List Symbol) (ε : List Event) (j : ℕ) (us : List Symbol) (v : List ℕ) → Advances g i ss w i ts w ε → Advances g i ts w j us v [] → Advances g i ss w j us v ε
@@ -44,12 +41,6 @@ moved_predict g f s i ss k n ts before after h x = record {
   events = x.events;
   moves = λ w e. more g i ss w (Nonterminal n ∷ ts) x.left i (right g n (predict g n k) ++ ts) w (x.moves w e) (move_predict g f s i n k ts w x.ready.fits e h);
 }
-
-pub ready_token : (f : Certificate) (e : ℕ) (ts : List Symbol) → Ready f (Terminal e ∷ ts) → Ready f ts
-ready_token f e ts r = record { fits = r.fits; listed = r.listed.1 }
-
-pub ready_tail : (f : Certificate) (n : ℕ) (ts : List Symbol) → Ready f (Nonterminal n ∷ ts) → Ready f ts
-ready_tail f n ts r = record { fits = r.fits.1; listed = r.listed.1 }
 
 second_cases : (c q : Bool) → cond c All (cond q All Nothing) ≡ First → ⊥
 second_cases true q h = cc
@@ -78,9 +69,6 @@ told_token g f Emptied i ss k e ts before after t x = absurd t
 
 pub told_refused : (g : Table) (f : Certificate) → IsCertified g f → (i : ℕ) (ss : List Symbol) (k n : ℕ) (ts us : List Symbol) (before after : List Event) → length (productions_of g n) ≤ predict g n k → Moved g f i ss k (Nonterminal n ∷ ts) before after → Told g f Refused i ss k us before after
 told_refused g f s i ss k n ts us before after h x = (x.left, x.events, λ w a τ r. let y = (x.moves w a).back τ r in no_predict g f s i n k ts w y.0 x.ready.fits a (λ l. omega arith) y.2)
-
-pub told_emptied : (g : Table) (f : Certificate) (i : ℕ) (ss : List Symbol) (k : ℕ) (before after : List Event) → Moved g f i ss k [] before after → Told g f Emptied i ss k [] before after
-told_emptied g f i ss k before after x = (x.left, x.events, (refl, x.moves))
 
 -- the stack as a list, once its top is popped
 pub at_top : {g : Table} {f : Certificate} {i k : ℕ} {ss : List Symbol} {before after : List Event} (old new : List Symbol) (x y : Symbol) → old ≡ new ++ x ∷ [] → x ≡ y → Moved g f i ss k (reverse old) before after → Moved g f i ss k (y ∷ reverse new) before after

@@ -72,9 +72,6 @@ empty_no g i k w τ r = let e : k ∷ w ≡ [] = (done_inv r).0 in cc
 pub takes_emptied : (g : Table) (f : Certificate) (i : ℕ) (ss : List Symbol) (k : ℕ) (ts : List Symbol) (before after : List Event) → Told g f Emptied i ss k ts before after → Takes g f false i ss k ts before after
 takes_emptied g f i ss k ts before after x = λ w τ r. let y = (x.2.1 (k ∷ w) refl).back τ r in empty_no g i k w y.0 y.2
 
-pub takes_refused : (g : Table) (f : Certificate) (i : ℕ) (ss : List Symbol) (k : ℕ) (ts : List Symbol) (before after : List Event) → Told g f Refused i ss k ts before after → Takes g f false i ss k ts before after
-takes_refused g f i ss k ts before after x = λ w τ r. x.2 (k ∷ w) refl τ r
-
 pub takes_half_no : (g : Table) (f : Certificate) (s : Step) (i : ℕ) (ss : List Symbol) (k : ℕ) (ts us vs : List Symbol) (before between after : List Event) → (s ≡ Whole → ⊥) → Told g f Half i ss k ts before between → Told g f s i ts SECOND us between after → Takes g f false i ss k vs before after
 takes_half_no g f Whole i ss k ts us vs before between after n x y = absurd (n refl)
 takes_half_no g f Half i ss k ts us vs before between after n x y = absurd (y.2.0 refl)

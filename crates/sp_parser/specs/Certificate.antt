@@ -1,5 +1,5 @@
 -- What a certificate tells of the nonterminals of a grammar, and what makes the parsing of a table exact.
-use Rattle.std.specs.Prelude.{◌≡◌, ℕ, suc, ◌+◌, ◌^◌, ◌<◌, List, [], ◌∷◌, ◌++◌, length, cond, ◌==◌, ◌||◌, ◌&&◌, not, Bool, true, false, bit_or, nat_lt}
+use Rattle.std.specs.Prelude.{◌≡◌, ℕ, suc, ◌+◌, ◌^◌, ◌<◌, List, [], ◌∷◌, ◌++◌, length, cond, ◌==◌, ◌||◌, ◌&&◌, Bool, true, false, bit_or, nat_lt}
 use Rattle.std.proofs.Common.{get_or}
 use Rattle.std.specs.Int.{bit_at}
 use Rattle.sp_parser.specs.declared.symbol.Symbol.{Symbol}
@@ -72,9 +72,6 @@ followed f b [] = true
 followed f b (Terminal e ∷ ss) = followed f b ss
 followed f b (Mark m ∷ ss) = followed f b ss
 followed f b (Nonterminal n ∷ ss) = within (firsts f b ss) (follow_of f n) && followed f b ss
-
-abbrev pub implies : Bool → Bool → Bool
-implies a b = not a || b
 
 -- each symbol's least text is of less height
 abbrev pub lower : Certificate → ℕ → List Symbol → Bool

@@ -22,7 +22,7 @@ use Rattle.sp_runs.proofs.Unique.{one_longest, one_derivation}
 use Rattle.sp_ast.specs.Trees.{Tree}
 use Rattle.sp_lex.specs.Lexed.{Lexed}
 use Rattle.sp_read_expr.specs.Reading.{IsTreeRead}
-use Rattle.sp_read_unit.specs.Modules.{IsModule, IsModuleText, IsModuleTree, IsModuleRefused}
+use Rattle.sp_read_unit.specs.Modules.{IsModule, IsModuleText, IsModuleRefused}
 
 -- all numbers of the tokens
 all_numbers : (tokens : List Token) → take (length tokens) (numbers_of tokens) ≡ numbers_of tokens
@@ -86,18 +86,6 @@ left_over_inside tokens end to token f less at order e =
 pub passed_on : {T : Type 0} (r : Result T ReadFault) (fault : ReadFault) (P : ReadFault → Type 0) → IsErrAnd r (λ e. e ≡ fault) → P fault → IfErr r P
 passed_on (Ok v) fault P is by = tt
 passed_on (Err e) fault P is by = subst (λ f. P f) (sym is) by
-
--- a run of all tokens is the module
-pub whole_tree : (lexed : Lexed) (t : Tree) (to : ℕ) → IsTreeRead Module lexed 0 t to → length lexed.list ≤ to → IsModuleTree lexed t
-whole_tree lexed t to r end =
-    let behind : to ≡ 0 + r.count = r.behind in
-    let within : r.count ≤ length (numbers_of lexed.list) = r.longest.within in
-    let same : length (numbers_of lexed.list) ≡ length lexed.list = numbers_length lexed.list in
-    let all : take r.count (numbers_of lexed.list) ≡ numbers_of lexed.list = take_all r.count (numbers_of lexed.list) (omega arith) in
-    (r.marks, subst (λ w. Derives language (start_number Module) w r.marks) all r.text, r.built, r.kind)
-
-pub text_of_tree : (lexed : Lexed) (t : Tree) → IsModuleTree lexed t → IsModuleText lexed.list
-text_of_tree lexed t m = (m.0, m.1)
 
 -- what is read from the front
 pub run_of_tree : (lexed : Lexed) (t : Tree) (to : ℕ) (r : IsTreeRead Module lexed 0 t to) → IsRead Module lexed.list 0 r.marks to

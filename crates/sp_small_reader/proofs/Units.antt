@@ -91,9 +91,6 @@ pub none_done : (tokens : List (List ℕ)) (done : List Field) → done ≡ [] �
 unfolding IsDistinct
 none_done tokens done e = subst (λ fields. Done tokens tokens fields) (sym e) (record { written = refl; named = λ k d lt. absurd (omega arith); differ = tt; few = omega arith })
 
-pub all_done : (tokens now : List (List ℕ)) (done : List Field) → Done tokens now done → now ≡ closing_tokens → IsUnit tokens done
-all_done tokens now done d e = record { written = d.written ∙ ap (λ ts. flat_map field_tokens done ++ ts) e; named = d.named; differ = d.differ; few = d.few }
-
 names_push : (done : List Field) (f : Field) → names (done ++ f ∷ []) ≡ names done ++ f.name ∷ []
 names_push [] f = refl
 names_push (d ∷ done) f = ap (λ ns. d.name ∷ ns) (names_push done f)
