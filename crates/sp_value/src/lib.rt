@@ -18,6 +18,6 @@ mod value;
 pub use integers::read_int;
 pub use laws::{law_of_equality, law_of_keys, law_of_order};
 pub use level::Level;
-pub use list::copy_all;
+pub use list::{Values, copy_all};
 pub use order::{compare, kind};
 pub use value::Value;
