@@ -1,6 +1,6 @@
-// Parts of a value: each answer is `None` for a value of another kind. `level` lends all of them.
+// The parts of a value: each answer is `None` for a value of another kind.
 ghost use Rattle.std.specs.Prelude.{◌≡◌, option_copied};
-ghost use Rattle.sp_value.specs.Parts.{bool_in, number_in, signed_in, width_in, text_in, size_in};
+ghost use Rattle.sp_value.specs.Parts.{bool_in, number_in, signed_in, width_in, bytes_in, text_in, label_in, bits_in, items_in, entries_in, instance_in, place_in, size_in};
 
 use crate::value::{Node, Value};
 use sp_numbers::Width;
@@ -46,11 +46,84 @@ impl Value {
         }
     }
 
+    pub fn as_bytes(&self) -> Option<&[u8]>
+        ensures { option_copied result ≡ bytes_in self.now }
+    {
+        match &self.node {
+            Node::Bytes(bytes) => Some(bytes.as_slice()),
+            _ => None,
+        }
+    }
+
     pub fn as_str(&self) -> Option<&str>
         ensures { option_copied result ≡ text_in self.now }
     {
         match &self.node {
             Node::Str(text) => Some(text.as_str()),
+            _ => None,
+        }
+    }
+
+    /// The number of an enum's type, and the label's number.
+    pub fn as_label(&self) -> Option<(u32, u64)>
+        ensures { result ≡ label_in self.now }
+    {
+        match &self.node {
+            Node::Enum(kind, n) => Some((*kind, *n)),
+            _ => None,
+        }
+    }
+
+    /// The number of a bitfield's type, and the integer of all its bits.
+    pub fn as_bits(&self) -> Option<(u32, u64)>
+        ensures { result ≡ bits_in self.now }
+    {
+        match &self.node {
+            Node::Bits(kind, n) => Some((*kind, *n)),
+            _ => None,
+        }
+    }
+
+    /// The members of a tuple, a vector or a set, in order.
+    #[tactic(auto, using(crate::proofs::Lists::list_of_vals_of, crate::proofs::Lists::pairs_of_entries_of))]
+    pub fn as_items(&self) -> Option<&[Value]>
+        ensures { option_copied result ≡ items_in self.now }
+    {
+        match &self.node {
+            Node::Tuple(items) => Some(items.as_slice()),
+            Node::Vector(items) => Some(items.as_slice()),
+            Node::Set(items) => Some(items.as_slice()),
+            _ => None,
+        }
+    }
+
+    /// The keys and values of a map, in the order of the keys.
+    #[tactic(auto, using(crate::proofs::Lists::list_of_vals_of, crate::proofs::Lists::pairs_of_entries_of))]
+    pub fn as_entries(&self) -> Option<&[(Value, Value)]>
+        ensures { option_copied result ≡ entries_in self.now }
+    {
+        match &self.node {
+            Node::Map(entries) => Some(entries.as_slice()),
+            _ => None,
+        }
+    }
+
+    /// The number of a unit's instance.
+    pub fn as_unit(&self) -> Option<usize>
+        ensures { result ≡ instance_in self.now }
+    {
+        match &self.node {
+            Node::Unit(instance) => Some(*instance),
+            _ => None,
+        }
+    }
+
+    /// The place at which an iterator stands, from 0.
+    pub fn as_place(&self) -> Option<u64>
+        ensures { result ≡ place_in self.now }
+    {
+        match &self.node {
+            Node::Place(at) => Some(*at),
             _ => None,
         }
     }
