@@ -1,5 +1,6 @@
 pub mod Operators
 pub mod Words
 pub mod Trees
+pub mod Heights
 pub mod Views
 pub mod Falls

@@ -1,12 +1,14 @@
 //! The trees of the grammar language: types, expressions, statements, units and declarations.
 #![tactic(auto)]
 
+mod bounded;
 mod forms;
 mod operators;
 mod tree;
 mod typed;
 mod words;
 
+pub use bounded::{BoundedTree, MOST_LEVELS, Parts};
 pub use forms::{
     BaseForm, BodyForm, DeclForm, ExprForm, Form, GuardForm, ItemForm, PartForm, StmtForm,
     TargetForm, TypeForm,

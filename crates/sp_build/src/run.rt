@@ -6,7 +6,7 @@ ghost use Rattle.sp_build.specs.Popping.{IsStep};
 
 use crate::stack::Item;
 use crate::steps::step;
-use sp_ast::Tree;
+use sp_ast::BoundedTree;
 use sp_base::NoMemory;
 use sp_grammar::mark_of;
 use sp_lex::Tokens;
@@ -42,7 +42,7 @@ pub fn build(
     tokens: &Tokens,
     from: usize,
     events: &[Event],
-) -> Result<Tree, NoMemory>
+) -> Result<BoundedTree, NoMemory>
     requires from { from ≤ length tokens.now.list }
     requires built { (t : Data) × IsBuilt tokens.now.text (drop from tokens.now.list) events.now t }
     ensures { IfOk result (λ t. IsBuilt tokens.now.text (drop from tokens.now.list) events.now t) }

@@ -5,7 +5,7 @@ ghost use Rattle.sp_build.specs.Popping.{passes, IsTaken, Ends};
 ghost use Rattle.sp_build.specs.declared.stack.Item.TheVariants as item_is;
 
 use crate::groups::{Group, Sort, is_node};
-use sp_ast::Tree;
+use sp_ast::{BoundedTree, Parts, Tree};
 use sp_base::NoMemory;
 
 /// What stands on the stack.
@@ -13,8 +13,8 @@ use sp_base::NoMemory;
 pub enum Item {
     /// A tree that began before so many tokens.
     Begun(usize),
-    /// A tree that is built.
-    Built(Tree),
+    /// A tree that is built, with its height.
+    Built(BoundedTree),
 }
 
 /// Which trees are gathered.
@@ -58,11 +58,17 @@ fn take(stack: &mut Vec<Item>) -> Option<Item>
 }
 
 /// Takes the last tree, if it may stand for such a part.
-pub(crate) fn popped(stack: &mut Vec<Item>, sort: Sort) -> Option<Tree>
+pub(crate) fn popped(stack: &mut Vec<Item>, sort: Sort) -> Option<BoundedTree>
     ensures { IsTaken result (popped sort (reverse stack.old.items)) (reverse stack.new.items) }
 {
     match take(stack) {
-        Some(Item::Built(tree)) => { if sort.fits(&tree) { Some(tree) } else { None } }
+        Some(Item::Built(tree)) => {
+            if sort.fits(tree.as_tree()) {
+                Some(tree)
+            } else {
+                None
+            }
+        }
         _ => None,
     }
 }
@@ -78,14 +84,14 @@ pub(crate) fn opened(stack: &mut Vec<Item>) -> Option<usize>
 }
 
 /// Takes the last tree, if it is wanted, and else nothing.
-fn next_wanted(stack: &mut Vec<Item>, wanted: Wanted) -> Result<Option<Tree>, NoMemory>
+fn next_wanted(stack: &mut Vec<Item>, wanted: Wanted) -> Result<Option<BoundedTree>, NoMemory>
     ensures some { IfOk result (λ o. IfSome o (λ t. (reverse stack.old.items ≡ item_is.Built t ∷ reverse stack.new.items) × (passes wanted t ≡ true))) }
     ensures fewer { IfOk result (λ o. IfSome o (λ t. length stack.new.items < length stack.old.items)) }
     ensures none { IfOk result (λ o. IfNone o ((reverse stack.new.items ≡ reverse stack.old.items) × Ends (passes wanted) (reverse stack.old.items))) }
 {
     match take(stack) {
         Some(Item::Built(tree)) => {
-            if wanted.takes(&tree) {
+            if wanted.takes(tree.as_tree()) {
                 return Ok(Some(tree));
             }
             put(stack, Item::Built(tree))?;
@@ -103,10 +109,10 @@ fn next_wanted(stack: &mut Vec<Item>, wanted: Wanted) -> Result<Option<Tree>, No
 pub(crate) fn gather(
     stack: &mut Vec<Item>,
     wanted: Wanted,
-    found: &mut Vec<Tree>,
+    found: &mut Parts,
 ) -> Result<(), NoMemory>
-    ensures value { OnOk result ((gathered (passes wanted) (reverse stack.old.items) (reverse found.old.items)).value ≡ reverse found.new.items) }
-    ensures rest { OnOk result ((gathered (passes wanted) (reverse stack.old.items) (reverse found.old.items)).rest ≡ reverse stack.new.items) }
+    ensures value { OnOk result ((gathered (passes wanted) (reverse stack.old.items) (reverse found.old)).value ≡ reverse found.new) }
+    ensures rest { OnOk result ((gathered (passes wanted) (reverse stack.old.items) (reverse found.old)).rest ≡ reverse stack.new.items) }
 {
     while let Some(tree) = next_wanted(stack, wanted)? {
         found.push(tree)?;

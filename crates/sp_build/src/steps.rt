@@ -10,15 +10,15 @@ use crate::groups::{Group, Slot, Sort};
 use crate::rules::{Leaf, Rule, Worded, rule_of};
 use crate::stack::{Item, Wanted, gather, opened, popped, put};
 use crate::tokens::{attribute_of, end_before, form_of, integer_of, stretch, token_at};
-use sp_ast::{BaseForm, ExprForm, Form, IntWord, Tree, TypeForm};
+use sp_ast::{BaseForm, BoundedTree, ExprForm, Form, IntWord, Parts, Tree, TypeForm};
 use sp_base::{NoMemory, Span};
 use sp_grammar::Mark;
 use sp_lex::{Token, Tokens};
 use std::alloc::Global;
 
 /// Takes what a slot wants, behind the parts that are found, or answers false.
-fn fill(stack: &mut Vec<Item>, slot: Slot, found: &mut Vec<Tree>) -> Result<bool, NoMemory>
-    ensures { IfOk result (λ yes. IsFilled yes slot (reverse found.old.items) (reverse stack.old.items) (reverse found.new.items) (reverse stack.new.items)) }
+fn fill(stack: &mut Vec<Item>, slot: Slot, found: &mut Parts) -> Result<bool, NoMemory>
+    ensures { IfOk result (λ yes. IsFilled yes slot (reverse found.old) (reverse stack.old.items) (reverse found.new) (reverse stack.new.items)) }
 {
     match slot {
         Slot::Part(sort) => {
@@ -33,14 +33,10 @@ fn fill(stack: &mut Vec<Item>, slot: Slot, found: &mut Vec<Tree>) -> Result<bool
 }
 
 /// Takes the parts that the slots want, the last ones on the stack.
-fn parts(
-    alloc: Global,
-    slots: &[Slot],
-    stack: &mut Vec<Item>,
-) -> Result<Option<Vec<Tree>>, NoMemory>
-    ensures { IfOk result (λ o. IsTaken (option_map (λ v. v.items) o) (popped_parts slots.now (reverse stack.old.items)) (reverse stack.new.items)) }
+fn parts(alloc: Global, slots: &[Slot], stack: &mut Vec<Item>) -> Result<Option<Parts>, NoMemory>
+    ensures { IfOk result (λ o. IsTaken o (popped_parts slots.now (reverse stack.old.items)) (reverse stack.new.items)) }
 {
-    let mut found = Vec::with_capacity(alloc, slots.len())?;
+    let mut found = Parts::with_capacity(alloc, slots.len())?;
     let mut left = slots.len();
     while left > 0 {
         left -= 1;
@@ -57,8 +53,8 @@ fn closed(
     alloc: Global,
     slots: &[Slot],
     stack: &mut Vec<Item>,
-) -> Result<Option<(usize, Vec<Tree>)>, NoMemory>
-    ensures { IfOk result (λ o. IsClosed (option_map (λ x. (x.0, x.1.items)) o) slots.now (reverse stack.old.items) (reverse stack.new.items)) }
+) -> Result<Option<(usize, Parts)>, NoMemory>
+    ensures { IfOk result (λ o. IsClosed (option_map (λ x. (x.0, x.1)) o) slots.now (reverse stack.old.items) (reverse stack.new.items)) }
 {
     let Some(parts) = parts(alloc, slots, stack)? else {
         return Ok(None);
@@ -76,7 +72,7 @@ fn leaf_tree(
     from: usize,
     at: usize,
     what: Leaf,
-) -> Result<Option<Tree>, NoMemory>
+) -> Result<Option<BoundedTree>, NoMemory>
     requires { from ≤ length tokens.now.list }
     ensures { IfOk result (λ o. o ≡ leaf tokens.now.text (leaf_view what) (token_of (drop from tokens.now.list) at)) }
 {
@@ -84,14 +80,14 @@ fn leaf_tree(
     if at < rest.len() {
         let span = rest[at].span;
         match form_of(alloc, tokens, from + at, what)? {
-            Some(form) => Ok(Some(Tree::of(form, span, Vec::new(alloc)))),
+            Some(form) => Ok(Some(BoundedTree::of(form, span, Parts::new(alloc))?)),
             None => Ok(None),
         }
     } else {
         match what {
             Leaf::Always(form) => {
                 let span = Span { from: 0, to: 0 };
-                Ok(Some(Tree::of(form, span, Vec::new(alloc))))
+                Ok(Some(BoundedTree::of(form, span, Parts::new(alloc))?))
             }
             _ => Ok(None),
         }
@@ -112,13 +108,13 @@ fn worded_form(worded: Worded, word: IntWord) -> Form
 fn gathers(alloc: Global, stack: &mut Vec<Item>) -> Result<bool, NoMemory>
     ensures { IfOk result (λ yes. IsStep yes (done_by gathers [] [] 0 (reverse stack.old.items)) (reverse stack.new.items)) }
 {
-    let mut row = Vec::new(alloc);
+    let mut row = Parts::new(alloc);
     gather(stack, Wanted::Nodes, &mut row)?;
     row.reverse();
     let Some(_) = opened(stack) else {
         return Ok(false);
     };
-    put(stack, Item::Built(Tree::row(row)))?;
+    put(stack, Item::Built(BoundedTree::row(row)))?;
     Ok(true)
 }
 
@@ -138,7 +134,7 @@ fn closes(
     let Some((place, parts)) = closed(alloc, slots, stack)? else {
         return Ok(false);
     };
-    let tree = Tree::of(form, stretch(rest, place, at), parts);
+    let tree = BoundedTree::of(form, stretch(rest, place, at), parts)?;
     put(stack, Item::Built(tree))?;
     Ok(true)
 }
@@ -162,7 +158,7 @@ fn closes_integer(
     let Some(word) = integer_of(token_at(rest, place).kind) else {
         return Ok(false);
     };
-    let tree = Tree::of(worded_form(worded, word), stretch(rest, place, at), parts);
+    let tree = BoundedTree::of(worded_form(worded, word), stretch(rest, place, at), parts)?;
     put(stack, Item::Built(tree))?;
     Ok(true)
 }
@@ -185,7 +181,7 @@ fn closes_attribute(
     let Some(name) = attribute_of(token_at(rest, place).kind) else {
         return Ok(false);
     };
-    let tree = Tree::of(Form::Attribute(name), stretch(rest, place, at), parts);
+    let tree = BoundedTree::of(Form::Attribute(name), stretch(rest, place, at), parts)?;
     put(stack, Item::Built(tree))?;
     Ok(true)
 }
@@ -241,7 +237,7 @@ fn joins(
         return Ok(false);
     };
     let span = stretch_from(rest, parts.as_slice(), at);
-    put(stack, Item::Built(Tree::of(form, span, parts)))?;
+    put(stack, Item::Built(BoundedTree::of(form, span, parts)?))?;
     Ok(true)
 }
 
@@ -251,10 +247,10 @@ fn wraps(alloc: Global, group: Group, form: Form, stack: &mut Vec<Item>) -> Resu
     let Some(tree) = popped(stack, Sort::One(group)) else {
         return Ok(false);
     };
-    let span = tree.span();
-    let mut parts = Vec::with_capacity(alloc, 1)?;
+    let span = tree.as_tree().span();
+    let mut parts = Parts::with_capacity(alloc, 1)?;
     parts.push(tree)?;
-    put(stack, Item::Built(Tree::of(form, span, parts)))?;
+    put(stack, Item::Built(BoundedTree::of(form, span, parts)?))?;
     Ok(true)
 }
 
@@ -276,7 +272,7 @@ fn step_by(
             Ok(true)
         }
         Rule::LeavesOut => {
-            put(stack, Item::Built(Tree::absent()))?;
+            put(stack, Item::Built(BoundedTree::absent()))?;
             Ok(true)
         }
         Rule::Takes(leaf) => match leaf_tree(alloc, tokens, from, at, leaf)? {

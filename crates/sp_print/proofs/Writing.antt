@@ -15,6 +15,7 @@ use Rattle.sp_print.specs.declared.layouts.Piece.{Piece}
 use Rattle.sp_print.specs.declared.layouts.Piece.TheVariants as pieces
 use Rattle.sp_print.specs.Layouts.{opening, closing, between}
 use Rattle.sp_print.specs.Words.{fixed}
+use Rattle.sp_print.specs.Pieces.{IsLaid}
 use Rattle.sp_print.specs.Canonical.{Writing, last_kind, kinds, chain, enclosed, write, needs_parentheses, at_place, is_absent, is_empty_row, anywhere, followed, listed, framed, part, part_of, parts_of, rowed, laid, spelled, lines}
 
 pub last_puts : (ws : List Word) (p : Page) → (puts ws p).last ≡ last_kind p.last ws
@@ -76,30 +77,22 @@ first_and_others by (x ∷ xs) t p a b some at first second =
     ∙ ap (λ q. write (followed by (parts_of (trees xs))) q) (first ∙ ap (λ y. write (anywhere (part_of y)) p) at)
     ∙ sym (write_chain (anywhere (part_of x)) (followed by (parts_of (trees xs))) p)
 
--- all parts that are left, and the pieces behind them
-pub all_and_rest : (form : Form) (d : Piece) (ps : List Piece) (by : Separator) (ts : List Tree) (p a b : Page) → 1 ≤ length ps → get_or ps 0 d ≡ pieces.All by
-    → a ≡ write (listed by (parts_of (trees ts))) p → b ≡ write (laid form (take (length ps - 1) (drop 1 ps)) (parts_of (trees []))) a
-    → b ≡ write (laid form ps (parts_of (trees ts))) p
-all_and_rest form d [] by ts p a b some at first second = absurd (omega arith)
-all_and_rest form d (x ∷ ps) by ts p a b some at first second =
-    let rest : take (length (x ∷ ps) - 1) (drop 1 (x ∷ ps)) ≡ ps = take_all (length (x ∷ ps) - 1) ps (omega arith) in
-    second ∙ ap (λ qs. write (laid form qs []) a) rest ∙ ap (λ q. write (laid form ps []) q) first ∙ sym (write_chain (listed by (parts_of (trees ts))) (laid form ps []) p)
-    ∙ ap (λ q. write (laid form (q ∷ ps) (parts_of (trees ts))) p) (sym at)
+-- all parts that are left
+pub all_laid : (form : Form) (piece : Piece) (by : Separator) (ts : List Tree) (p a : Page) → piece ≡ pieces.All by → a ≡ write (listed by (parts_of (trees ts))) p → IsLaid form piece ts p [] a
+all_laid form piece by ts p a at first behind =
+    ap (λ x. write (laid form (x ∷ behind) (parts_of (trees ts))) p) at
+    ∙ write_chain (listed by (parts_of (trees ts))) (laid form behind []) p ∙ ap (λ q. write (laid form behind []) q) (sym first)
 
--- the next part, and the pieces behind it
-pub part_and_rest : (form : Form) (d : Piece) (ps : List Piece) (layout : PartLayout) (ts : List Tree) (t : Tree) (p a b : Page) → 1 ≤ length ps → get_or ps 0 d ≡ pieces.Part layout → 1 ≤ length ts → t ≡ get_or ts 0 t
-    → a ≡ write (part form layout (part_of t)) p → b ≡ write (laid form (take (length ps - 1) (drop 1 ps)) (parts_of (trees (take (length ts - 1) (drop 1 ts))))) a
-    → b ≡ write (laid form ps (parts_of (trees ts))) p
-part_and_rest form d [] layout ts t p a b some at more found first second = absurd (omega arith)
-part_and_rest form d (x ∷ ps) layout [] t p a b some at more found first second = absurd (omega arith)
-part_and_rest form d (x ∷ ps) layout (u ∷ ts) t p a b some at more found first second =
-    let rest : take (length (x ∷ ps) - 1) (drop 1 (x ∷ ps)) ≡ ps = take_all (length (x ∷ ps) - 1) ps (omega arith) in
+-- the next part
+pub part_laid : (form : Form) (piece : Piece) (layout : PartLayout) (ts : List Tree) (t : Tree) (p a : Page) → piece ≡ pieces.Part layout → 1 ≤ length ts → t ≡ get_or ts 0 t
+    → a ≡ write (part form layout (part_of t)) p → IsLaid form piece ts p (take (length ts - 1) (drop 1 ts)) a
+part_laid form piece layout [] t p a at more found first behind = absurd (omega arith)
+part_laid form piece layout (u ∷ ts) t p a at more found first behind =
     let others : take (length (u ∷ ts) - 1) (drop 1 (u ∷ ts)) ≡ ts = take_all (length (u ∷ ts) - 1) ts (omega arith) in
-    second ∙ ap (λ qs. write (laid form qs (parts_of (trees (take (length (u ∷ ts) - 1) (drop 1 (u ∷ ts)))))) a) rest
-    ∙ ap (λ vs. write (laid form ps (parts_of (trees vs))) a) others
-    ∙ ap (λ q. write (laid form ps (parts_of (trees ts))) q) (first ∙ ap (λ v. write (part form layout (part_of v)) p) found)
-    ∙ sym (write_chain (part form layout (part_of u)) (laid form ps (parts_of (trees ts))) p)
-    ∙ ap (λ q. write (laid form (q ∷ ps) (parts_of (trees (u ∷ ts)))) p) (sym at)
+    ap (λ x. write (laid form (x ∷ behind) (parts_of (trees (u ∷ ts)))) p) at
+    ∙ write_chain (part form layout (part_of u)) (laid form behind (parts_of (trees ts))) p
+    ∙ ap (λ q. write (laid form behind (parts_of (trees ts))) q) (ap (λ v. write (part form layout (part_of v)) p) (sym found) ∙ sym first)
+    ∙ ap (λ vs. write (laid form behind (parts_of (trees vs))) a) (sym others)
 
 -- a text before words stays before them
 put_behind : (w : Word) (front text : List ℕ) (last : Option TokenKind) → put w (page (front ++ text) last) ≡ page (front ++ (text ++ gap last (kind_of w) ++ written w)) (Some (kind_of w))

@@ -1,8 +1,9 @@
 // The canonical text of trees.
-ghost use Rattle.std.specs.Prelude.{◌≡◌, ◌++◌, OnOk, IfOk, None};
-ghost use Rattle.sp_ast.specs.Trees.{trees};
+ghost use Rattle.std.specs.Prelude.{◌≡◌, ◌≤◌, ◌++◌, OnOk, IfOk, None};
+ghost use Rattle.sp_ast.specs.Trees.{trees, trees_size};
 ghost use Rattle.sp_print.specs.Page.{page};
 ghost use Rattle.sp_print.specs.Canonical.{write, spelled, laid, part, part_of, parts_of, framed, rowed, followed, listed, at_place, row_of, declarations, lines, canonical};
+ghost use Rattle.sp_print.specs.Pieces.{IsLaid};
 
 use crate::layouts::{Frame, PartLayout, Piece, Separator};
 use crate::own::put_own;
@@ -29,7 +30,7 @@ fn put_tree(writer: &mut Writer, tree: &Tree) -> Result<(), NoMemory>
     }
 }
 
-/// Puts the pieces of a tree, with the parts that are left.
+/// Puts the pieces of a tree with its parts.
 #[cycle(put)]
 fn put_pieces(
     writer: &mut Writer,
@@ -39,28 +40,41 @@ fn put_pieces(
 ) -> Result<(), NoMemory>
     ensures { OnOk result (writer.new ≡ write (laid form.now pieces.now (parts_of (trees parts.now))) writer.old) }
 {
-    let [piece, rest @ ..] = pieces else {
-        return Ok(());
-    };
+    let mut left = parts;
+    for piece in pieces {
+        left = put_piece(writer, form, *piece, left)?;
+    }
+    Ok(())
+}
+
+/// Puts a piece, and answers the parts that are left behind it.
+#[cycle(put)]
+fn put_piece<'t>(
+    writer: &mut Writer,
+    form: &Form,
+    piece: Piece,
+    parts: &'t [Tree],
+) -> Result<&'t [Tree], NoMemory>
+    ensures laid { IfOk result (λ left. IsLaid form.now piece parts.entry.now writer.old left.now writer.new) }
+    ensures less { IfOk result (λ left. trees_size (trees left.now) ≤ trees_size (trees parts.entry.now)) }
+{
     match (piece, parts) {
         (Piece::Word(kind), _) => {
-            writer.put_kind(*kind)?;
-            put_pieces(writer, form, rest, parts)
+            writer.put_kind(kind)?;
+            Ok(parts)
         }
         (Piece::Own, _) => {
             put_own(writer, form)?;
-            put_pieces(writer, form, rest, parts)
+            Ok(parts)
         }
         (Piece::All(by), _) => {
-            put_all(writer, *by, parts)?;
-            put_pieces(writer, form, rest, &[])?;
-            Ok(())
+            put_all(writer, by, parts)?;
+            Ok(&[])
         }
-        (Piece::Part(_), []) => put_pieces(writer, form, rest, &[]),
+        (Piece::Part(_), []) => Ok(&[]),
         (Piece::Part(layout), [part, others @ ..]) => {
-            put_part(writer, form, *layout, part)?;
-            put_pieces(writer, form, rest, others)?;
-            Ok(())
+            put_part(writer, form, layout, part)?;
+            Ok(others)
         }
     }
 }
@@ -203,11 +217,11 @@ fn row(tree: &Tree) -> &[Tree]
 /// The canonical text of a module: a line for its name and one for each declaration, the tokens of each with one space
 /// between them, and with parentheses only where the grammar needs them.
 pub fn print_module(alloc: Global, m: &Module) -> Result<Text, NoMemory>
-    ensures { IfOk result (λ text. text ≡ canonical m.now.tree) }
+    ensures { IfOk result (λ text. text ≡ canonical m.now) }
 {
     let mut writer = Writer::new(alloc);
-    put_tree(&mut writer, &m.tree)?;
+    put_tree(&mut writer, m.tree())?;
     writer.end_line()?;
-    put_lines(&mut writer, declarations(&m.tree))?;
+    put_lines(&mut writer, declarations(m.tree()))?;
     Text::new(alloc, writer.text())
 }

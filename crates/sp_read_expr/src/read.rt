@@ -5,7 +5,7 @@ ghost use Rattle.sp_grammar.specs.declared.language.Start.TheVariants as start;
 ghost use Rattle.sp_runs.specs.Runs.{IsRefused};
 ghost use Rattle.sp_read_expr.specs.Reading.{IsTreeRead};
 
-use sp_ast::{Expr, Stmt, Tree, TypeTree};
+use sp_ast::{BoundedTree, Expr, Stmt, TypeTree};
 use sp_build::{build, every_text_is_built};
 use sp_grammar::Start;
 use sp_lex::{ReadFault, Tokens};
@@ -20,7 +20,7 @@ pub fn read_tree(
     tokens: &Tokens,
     start: Start,
     at: u32,
-) -> Result<(Tree, u32), ReadFault>
+) -> Result<(BoundedTree, u32), ReadFault>
     requires { at ≤ length tokens.now.list }
     ensures read { IfOk result (λ x. IsTreeRead start tokens.now at x.0 x.1) }
     ensures inside { IfErr result (OnDiag (λ span _. span.from ≤ length tokens.now.text)) }
@@ -37,32 +37,32 @@ pub fn read_tree(
 /// text: M30 where that token is a word out of profile, and else M3.
 pub fn read_expr(alloc: Global, t: &Tokens, at: u32) -> Result<(Expr, u32), ReadFault>
     requires { at ≤ length t.now.list }
-    ensures read { IfOk result (λ x. IsTreeRead start.Expr t.now at x.0.tree x.1) }
+    ensures read { IfOk result (λ x. IsTreeRead start.Expr t.now at x.0 x.1) }
     ensures inside { IfErr result (OnDiag (λ span _. span.from ≤ length t.now.text)) }
     ensures refused { IfErr result (OnDiag (λ span kind. IsRefused start.Expr t.now.list at (length t.now.text) span kind)) }
 {
     let (tree, to) = read_tree(alloc, t, Start::Expr, at)?;
-    Ok((Expr { tree }, to))
+    Ok((Expr::new(tree), to))
 }
 
 /// Reads a statement, as [`read_expr`] reads an expression. An `else` belongs to the nearest `if`.
 pub fn read_stmt(alloc: Global, t: &Tokens, at: u32) -> Result<(Stmt, u32), ReadFault>
     requires { at ≤ length t.now.list }
-    ensures read { IfOk result (λ x. IsTreeRead start.Stmt t.now at x.0.tree x.1) }
+    ensures read { IfOk result (λ x. IsTreeRead start.Stmt t.now at x.0 x.1) }
     ensures inside { IfErr result (OnDiag (λ span _. span.from ≤ length t.now.text)) }
     ensures refused { IfErr result (OnDiag (λ span kind. IsRefused start.Stmt t.now.list at (length t.now.text) span kind)) }
 {
     let (tree, to) = read_tree(alloc, t, Start::Stmt, at)?;
-    Ok((Stmt { tree }, to))
+    Ok((Stmt::new(tree), to))
 }
 
 /// Reads a type, as [`read_expr`] reads an expression. A `>>` closes two lists of types.
 pub fn read_type(alloc: Global, t: &Tokens, at: u32) -> Result<(TypeTree, u32), ReadFault>
     requires { at ≤ length t.now.list }
-    ensures read { IfOk result (λ x. IsTreeRead start.Type t.now at x.0.tree x.1) }
+    ensures read { IfOk result (λ x. IsTreeRead start.Type t.now at x.0 x.1) }
     ensures inside { IfErr result (OnDiag (λ span _. span.from ≤ length t.now.text)) }
     ensures refused { IfErr result (OnDiag (λ span kind. IsRefused start.Type t.now.list at (length t.now.text) span kind)) }
 {
     let (tree, to) = read_tree(alloc, t, Start::Type, at)?;
-    Ok((TypeTree { tree }, to))
+    Ok((TypeTree::new(tree), to))
 }

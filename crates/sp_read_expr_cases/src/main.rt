@@ -5,7 +5,7 @@
 #![tactic(auto)]
 
 use sp_ast::{Node, Tree};
-use sp_lex::{ReadFault, Tokens, lex};
+use sp_lex::{ReadFault, lex};
 use sp_read_expr::{read_expr, read_stmt, read_type};
 use std::alloc::{AllocError, Global};
 use std::io;
@@ -60,27 +60,38 @@ fn parts(alloc: Global, text: &str, trees: &[Tree]) -> Result<String, AllocError
     Ok(words)
 }
 
-/// The tree of the text.
-fn read(alloc: Global, what: &str, tokens: &Tokens) -> Result<Tree, ReadFault> {
-    match what {
-        "type" => Ok(read_type(alloc, tokens, 0)?.0.tree),
-        "stmt" => Ok(read_stmt(alloc, tokens, 0)?.0.tree),
-        _ => Ok(read_expr(alloc, tokens, 0)?.0.tree),
-    }
+/// The parts of the tree in the form of the lines.
+fn told(alloc: Global, text: &str, tree: &Tree) -> Result<String, ReadFault> {
+    let said = match &tree.node {
+        Node::Of { parts: inside, .. } => parts(alloc, text, inside.as_slice()),
+        Node::Row(_) | Node::Absent => format!(in alloc; "?"),
+    };
+    said.map_err(|_| ReadFault::NoMemory)
 }
 
-fn tree_of(alloc: Global, what: &str, text: &str) -> Result<Tree, ReadFault> {
+/// The parts of the tree of the text.
+fn read(alloc: Global, what: &str, text: &str) -> Result<String, ReadFault> {
     let tokens = lex(alloc, text.as_bytes())?;
-    read(alloc, what, &tokens)
+    match what {
+        "type" => {
+            let (tree, _) = read_type(alloc, &tokens, 0)?;
+            told(alloc, text, tree.tree())
+        }
+        "stmt" => {
+            let (tree, _) = read_stmt(alloc, &tokens, 0)?;
+            told(alloc, text, tree.tree())
+        }
+        _ => {
+            let (tree, _) = read_expr(alloc, &tokens, 0)?;
+            told(alloc, text, tree.tree())
+        }
+    }
 }
 
 /// The answer in the form of the lines.
 fn answer(alloc: Global, what: &str, text: &str) -> Result<String, AllocError> {
-    match tree_of(alloc, what, text) {
-        Ok(tree) => match &tree.node {
-            Node::Of { parts: inside, .. } => parts(alloc, text, inside.as_slice()),
-            Node::Row(_) | Node::Absent => format!(in alloc; "?"),
-        },
+    match read(alloc, what, text) {
+        Ok(said) => Ok(said),
         Err(ReadFault::Diag(span, kind)) => {
             let number = kind.number();
             let from = span.from;

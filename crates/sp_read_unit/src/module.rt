@@ -24,7 +24,7 @@ fn left_over(token: Token) -> ReadFault
 /// of profile, and else M3.
 pub fn read_module(alloc: Global, t: &Tokens) -> Result<Module, ReadFault>
     ensures module { OnOk result (IsModuleText t.now.list) }
-    ensures tree { IfOk result (λ m. IsModuleTree t.now m.tree) }
+    ensures tree { IfOk result (λ m. IsModuleTree t.now m) }
     ensures inside { IfErr result (OnDiag (λ span _. span.from ≤ length t.now.text)) }
     ensures refused { IfErr result (OnDiag (IsModuleRefused t.now.list (length t.now.text))) }
 {
@@ -34,5 +34,5 @@ pub fn read_module(alloc: Global, t: &Tokens) -> Result<Module, ReadFault>
     if to < t.len() {
         return Err(left_over(t.as_slice()[to]));
     }
-    Ok(Module { tree: read.0 })
+    Ok(Module::new(read.0))
 }

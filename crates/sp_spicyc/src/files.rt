@@ -27,7 +27,7 @@ fn refused(alloc: Global, path: &str, place: Place, kind: MKind) -> Unread
 
 /// The module of a text. Where it is none the fault is the first of its tokens, or else that of the module.
 fn module_of(alloc: Global, text: &[u8]) -> Result<Module, ReadFault>
-    ensures module { IfOk result (λ m. IsModuleOf text.now m.tree) }
+    ensures module { IfOk result (λ m. IsModuleOf text.now m) }
     ensures inside { IfErr result (OnDiag (λ span _. (span.from ≤ length text.now) × (span.from ≤ most_bytes + 1))) }
     ensures unreadable { IfErr result (OnDiag (IsUnreadable text.now)) }
 {
@@ -38,7 +38,7 @@ fn module_of(alloc: Global, text: &[u8]) -> Result<Module, ReadFault>
 
 /// The module of the text of the file at the path.
 fn read_text(alloc: Global, path: &str, text: &[u8]) -> Result<Module, Unread>
-    ensures module { IfOk result (λ m. IsModuleOf text.now m.tree) }
+    ensures module { IfOk result (λ m. IsModuleOf text.now m) }
     ensures unread { IfErr result (IsTextUnread path.now text.now) }
 {
     match module_of(alloc, text) {
@@ -53,7 +53,7 @@ fn read_text(alloc: Global, path: &str, text: &[u8]) -> Result<Module, Unread>
 /// The module of the file at the path.
 fn read_file<M: Modules>(alloc: Global, path: &str, modules: &mut M) -> Result<Module, Unread>
     requires { M.faults modules.old < 2 ^ 64 - 1 }
-    ensures reads { IfOk result (λ m. Reads (M.files modules.old) path.now m.tree) }
+    ensures reads { IfOk result (λ m. Reads (M.files modules.old) path.now m) }
     ensures unread { IfErr result (IsStopped (M.files modules.old) path.now) }
     ensures files { M.files modules.new ≡ M.files modules.old }
     ensures cause { MatchResult result (λ _. M.faults modules.new ≡ M.faults modules.old) (UnreadCause (M.faults modules.old) (M.faults modules.new)) }
@@ -76,7 +76,7 @@ fn append_printed(
     m: &Module,
     text: &mut ByteList,
 ) -> Result<(), NoMemory>
-    ensures { OnOk result (text.new ≡ text.old ++ printed print (m.now.tree ∷ [])) }
+    ensures { OnOk result (text.new ≡ text.old ++ printed print (m.now ∷ [])) }
 {
     if print {
         text.append(print_module(alloc, m)?.as_str().as_bytes())?;

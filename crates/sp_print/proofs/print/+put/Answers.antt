@@ -6,7 +6,7 @@ use Rattle.sp_print.specs.declared.layouts.Separator.TheVariants as separator
 use Rattle.sp_print.specs.Layouts.{opening, closing}
 use Rattle.sp_print.specs.Canonical.{needs_parentheses, is_absent, is_empty_row, spelled, rowed, part_of, anywhere}
 use Rattle.sp_print.proofs.Parts.{size_within}
-use Rattle.sp_print.proofs.Writing.{within, in_parentheses, in_frame, as_arguments, one_more, first_and_others, all_and_rest, part_and_rest}
+use Rattle.sp_print.proofs.Writing.{within, in_parentheses, in_frame, as_arguments, one_more, first_and_others, all_laid, part_laid}
 use Rattle.sp_print.proofs.print.+put.Goals as goal
 
 pub put_all-returns : goal.put_all-returns
@@ -41,13 +41,10 @@ put_part-returns-in_ok-put_kind-in-Arguments-2 t c =
     within (token.Mark mark.LeftParen ∷ []) (token.Mark mark.RightParen ∷ []) (rowed c.args.tree.now separator.Comma) c.args.writer.now c.put_kind.new.self c.put_row-in-Arguments.new.writer c.put_kind-in-Arguments.new.self c.in_ok-put_kind-in-Arguments.ensures c.in_ok-put_row-in-Arguments.ensures c.in_ok-put_kind-in-Arguments-2.ensures
     ∙ as_arguments c.args.form.now c.args.layout c.args.tree.now c.args.writer.now c.in-Arguments.is some
 
-pub put_pieces-put_all-requires : goal.put_pieces-put_all-requires
-put_pieces-put_all-requires t c = (omega (arith, c.in-len1-up.len_at_least), tt)
+pub put_piece-returns-in_ok-put_all-in-All-default-clause-laid : goal.put_piece-returns-in_ok-put_all-in-All-default-clause-laid
+put_piece-returns-in_ok-put_all-in-All-default-clause-laid t c =
+    all_laid c.args.form.now c.args.piece c.in-All-default.by c.args.parts.now c.args.writer.now c.put_all.new.writer c.in-All-default.is-0 c.in_ok-put_all-in-All-default.ensures
 
-pub put_pieces-returns-in_ok-put_pieces-in-All-default : goal.put_pieces-returns-in_ok-put_pieces-in-All-default
-put_pieces-returns-in_ok-put_pieces-in-All-default t c =
-    all_and_rest c.args.form.now _ c.args.pieces.now c.in-All-default.by c.args.parts.now c.args.writer.now c.put_all.new.writer c.put_pieces-in-All-default.new.writer c.in-len1-up.len_at_least c.in-All-default.is-0 c.in_ok-put_all-in-All-default.ensures c.in_ok-put_pieces-in-All-default.ensures
-
-pub put_pieces-returns-in_ok-put_pieces-in-Part-len1-up : goal.put_pieces-returns-in_ok-put_pieces-in-Part-len1-up
-put_pieces-returns-in_ok-put_pieces-in-Part-len1-up t c =
-    part_and_rest c.args.form.now _ c.args.pieces.now c.in-Part-len1-up.layout c.args.parts.now c.part-item.result c.args.writer.now c.put_part.new.writer c.put_pieces-in-Part-len1-up.new.writer c.in-len1-up.len_at_least c.in-Part-len1-up.is-0 c.in-Part-len1-up.len_at_least c.part-item.is c.in_ok-put_part-in-Part-len1-up.ensures c.in_ok-put_pieces-in-Part-len1-up.ensures
+pub put_piece-returns-in_ok-put_part-in-Part-len1-up-clause-laid : goal.put_piece-returns-in_ok-put_part-in-Part-len1-up-clause-laid
+put_piece-returns-in_ok-put_part-in-Part-len1-up-clause-laid t c =
+    part_laid c.args.form.now c.args.piece c.in-Part-len1-up.layout c.args.parts.now c.part-item.result c.args.writer.now c.put_part.new.writer c.in-Part-len1-up.is-0 c.in-Part-len1-up.len_at_least c.part-item.is c.in_ok-put_part-in-Part-len1-up.ensures

@@ -1,13 +1,21 @@
-use Rattle.std.proofs.Common.{◌≡◌, ◌+◌, ◌*◌, drop, length}
+use Rattle.std.proofs.Common.{◌≡◌, ◌+◌, ◌*◌, ◌≤◌, drop}
 use Rattle.sp_ast.specs.Trees.{trees, tree_size, trees_size}
-use Rattle.sp_print.specs.Canonical.{write, followed, parts_of}
+use Rattle.sp_print.specs.Canonical.{write, followed, laid, parts_of}
 use Rattle.sp_print.proofs.print.+put.Given as goal
 
 abbrev pub decreases-put_tree : goal.decreases-put_tree
 decreases-put_tree l = 32 * tree_size l.tree.now + 20
 
 abbrev pub decreases-put_pieces : goal.decreases-put_pieces
-decreases-put_pieces l = 32 * trees_size (trees l.parts.now) + length l.pieces.now + 1
+decreases-put_pieces l = 32 * trees_size (trees l.parts.now) + 3
+
+abbrev pub decreases-put_piece : goal.decreases-put_piece
+decreases-put_piece l = 32 * trees_size (trees l.parts.now) + 2
+
+abbrev pub invariant-put_pieces-loop-piece : goal.invariant-put_pieces-loop-piece
+invariant-put_pieces-loop-piece l =
+    (write (laid l.form (drop l.piece-index l.pieces) (parts_of (trees l.left))) l.writer ≡ write (laid l.form l.pieces (parts_of (trees l.parts))) l.fn.writer)
+    × (trees_size (trees l.left) ≤ trees_size (trees l.parts))
 
 abbrev pub decreases-put_part : goal.decreases-put_part
 decreases-put_part l = 32 * tree_size l.tree.now + 25

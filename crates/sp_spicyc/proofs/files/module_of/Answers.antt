@@ -16,4 +16,4 @@ returns-in_err-module-clause-unreadable c =
 
 pub returns-clause-module : goal.returns-clause-module
 returns-clause-module c =
-    module_by c.args.text.now c.in_ok-tokens.tokens c.in_ok-module.module.tree c.in_ok-tokens.ensures.text (record { read = c.in_ok-tokens.ensures.tokens; right = c.in_ok-tokens.ensures.right }) c.in_ok-module.ensures.tree
+    module_by c.args.text.now c.in_ok-tokens.tokens c.in_ok-module.module c.in_ok-tokens.ensures.text (record { read = c.in_ok-tokens.ensures.tokens; right = c.in_ok-tokens.ensures.right }) c.in_ok-module.ensures.tree

@@ -16,7 +16,7 @@ loop-path-preserved g c =
     let files = g.M.Modules.files c.args.modules.now in
     let reads = rw c.as_str.ensures at (rw c.loop-path.invariant.files at c.in_ok-module.ensures.reads) in
     record {
-      read = printed_also files c.args.paths.now c.args.print c.loop-path.path-index c.path-item.result c.loop-path.text c.append_printed.new.text c.in_ok-module.module.tree c.loop-path-test.true c.path-item.is c.loop-path.invariant.read reads c.in-Ok.ensures;
+      read = printed_also files c.args.paths.now c.args.print c.loop-path.path-index c.path-item.result c.loop-path.text c.append_printed.new.text c.in_ok-module.module c.loop-path-test.true c.path-item.is c.loop-path.invariant.read reads c.in-Ok.ensures;
       files = c.read_file.ensures.files ∙ c.loop-path.invariant.files;
       quiet = c.in_ok-module.ensures.cause ∙ c.loop-path.invariant.quiet;
     }
