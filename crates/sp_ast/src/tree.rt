@@ -5,7 +5,9 @@ use std::marker::Model;
 
 /// A tree of the grammar, or a part of one that is left out, or parts in a row.
 ///
-/// The tokens of a text nest at most 64 levels, so a walk that calls itself on the parts of a tree is bounded too.
+/// Brackets nest at most 64 levels, but statements also nest without any, as in `if (a) x; else while (b) ..`. So trees
+/// that are built are bounded ([`BoundedTree`](crate::BoundedTree)), and with them a walk that calls itself on the parts of
+/// a tree.
 #[cycle(tree)]
 #[derive(Drop)]
 pub struct Tree {
