@@ -6,5 +6,5 @@ commit_of "$top"
 built_of=none
 [ ! -r "$top/out/$program.commit" ] || read -r built_of <"$top/out/$program.commit"
 [ "$built_of" = "commit $commit" ] && [ -x "$top/out/$program" ] ||
-    "$top/bin/build" --if-stale "$program" </dev/null >&2 || exit 127
+    "$top/bin/build" --quiet "$program" </dev/null >&2 || exit 127
 exec "$top/out/$program" "$@"
