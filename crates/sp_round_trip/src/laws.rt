@@ -13,6 +13,7 @@ ghost use Rattle.sp_print.specs.Canonical.{canonical};
 ghost use Rattle.sp_printed_words.specs.Modules.{module_lines};
 ghost use Rattle.sp_printed_words.specs.Sound.{ArePlaced, HaveNoZero, IsSound};
 ghost use Rattle.sp_round_trip.specs.Bare.{bare};
+ghost use Rattle.sp_round_trip.specs.ReadAs.{IsReadAs, IsTooDeep};
 ghost use Rattle.sp_round_trip.specs.Told.{told};
 
 /// Two texts whose tokens tell the same are the same module, apart from the places of its parts: white space, comments,
@@ -32,9 +33,11 @@ pub fn words_of_a_read_module_are_placed()
     ensures { (lexed : Lexed) (m : Tree) → IsLexed lexed.text lexed.list → IsModuleTree lexed m → AllByRecursion (ArePlaced None) (module_lines m) }
 {}
 
-/// The canonical text of a module that was read reads as the same module, apart from the places of its parts; and if it is
-/// not too large, nothing can be wrong with it but that it is nested too deep.
+/// The canonical text of a module that was read, where it is not too large and not nested too deep, is read as the same
+/// module, apart from the places of its parts. Whatever tokens it has are those of that module; and if it is not too large,
+/// nothing can be wrong with it but that it is nested too deep.
 pub fn canonical_text_reads_back()
+    ensures reads_back { (lexed : Lexed) (m : Tree) → IsLexed lexed.text lexed.list → IsModuleTree lexed m → length (canonical m) ≤ most_bytes → ¬ IsTooDeep (canonical m) → (u : Tree) × IsReadAs (canonical m) u × (bare u ≡ bare m) }
     ensures same { (lexed : Lexed) (m : Tree) → IsLexed lexed.text lexed.list → IsModuleTree lexed m → (tokens : List Token) → IsLexed (canonical m) tokens → (u : Tree) × IsModuleTree (record { text = canonical m; list = tokens }) u × (bare u ≡ bare m) }
     ensures no_other_fault { (lexed : Lexed) (m : Tree) → IsLexed lexed.text lexed.list → IsModuleTree lexed m → length (canonical m) ≤ most_bytes → (span : Span) (kind : MKind) → IsFault (canonical m) span kind → kind ≡ module_kind.TooDeep }
 {}
