@@ -78,7 +78,7 @@ pub reads_whole : (lexed : Lexed) (m : Tree) → IsLexed lexed.text lexed.list �
     → length (canonical m) ≤ most_bytes → ¬ IsTooDeep (canonical m) → (u : Tree) × IsReadAs (canonical m) u × (bare u ≡ bare m)
 reads_whole lexed m is read small shallow =
     let faultless : (span : Span) (kind : MKind) → ¬ IsFault (canonical m) span kind =
-        λ span kind fault. shallow (span, subst (λ k. IsFault (canonical m) span k) (only_too_deep lexed m is read small span kind fault) fault) in
+    λ span kind fault. shallow (span, subst (λ k. IsFault (canonical m) span k) (only_too_deep lexed m is read small span kind fault) fault) in
     let (tokens, lexed_again) = has_tokens (canonical m) faultless in
     let (u, read_again, same) = reads_back lexed m is read tokens lexed_again in
     (u, (tokens, lexed_again, read_again, faultless), same)

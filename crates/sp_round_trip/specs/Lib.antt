@@ -1,3 +1,4 @@
 pub mod Bare
+pub mod Carried
 pub mod ReadAs
 pub mod Told
