@@ -1,12 +1,12 @@
 -- The shape of what stands at a place, for the kinds that carry something.
-use Rattle.std.proofs.Common.{◌≡◌, ℕ, ◌⊎◌, inl, inr, List, [], ◌∷◌, get_or, Bool, true, false, ◌&&◌, ◌==◌, cond, nat_lt, Option, Some, None, sym, refl, ap, ◌∙◌, length, take}
-use Rattle.std.specs.List.{find, prefix_len}
+use Rattle.std.proofs.Common.{◌≡◌, ℕ, ◌⊎◌, inl, inr, List, [], ◌∷◌, get_or, Bool, true, false, ◌&&◌, ◌==◌, cond, nat_lt, Option, Some, None, sym, refl, ap, subst, ◌∙◌, length, take, rules, tests}
+use Rattle.std.specs.List.{find, prefix_len, AllByRecursion}
 use Rattle.std.specs.Prelude.{unwrap_or}
 use Rattle.std.proofs.lemmas.Bool.{eqb-true}
 use Rattle.sp_lex.specs.Bytes.{is_white, is_letter, is_word}
 use Rattle.std.specs.Char.{is_ascii_digit}
 use Rattle.sp_lex.specs.Elements.{start_of, form_kind, token_of, literal_at, sign_of, sign_at, word_at, element_from, element_at}
-use Rattle.sp_lex.specs.Literals.{literal_len}
+use Rattle.sp_lex.specs.Literals.{literal_len, number_len}
 use Rattle.sp_lex.specs.Signs.{stands, longer, longest_of, longest_sign, is_spelled, word_kind}
 use Rattle.sp_lex.specs.Spellings.{spelling, signs, reserved_words}
 use Rattle.sp_lex.specs.declared.elements.Element.TheVariants as element
@@ -187,3 +187,142 @@ unfolding element_at
 regex_stands text divides n h =
     let shape = regex_shape text (start_of (get_or text 0 0)) n (shaped text (start_of (get_or text 0 0)) divides token.Regex n h) in
     (slash_byte (get_or text 0 0) shape.0, shape.1)
+
+letter_chosen : (w c l d q s : Bool) → chosen w c l d q s ≡ start.Letter → l ≡ true
+letter_chosen true c l d q s h = cc
+letter_chosen false true l d q s h = cc
+letter_chosen false false true d q s h = refl
+letter_chosen false false false true q s h = cc
+letter_chosen false false false false true s h = cc
+letter_chosen false false false false false true h = cc
+letter_chosen false false false false false false h = cc
+
+digit_chosen : (w c l d q s : Bool) → chosen w c l d q s ≡ start.Digit → d ≡ true
+digit_chosen true c l d q s h = cc
+digit_chosen false true l d q s h = cc
+digit_chosen false false true d q s h = cc
+digit_chosen false false false true q s h = refl
+digit_chosen false false false false true s h = cc
+digit_chosen false false false false false true h = cc
+digit_chosen false false false false false false h = cc
+
+comment_chosen : (w c l d q s : Bool) → chosen w c l d q s ≡ start.Comment → c ≡ true
+comment_chosen true c l d q s h = cc
+comment_chosen false true l d q s h = refl
+comment_chosen false false true d q s h = cc
+comment_chosen false false false true q s h = cc
+comment_chosen false false false false true s h = cc
+comment_chosen false false false false false true h = cc
+comment_chosen false false false false false false h = cc
+
+space_chosen : (w c l d q s : Bool) → chosen w c l d q s ≡ start.Space → w ≡ true
+space_chosen true c l d q s h = refl
+space_chosen false true l d q s h = cc
+space_chosen false false true d q s h = cc
+space_chosen false false false true q s h = cc
+space_chosen false false false false true s h = cc
+space_chosen false false false false false true h = cc
+space_chosen false false false false false false h = cc
+
+-- what a byte is, by what it can begin
+pub letter_byte : (byte : ℕ) → start_of byte ≡ start.Letter → is_letter byte ≡ true
+letter_byte byte h = letter_chosen (is_white byte) (byte == 35) (is_letter byte) (is_ascii_digit byte) (byte == 34) (byte == 47) h
+
+pub digit_byte : (byte : ℕ) → start_of byte ≡ start.Digit → is_ascii_digit byte ≡ true
+digit_byte byte h = digit_chosen (is_white byte) (byte == 35) (is_letter byte) (is_ascii_digit byte) (byte == 34) (byte == 47) h
+
+pub comment_byte : (byte : ℕ) → start_of byte ≡ start.Comment → byte ≡ 35
+comment_byte byte h = eqb-true byte 35 (comment_chosen (is_white byte) (byte == 35) (is_letter byte) (is_ascii_digit byte) (byte == 34) (byte == 47) h)
+
+pub space_byte : (byte : ℕ) → start_of byte ≡ start.Space → is_white byte ≡ true
+space_byte byte h = space_chosen (is_white byte) (byte == 35) (is_letter byte) (is_ascii_digit byte) (byte == 34) (byte == 47) h
+
+letter_no_white : (byte : ℕ) → is_letter byte ≡ true → is_white byte ≡ false
+letter_no_white byte h = search (rules, tests)
+
+letter_no_comment : (byte : ℕ) → is_letter byte ≡ true → (byte == 35) ≡ false
+letter_no_comment byte h = search (rules, tests)
+
+letter_start : (byte : ℕ) → is_letter byte ≡ true → start_of byte ≡ start.Letter
+letter_start byte h =
+    let white = letter_no_white byte h in
+    let comment = letter_no_comment byte h in
+    rw (white, comment, h) refl
+
+-- what stands where a letter does
+pub letter_stands : (text : List ℕ) (divides : Bool) (kind : TokenKind) (n : ℕ) → is_letter (get_or text 0 0) ≡ true → element_at divides text ≡ element.Token kind n → (token.Bytes ≡ kind) ⊎ (prefix_len is_word text ≡ n)
+unfolding element_at
+letter_stands text divides kind n letter h =
+    let shape = subst (λ s. Shaped text s kind n) (letter_start (get_or text 0 0) letter) (shaped text (start_of (get_or text 0 0)) divides kind n h) in
+    elim shape [ inl bytes ↦ inl bytes | inr word ↦ inr word.1 ]
+
+id_start : (text : List ℕ) (s : Start) (n : ℕ) → Shaped text s token.Id n → s ≡ start.Letter
+id_start text start.Space n h = absurd h
+id_start text start.Comment n h = absurd h
+id_start text start.Letter n h = refl
+id_start text start.Digit n h = cc
+id_start text start.Quote n h = let no : token.String ≡ token.Id = h.0 in cc
+id_start text start.Slash n (inl h) = cc
+id_start text start.Slash n (inr h) = let no : token.Regex ≡ token.Id = h.0 in cc
+id_start text start.Sign n h = cc
+
+-- a name begins with a letter
+pub id_letter : (text : List ℕ) (divides : Bool) (n : ℕ) → element_at divides text ≡ element.Token token.Id n → is_letter (get_or text 0 0) ≡ true
+unfolding element_at
+id_letter text divides n h = letter_byte (get_or text 0 0) (id_start text (start_of (get_or text 0 0)) n (shaped text (start_of (get_or text 0 0)) divides token.Id n h))
+
+-- a name is no reserved word
+none_found : (word : List ℕ) (o : Option TokenKind) → Fixed o → unwrap_or o token.Id ≡ token.Id → o ≡ None
+none_found word None fixed h = refl
+none_found word (Some found) fixed h = let no : varies token.Id ≡ false = ap varies (sym h) ∙ fixed in cc
+
+none_in : (b : Bool) (word : List ℕ) (kind : TokenKind) (kinds : List TokenKind) → is_spelled word kind ≡ b → cond b (Some kind) (find (is_spelled word) kinds) ≡ None → (is_spelled word kind ≡ false) × (find (is_spelled word) kinds ≡ None)
+none_in true word kind kinds is h = cc
+none_in false word kind kinds is h = (is, h)
+
+none_of : (word : List ℕ) (kinds : List TokenKind) → find (is_spelled word) kinds ≡ None → AllByRecursion (λ kind. is_spelled word kind ≡ false) kinds
+none_of word [] h = tt
+none_of word (kind ∷ kinds) h = let first = none_in (is_spelled word kind) word kind kinds refl h in (first.0, none_of word kinds first.1)
+
+id_found : (b : Bool) (o : Option ℕ) (word : List ℕ) (k n : ℕ) → cond b (token_of token.Bytes o) (element.Token (word_kind word) k) ≡ element.Token token.Id n → word_kind word ≡ token.Id
+id_found true None word k n h = cc
+id_found true (Some m) word k n h = cc
+id_found false o word k n h = cc
+
+id_word : (text : List ℕ) (s : Start) (divides : Bool) (n : ℕ) → s ≡ start.Letter → element_from s divides text ≡ element.Token token.Id n → word_kind (take (prefix_len is_word text) text) ≡ token.Id
+unfolding word_at literal_at
+id_word text start.Letter divides n is h = id_found (get_or text 0 0 == 98 && get_or text 1 0 == 34) (literal_len form.Bytes text) (take (prefix_len is_word text) text) (prefix_len is_word text) n h
+id_word text _ divides n is h = absurd cc
+
+pub id_unreserved : (text : List ℕ) (divides : Bool) (n : ℕ) → element_at divides text ≡ element.Token token.Id n → AllByRecursion (λ kind. is_spelled (take n text) kind ≡ false) reserved_words
+unfolding element_at word_kind
+id_unreserved text divides n h =
+    let is_start = id_start text (start_of (get_or text 0 0)) n (shaped text (start_of (get_or text 0 0)) divides token.Id n h) in
+    let is_id = id_word text (start_of (get_or text 0 0)) divides n is_start h in
+    let long = id_stands text divides n h in
+    subst (λ m. AllByRecursion (λ kind. is_spelled (take m text) kind ≡ false) reserved_words) long
+    (none_of (take (prefix_len is_word text) text) reserved_words
+    (none_found (take (prefix_len is_word text) text) (find (is_spelled (take (prefix_len is_word text) text)) reserved_words) (find_fixed text (is_spelled (take (prefix_len is_word text) text)) reserved_words refl) is_id))
+
+-- a number stands where a digit does, with all of its digits
+number_from : (text : List ℕ) (s : Start) (divides : Bool) (n : ℕ) → s ≡ start.Digit → element_from s divides text ≡ element.Token token.Number n → number_len text ≡ n
+number_from text start.Digit divides n is h = cc
+number_from text _ divides n is h = absurd cc
+
+number_start : (text : List ℕ) (s : Start) (n : ℕ) → Shaped text s token.Number n → s ≡ start.Digit
+number_start text start.Space n h = absurd h
+number_start text start.Comment n h = absurd h
+number_start text start.Letter n (inl bytes) = cc
+number_start text start.Letter n (inr (inl fixed, long)) = cc
+number_start text start.Letter n (inr (inr id, long)) = cc
+number_start text start.Digit n h = refl
+number_start text start.Quote n h = let no : token.String ≡ token.Number = h.0 in cc
+number_start text start.Slash n (inl h) = cc
+number_start text start.Slash n (inr h) = let no : token.Regex ≡ token.Number = h.0 in cc
+number_start text start.Sign n h = cc
+
+pub number_stands : (text : List ℕ) (divides : Bool) (n : ℕ) → element_at divides text ≡ element.Token token.Number n → (is_ascii_digit (get_or text 0 0) ≡ true) × (number_len text ≡ n)
+unfolding element_at
+number_stands text divides n h =
+    let is_start = number_start text (start_of (get_or text 0 0)) n (shaped text (start_of (get_or text 0 0)) divides token.Number n h) in
+    (digit_byte (get_or text 0 0) is_start, number_from text (start_of (get_or text 0 0)) divides n is_start h)

@@ -67,6 +67,12 @@ module _ (text : List ℕ) where
       let same = (bytes_decides (spelling found) (take (length (spelling found)) text)).0 (both (starts_with nat_eq text (spelling found)) _ there).0 in
       λ some. ap (λ m. take m text) (sym is_len) ∙ sym same ∙ ap spelling is_kind
 
+  -- the text of the longest token of marks stands there
+  pub sign_stands : (kind : TokenKind) → longest_of text None signs ≡ Some kind → take (length (spelling kind)) text ≡ spelling kind
+  sign_stands kind e =
+      let there : stands kind text ≡ true = subst Stands e (longest_stands signs None tt) in
+      sym ((bytes_decides (spelling kind) (take (length (spelling kind)) text)).0 (both (starts_with nat_eq text (spelling kind)) _ there).0)
+
   word_spells : (kind : TokenKind) (n : ℕ) (o : Option TokenKind) → find (is_spelled (take n text)) reserved_words ≡ o → unwrap_or o token.Id ≡ kind → Spells text kind n
   word_spells kind n None e h = λ some. absurd (omega (arith, some, ap (λ k. length (spelling k)) h))
   word_spells kind n (Some found) e h =

@@ -1,10 +1,13 @@
 pub mod Bytes
 pub mod Elements
 pub mod Faults
+pub mod Gaps
 pub mod Lexed
+pub mod Listed
 pub mod Literals
 pub mod Nesting
 pub mod Readings
 pub mod Scanning
 pub mod Signs
 pub mod Spellings
+pub mod Written

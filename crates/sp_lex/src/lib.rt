@@ -4,6 +4,7 @@
 mod elements;
 mod faults;
 mod kinds;
+mod laws;
 mod lexer;
 mod literals;
 mod nesting;
@@ -16,6 +17,10 @@ mod tokens;
 
 pub use faults::between;
 pub use kinds::{Absent, Attribute, Hook, Keyword, Mark, Property, TokenKind};
+pub use laws::{
+    faultless_texts_have_tokens, kinds_are_listed_once, names_are_not_reserved,
+    numbers_are_longest, only_blanks_stand_between, words_are_longest,
+};
 pub use lexer::lex;
 pub use numbers::number_of;
 pub use tokens::{ReadFault, Token, Tokens};

@@ -16,6 +16,7 @@ use Rattle.sp_base.specs.declared.places.Span.{Span}
 use Rattle.sp_lex.specs.declared.tokens.Token.{Token}
 use Rattle.sp_lex.specs.Faults.{IsFault, most_bytes}
 use Rattle.sp_lex.specs.Lexed.{Lexed, IsLexed}
+use Rattle.sp_lex.proofs.Faultless.{has_tokens}
 use Rattle.sp_grammar.specs.declared.language.Start.TheVariants.{Module}
 use Rattle.sp_ast.specs.Trees.{Tree}
 use Rattle.sp_build.specs.Groups.{is_of}
@@ -30,6 +31,7 @@ use Rattle.sp_printed_words.proofs.Modules.{module_same}
 use Rattle.sp_printed_words.proofs.Told.{told_no_zero, told_sound}
 use Rattle.sp_printed_words.proofs.Trees.{module_holds}
 use Rattle.sp_round_trip.specs.Bare.{bare}
+use Rattle.sp_round_trip.specs.ReadAs.{IsReadAs, IsTooDeep}
 use Rattle.sp_round_trip.specs.Told.{told}
 use Rattle.sp_round_trip.proofs.TextReadings.{ReadsModule, goes_of_tree, tree_of_goes}
 use Rattle.sp_round_trip.proofs.Goes.{telling_of, before}
@@ -70,3 +72,13 @@ pub only_too_deep : (lexed : Lexed) (m : Tree) → IsLexed lexed.text lexed.list
 only_too_deep lexed m is read small span kind fault =
     let lines = module_lines m in
     no_other_fault lines (lines_sound lexed m is read) (module_holds HasNoZero (λ kind fixed. tt) m (module_tells HasNoZero (λ kind fixed. tt) lexed m (told_no_zero lexed.text lexed.list is) read)) (subst (λ bytes. length bytes ≤ most_bytes) (module_same m) small) span kind (subst (λ bytes. IsFault bytes span kind) (module_same m) fault)
+
+-- It has tokens where it is not too large and not nested too deep, and they are the same module.
+pub reads_whole : (lexed : Lexed) (m : Tree) → IsLexed lexed.text lexed.list → IsModuleTree lexed m
+    → length (canonical m) ≤ most_bytes → ¬ IsTooDeep (canonical m) → (u : Tree) × IsReadAs (canonical m) u × (bare u ≡ bare m)
+reads_whole lexed m is read small shallow =
+    let faultless : (span : Span) (kind : MKind) → ¬ IsFault (canonical m) span kind =
+    λ span kind fault. shallow (span, subst (λ k. IsFault (canonical m) span k) (only_too_deep lexed m is read small span kind fault) fault) in
+    let (tokens, lexed_again) = has_tokens (canonical m) faultless in
+    let (u, read_again, same) = reads_back lexed m is read tokens lexed_again in
+    (u, (tokens, lexed_again, read_again, faultless), same)

@@ -47,4 +47,5 @@ pub mod ToldWords
 pub mod FormedTrees
 pub mod FormedModules
 pub mod PlacedWords
+pub mod CarriedWords
 pub mod Canonical

@@ -24,7 +24,7 @@ abbrev is_other : Manner → Bool
 is_other other = true
 is_other _ = false
 
-test_at : (f : ℕ → ℕ → Bool) (n p : ℕ) → below (λ n. below (λ p. f n p) (length (productions_of own n))) (length own.productions) ≡ true → p < length (productions_of own n) → f n p ≡ true
+pub test_at : (f : ℕ → ℕ → Bool) (n p : ℕ) → below (λ n. below (λ p. f n p) (length (productions_of own n))) (length own.productions) ≡ true → p < length (productions_of own n) → f n p ≡ true
 test_at f n p t h =
     let in_table : n < length own.productions = elim (cases_lt n (length own.productions)) [ inl x ↦ x | inr y ↦ absurd (let e : length (productions_of own n) ≡ 0 = ap length (get_or_past own.productions n [] y) in omega (arith, h, e)) ] in
     below_all (λ p. f n p) (length (productions_of own n)) p (below_all (λ n. below (λ p. f n p) (length (productions_of own n))) (length own.productions) n t in_table) h

@@ -40,7 +40,7 @@ pub never_first : (b : Bool) → cond b All Nothing ≡ First → ⊥
 never_first true h = absurd cc
 never_first false h = absurd cc
 
-by_kind : (e k : ℕ) → cond (e == k) All Nothing ≡ All → e ≡ k
+pub by_kind : (e k : ℕ) → cond (e == k) All Nothing ≡ All → e ≡ k
 by_kind e k h = elim (cases_Bool (e == k)) [ inl y ↦ eqb-true e k y | inr z ↦ absurd (let q : Nothing ≡ All = sym (cond-false (e == k) All Nothing z) ∙ h in cc) ]
 
 -- a terminal but the one that closes a list of types takes only a token of its own kind, and takes it whole

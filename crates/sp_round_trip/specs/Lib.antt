@@ -1,2 +1,4 @@
 pub mod Bare
+pub mod Carried
+pub mod ReadAs
 pub mod Told

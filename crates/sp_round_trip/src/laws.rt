@@ -1,5 +1,5 @@
 // A module that was read, its words, and its canonical text.
-ghost use Rattle.std.specs.Prelude.{◌≡◌, ◌≤◌, List, None, length};
+ghost use Rattle.std.specs.Prelude.{◌≡◌, ◌≤◌, List, None, flat_map, length};
 ghost use Rattle.std.specs.List.{AllByRecursion};
 ghost use Rattle.sp_base.specs.declared.kinds.MKind.{MKind};
 ghost use Rattle.sp_base.specs.declared.kinds.MKind.TheVariants as module_kind;
@@ -13,6 +13,8 @@ ghost use Rattle.sp_print.specs.Canonical.{canonical};
 ghost use Rattle.sp_printed_words.specs.Modules.{module_lines};
 ghost use Rattle.sp_printed_words.specs.Sound.{ArePlaced, HaveNoZero, IsSound};
 ghost use Rattle.sp_round_trip.specs.Bare.{bare};
+ghost use Rattle.sp_round_trip.specs.Carried.{carried, words_told};
+ghost use Rattle.sp_round_trip.specs.ReadAs.{IsReadAs, IsTooDeep};
 ghost use Rattle.sp_round_trip.specs.Told.{told};
 
 /// Two texts whose tokens tell the same are the same module, apart from the places of its parts: white space, comments,
@@ -32,9 +34,17 @@ pub fn words_of_a_read_module_are_placed()
     ensures { (lexed : Lexed) (m : Tree) → IsLexed lexed.text lexed.list → IsModuleTree lexed m → AllByRecursion (ArePlaced None) (module_lines m) }
 {}
 
-/// The canonical text of a module that was read reads as the same module, apart from the places of its parts; and if it is
-/// not too large, nothing can be wrong with it but that it is nested too deep.
+/// The canonical text of a module that was read, where it is not too large and not nested too deep, is read as the same
+/// module, apart from the places of its parts. Whatever tokens it has are those of that module; and if it is not too large,
+/// nothing can be wrong with it but that it is nested too deep.
 pub fn canonical_text_reads_back()
+    ensures reads_back { (lexed : Lexed) (m : Tree) → IsLexed lexed.text lexed.list → IsModuleTree lexed m → length (canonical m) ≤ most_bytes → ¬ IsTooDeep (canonical m) → (u : Tree) × IsReadAs (canonical m) u × (bare u ≡ bare m) }
     ensures same { (lexed : Lexed) (m : Tree) → IsLexed lexed.text lexed.list → IsModuleTree lexed m → (tokens : List Token) → IsLexed (canonical m) tokens → (u : Tree) × IsModuleTree (record { text = canonical m; list = tokens }) u × (bare u ≡ bare m) }
     ensures no_other_fault { (lexed : Lexed) (m : Tree) → IsLexed lexed.text lexed.list → IsModuleTree lexed m → length (canonical m) ≤ most_bytes → (span : Span) (kind : MKind) → IsFault (canonical m) span kind → kind ≡ module_kind.TooDeep }
+{}
+
+/// No name, number or literal is lost, added or moved: those that the text of a module tells are those of its canonical
+/// text, in their order.
+pub fn names_numbers_and_literals_are_kept()
+    ensures { (lexed : Lexed) (m : Tree) → IsLexed lexed.text lexed.list → IsModuleTree lexed m → carried (words_told (told lexed)) ≡ carried (flat_map (λ ws. ws) (module_lines m)) }
 {}
