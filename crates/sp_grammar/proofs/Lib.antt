@@ -1,5 +1,6 @@
 mod MarkNumbers
 pub mod OwnWords
 pub mod Recursion
+pub mod Sentences
 pub mod Spans
 pub mod Starting
