@@ -9,7 +9,7 @@ import re
 import sys
 from pathlib import Path
 
-from grammar import CLOSE, Facts, Grammar, Mark, Part, Token
+from grammar import CLOSE, SECOND, Facts, Grammar, Mark, Part, Token
 
 MARKS_NAMES = {
     "::": "ColonColon", ":": "Colon", ";": "Semicolon", ",": "Comma", ".": "Dot", "?.": "QuestionDot", "?": "Question",
@@ -362,6 +362,64 @@ def written(g, _):
     )
 
 
+NUMBERS = """\
+-- Each kind of token, each part and each mark has a number of its own, by their cases, which a script writes from
+-- tools/grammar.txt.
+use Rattle.std.proofs.Common.{◌≡◌, List, [], ◌∷◌, get_or, refl, sym, ap, ◌∙◌}
+use Rattle.sp_parser.specs.Grammar.{productions_of}
+use Rattle.sp_grammar.specs.declared.terminals.Terminal.{Terminal}
+use Rattle.sp_grammar.specs.declared.terminals.Terminal.TheVariants as kind
+use Rattle.sp_grammar.specs.declared.marks.Mark.{Mark}
+use Rattle.sp_grammar.specs.declared.marks.Mark.TheVariants as build
+use Rattle.sp_grammar.specs.Terminals.{terminal_number}
+use Rattle.sp_grammar.specs.Marks.{mark_number, all_marks}
+use Rattle.sp_grammar.specs.Written.{Part, part_number, all_parts}
+use Rattle.sp_grammar.specs.Own.{own, alternatives}
+
+-- the terminals by their numbers, and any where there is none
+by_number : List Terminal
+by_number = %s
+
+terminal_there : (t : Terminal) → get_or by_number (terminal_number t) kind.%s ≡ t
+unfolding by_number
+%s
+pub terminals_apart : (a b : Terminal) → terminal_number a ≡ terminal_number b → a ≡ b
+terminals_apart a b e = sym (terminal_there a) ∙ ap (λ n. get_or by_number n kind.%s) e ∙ terminal_there b
+
+mark_there : (m : Mark) → get_or all_marks (mark_number m) build.%s ≡ m
+%s
+pub marks_apart : (a b : Mark) → mark_number a ≡ mark_number b → a ≡ b
+marks_apart a b e = sym (mark_there a) ∙ ap (λ n. get_or all_marks n build.%s) e ∙ mark_there b
+
+part_there : (p : Part) → get_or all_parts (part_number p) Part.%s ≡ p
+%s
+pub parts_apart : (a b : Part) → part_number a ≡ part_number b → a ≡ b
+parts_apart a b e = sym (part_there a) ∙ ap (λ n. get_or all_parts n Part.%s) e ∙ part_there b
+
+pub own_alternatives : (p : Part) → productions_of own (part_number p) ≡ alternatives p
+unfolding own
+%s"""
+
+
+def number_proofs(g, _):
+    """That no two of them have one number, and that the grammar has the alternatives of each part at its number."""
+    kinds = {number: name for number, _, name in terminals(g)}
+    marks = [camel(mark) for mark in g.marks]
+    return NUMBERS % (
+        antt_list(f"kind.{kinds.get(number, kinds[0])}" for number in range(SECOND)),
+        kinds[0],
+        "".join(f"terminal_there kind.{name} = refl\n" for name in kinds.values()),
+        kinds[0],
+        marks[0],
+        "".join(f"mark_there build.{name} = refl\n" for name in marks),
+        marks[0],
+        g.parts[0],
+        "".join(f"part_there Part.{part} = refl\n" for part in g.parts),
+        g.parts[0],
+        "".join(f"own_alternatives Part.{part} = refl\n" for part in g.parts),
+    )
+
+
 FILES = {
     "src/tables.rt": tables,
     "src/terminals.rt": terminal_enum,
@@ -371,6 +429,7 @@ FILES = {
     "specs/TerminalKinds.antt": terminal_kinds,
     "specs/Marks.antt": mark_numbers,
     "specs/Written.antt": written,
+    "proofs/Numbers.antt": number_proofs,
 }
 
 

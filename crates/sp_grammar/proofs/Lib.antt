@@ -1,4 +1,5 @@
 mod MarkNumbers
+mod Numbers
 pub mod OwnWords
 pub mod Recursion
 pub mod Sentences
