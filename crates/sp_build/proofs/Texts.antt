@@ -14,6 +14,7 @@ use Rattle.sp_grammar.specs.declared.language.Start.TheVariants as start
 use Rattle.sp_grammar.specs.Starts.{start_number}
 use Rattle.sp_grammar.specs.Language.{language}
 use Rattle.sp_grammar.specs.Reads.{Reads, nothing, whole, half, mark, part}
+use Rattle.sp_grammar.proofs.Sentences.{derived}
 use Rattle.sp_grammar.proofs.Spans.{reads_derived, one_production}
 use Rattle.sp_runs.specs.Kinds.{token_number, numbers_of}
 use Rattle.sp_runs.specs.Runs.{IsText}
@@ -146,7 +147,7 @@ one_tree start (above {i = begun p} q bottom) = never q
 
 pub text_is_built : (start : Start) (text : List ℕ) (tokens : List Token) (m : ℕ) (events : List Event) → IsText start tokens m events → (t : Tree) × (is_of (group_of start) t ≡ true) × IsBuilt text tokens events t
 text_is_built start text tokens m events d =
-    let r = reads_derived d in
+    let r = reads_derived (derived start (take m (numbers_of tokens)) events d) in
     let p = passes text tokens m r.1 (start_run start) (inl refl) bottom in
     let t = one_tree start p.stands in
     (t.0, t.2, p.does ∙ ap (λ s. Some s) t.1)

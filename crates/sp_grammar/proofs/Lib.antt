@@ -1,5 +1,7 @@
 mod MarkNumbers
+mod Numbers
 pub mod OwnWords
 pub mod Recursion
+pub mod Sentences
 pub mod Spans
 pub mod Starting

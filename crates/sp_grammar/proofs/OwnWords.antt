@@ -145,7 +145,7 @@ read_of_table p h w τ d = let r = read_if_derived language (part_number p) w τ
 pub table_of_read : (p : Part) → is_piece p ≡ false → (w : List ℕ) (τ : List Event) → IsRead own (part_number p) w τ → Derives language (part_number p) w τ
 table_of_read p h w τ r = derived_if_read language (part_number p) w τ (r.0, back tails_of operands_of language own back_tested (part_number p) 0 r.0 w [] τ [] (fitting_part p h).1 r.1)
 
-start_part : (s : Start) → is_piece (part_of s) ≡ false
+pub start_part : (s : Start) → is_piece (part_of s) ≡ false
 start_part start.Module = refl
 start_part start.Type = refl
 start_part start.Stmt = refl

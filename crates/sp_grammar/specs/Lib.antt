@@ -2,6 +2,7 @@ pub mod Language
 pub mod Marks
 pub mod Own
 pub mod Reads
+pub mod Sentences
 pub mod Sets
 pub mod Starts
 pub mod TerminalKinds

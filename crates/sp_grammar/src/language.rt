@@ -1,7 +1,7 @@
 // The grammar, and parsing by it.
 ghost use Rattle.std.specs.Prelude.{◌≡◌, ℕ, ◌≤◌, List, length, drop, IfOk};
-ghost use Rattle.sp_parser.specs.Outcome.{IsParsed};
 ghost use Rattle.sp_grammar.specs.Language.{language, language_sets, language_tested};
+ghost use Rattle.sp_grammar.specs.Sentences.{IsParsed};
 ghost use Rattle.sp_grammar.specs.Starts.{start_number};
 
 use crate::tables::{ROWS, SPANS, SYMBOLS};
@@ -55,7 +55,7 @@ pub fn parse_kinds<K: Kinds>(
     at: usize,
 ) -> Result<Outcome, NoMemory>
     requires at { at ≤ length (K.kinds tokens.now) }
-    ensures { IfOk result (λ o. IsParsed language (start_number start) (drop at (K.kinds tokens.now)) at o) }
+    ensures { IfOk result (λ o. IsParsed start (drop at (K.kinds tokens.now)) at o) }
 {
     parse_from(alloc, &Language, start.number(), tokens, at)
 }

@@ -1,15 +1,19 @@
-// What the table has to do with the written grammar.
+// What the table has to do with the grammar.
 ghost use Rattle.std.specs.Prelude.{◌≡◌, ℕ, List, map, false};
 ghost use Rattle.sp_parser.specs.declared.symbol.Event.{Event};
-ghost use Rattle.sp_parser.specs.Grammar.{Derives};
+ghost use Rattle.sp_parser.specs.Grammar.{Derives, productions_of};
 ghost use Rattle.sp_grammar.specs.declared.language.Start.{Start};
+ghost use Rattle.sp_grammar.specs.declared.marks.Mark.{Mark};
+ghost use Rattle.sp_grammar.specs.declared.terminals.Terminal.{Terminal};
 ghost use Rattle.sp_grammar.specs.Language.{language};
-ghost use Rattle.sp_grammar.specs.Own.{own, is_piece};
+ghost use Rattle.sp_grammar.specs.Marks.{mark_number};
+ghost use Rattle.sp_grammar.specs.Own.{own, alternatives, is_piece};
 ghost use Rattle.sp_grammar.specs.Reads.{IsRead};
 ghost use Rattle.sp_grammar.specs.Starts.{start_number};
+ghost use Rattle.sp_grammar.specs.Terminals.{terminal_number};
 ghost use Rattle.sp_grammar.specs.Written.{Part, part_number, written, all_parts, right_sides};
 
-/// The table has the productions of the written grammar, and no other.
+/// The table has the productions that a script wrote beside it in words, and no other.
 pub fn table_is_written()
     ensures { map right_sides language.productions ≡ map written all_parts }
 {}
@@ -27,4 +31,13 @@ pub fn table_reads_the_grammar()
 /// with at most one list of marks.
 pub fn grammar_is_unambiguous()
     ensures { (s : Start) (kinds : List ℕ) (marks others : List Event) → IsRead own (start_number s) kinds marks → IsRead own (start_number s) kinds others → marks ≡ others }
+{}
+
+/// Each kind of token, each mark and each part has a number of its own, and the grammar has the alternatives of a part at
+/// its number. So none is taken for another, whatever numbers a script gives them.
+pub fn numbers_are_apart()
+    ensures tokens { (a b : Terminal) → terminal_number a ≡ terminal_number b → a ≡ b }
+    ensures marks { (a b : Mark) → mark_number a ≡ mark_number b → a ≡ b }
+    ensures parts { (a b : Part) → part_number a ≡ part_number b → a ≡ b }
+    ensures at_their_numbers { (p : Part) → productions_of own (part_number p) ≡ alternatives p }
 {}

@@ -11,10 +11,8 @@ use Rattle.sp_lex.specs.declared.tokens.ReadFault.{ReadFault}
 use Rattle.sp_lex.specs.declared.tokens.ReadFault.TheVariants as fault
 use Rattle.sp_lex.specs.declared.tokens.Token.{Token}
 use Rattle.sp_parser.specs.declared.symbol.Event.{Event}
-use Rattle.sp_parser.specs.Grammar.{Derives}
 use Rattle.sp_grammar.specs.declared.language.Start.TheVariants.{Module}
-use Rattle.sp_grammar.specs.Language.{language}
-use Rattle.sp_grammar.specs.Starts.{start_number}
+use Rattle.sp_grammar.specs.Sentences.{IsSentence}
 use Rattle.sp_runs.specs.Kinds.{numbers_of}
 use Rattle.sp_runs.specs.Runs.{IsLongestRun, IsText, IsRead, IsRefused, refused_at, refused_with, unexpected}
 use Rattle.sp_runs.proofs.Longest.{numbers_length, inside_of}
@@ -29,12 +27,12 @@ all_numbers : (tokens : List Token) → take (length tokens) (numbers_of tokens)
 all_numbers tokens = let same : length (numbers_of tokens) ≡ length tokens = numbers_length tokens in take_all (length tokens) (numbers_of tokens) (omega arith)
 
 text_of_module : (tokens : List Token) (marks : List Event) → IsModule tokens marks → IsText Module tokens (length tokens) marks
-text_of_module tokens marks d = subst (λ w. Derives language (start_number Module) w marks) (sym (all_numbers tokens)) d
+text_of_module tokens marks d = subst (λ w. IsSentence Module w marks) (sym (all_numbers tokens)) d
 
 longest_of_module : (tokens : List Token) (marks : List Event) → IsModule tokens marks → IsLongestRun Module tokens (length tokens)
 longest_of_module tokens marks d = record {
   within = let same : length (numbers_of tokens) ≡ length tokens = numbers_length tokens in omega arith;
-  begins = ([], marks, tt, subst (λ w. Derives language (start_number Module) w marks) (sym (append-nil (take (length tokens) (numbers_of tokens)) ∙ all_numbers tokens)) d);
+  begins = ([], marks, tt, subst (λ w. IsSentence Module w marks) (sym (append-nil (take (length tokens) (numbers_of tokens)) ∙ all_numbers tokens)) d);
   stops = λ h. absurd (let same : length (numbers_of tokens) ≡ length tokens = numbers_length tokens in omega arith);
 }
 

@@ -4,10 +4,8 @@ use Rattle.sp_base.specs.declared.kinds.MKind.{MKind}
 use Rattle.sp_base.specs.declared.places.Span.{Span}
 use Rattle.sp_lex.specs.declared.tokens.Token.{Token}
 use Rattle.sp_parser.specs.declared.symbol.Event.{Event}
-use Rattle.sp_parser.specs.Grammar.{Derives}
 use Rattle.sp_grammar.specs.declared.language.Start.TheVariants.{Module}
-use Rattle.sp_grammar.specs.Language.{language}
-use Rattle.sp_grammar.specs.Starts.{start_number}
+use Rattle.sp_grammar.specs.Sentences.{IsSentence}
 use Rattle.sp_ast.specs.Trees.{Tree}
 use Rattle.sp_lex.specs.Lexed.{Lexed}
 use Rattle.sp_build.specs.Building.{IsBuilt}
@@ -16,9 +14,9 @@ use Rattle.sp_build.specs.Starting.{group_of}
 use Rattle.sp_runs.specs.Kinds.{numbers_of}
 use Rattle.sp_runs.specs.Runs.{IsLongestRun, refused_at, refused_with}
 
--- all these tokens are the text of a module, and its derivation passes these marks
+-- all these tokens are the text of a module, and the grammar reads them passing these marks
 abbrev pub IsModule : List Token → List Event → Type 0
-IsModule tokens marks = Derives language (start_number Module) (numbers_of tokens) marks
+IsModule tokens marks = IsSentence Module (numbers_of tokens) marks
 
 -- all these tokens are the text of a module
 abbrev pub IsModuleText : List Token → Type 0

@@ -5,9 +5,7 @@ use Rattle.std.proofs.Math.Path.{fun_ext}
 use Rattle.std.proofs.Math.ListN.{get_or-map}
 use Rattle.std.proofs.lemmas.Simd.{map-map}
 use Rattle.sp_lex.specs.Lexed.{Lexed}
-use Rattle.sp_parser.specs.Grammar.{Derives}
-use Rattle.sp_grammar.specs.Language.{language}
-use Rattle.sp_grammar.specs.Starts.{start_number}
+use Rattle.sp_grammar.specs.Sentences.{IsSentence}
 use Rattle.sp_grammar.specs.declared.language.Start.TheVariants.{Module}
 use Rattle.sp_runs.specs.Kinds.{numbers_of, number_of, terminal_of}
 use Rattle.sp_ast.specs.Trees.{Tree}
@@ -49,4 +47,4 @@ same_tree first second t e (marks, is, built_so, kind) =
     (all_held second.text second.list marks [] ∙ sym (ap (λ tell. does_all tell marks []) (fun_ext (tell_same first second e)))
     ∙ sym (all_held first.text first.list marks []) ∙ ap (λ o. option_map (piled here) o) built_so) in
     let group : is_of (group_of Module) left.0 ≡ true = sym (of_bare (group_of Module) left.0) ∙ ap (λ v. is_of (group_of Module) v) left.2 ∙ of_bare (group_of Module) t ∙ kind in
-    (left.0, (marks, subst (λ ks. Derives language (start_number Module) ks marks) (numbers_same first second e) is, left.1, group), sym left.2)
+    (left.0, (marks, subst (λ ks. IsSentence Module ks marks) (numbers_same first second e) is, left.1, group), sym left.2)

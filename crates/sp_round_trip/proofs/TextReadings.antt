@@ -7,17 +7,15 @@ use Rattle.std.proofs.lemmas.Simd.{map-map}
 use Rattle.sp_lex.specs.Lexed.{Lexed}
 use Rattle.sp_parser.specs.declared.symbol.Symbol.{Symbol}
 use Rattle.sp_parser.specs.declared.symbol.Event.{Event}
-use Rattle.sp_parser.specs.Grammar.{Derives, takes, Nothing, First, All, Applies, SECOND, CLOSE, event}
+use Rattle.sp_parser.specs.Grammar.{takes, Nothing, First, All, Applies, SECOND, CLOSE, event}
 use Rattle.sp_grammar.specs.declared.marks.Mark.{Mark}
 use Rattle.sp_grammar.specs.Marks.{mark_with}
-use Rattle.sp_grammar.specs.Language.{language}
 use Rattle.sp_grammar.specs.Own.{own}
 use Rattle.sp_grammar.specs.Reads.{Reads}
 use Rattle.sp_grammar.specs.Reads as reads
-use Rattle.sp_grammar.specs.Starts.{start_number}
+use Rattle.sp_grammar.specs.Sentences.{IsSentence}
 use Rattle.sp_grammar.specs.Written.{Part, part as part_symbol}
 use Rattle.sp_grammar.specs.declared.language.Start.TheVariants.{Module}
-use Rattle.sp_grammar.proofs.OwnWords.{read_of_table, table_of_read}
 use Rattle.sp_runs.specs.Kinds.{numbers_of, number_of, terminal_of}
 use Rattle.sp_ast.specs.Trees.{Tree}
 use Rattle.sp_build.specs.Groups.{is_of}
@@ -160,9 +158,8 @@ whole_module w [] s t r e h = let same : s ≡ made t ∷ [] = cc in subst (λ p
 
 -- a module that was read is read from the words that its tokens tell
 pub goes_of_tree : (lexed : Lexed) (m : Tree) (ws : List Word) → told lexed ≡ map telling_of ws → IsModuleTree lexed m → ReadsModule (before ws []) (bare m)
-goes_of_tree lexed m ws e (marks, derived, built_so, kind) =
+goes_of_tree lexed m ws e (marks, read, built_so, kind) =
     let tell = tell_at lexed.text lexed.list in
-    let read = read_of_table Part.Module refl (numbers_of lexed.list) marks derived in
     let done : does_all tell marks [] ≡ Some (made (bare m) ∷ []) = sym (all_held lexed.text lexed.list marks []) ∙ ap (λ o. option_map (piled tell) o) built_so in
     let gone = goes_of_reads tell read.1 (before ws []) [] (made (bare m) ∷ []) (sym (told_numbers lexed ws e)) (told_stand lexed ws e) done in
     whole_module (before ws []) gone.rest gone.pile (bare m) gone.goes gone.kinds gone.does
@@ -173,7 +170,6 @@ tree_of_goes lexed ws t e r kind =
     let tell = tell_at lexed.text lexed.list in
     let read = reads_of_goes tell r 0 (told_stand lexed ws e) in
     let (marks, is, done) = read.marks [] in
-    let derived = table_of_read Part.Module refl (map number (before ws [])) marks (read.place, is) in
     let left = one_left tell (all_done lexed.text lexed.list marks []) t (all_held lexed.text lexed.list marks [] ∙ done) in
     let group : is_of (group_of Module) left.0 ≡ true = sym (of_bare (group_of Module) left.0) ∙ ap (λ v. is_of (group_of Module) v) left.2 ∙ kind in
-    (left.0, (marks, subst (λ ks. Derives language (start_number Module) ks marks) (sym (told_numbers lexed ws e)) derived, left.1, group), left.2)
+    (left.0, (marks, subst (λ ks. IsSentence Module ks marks) (sym (told_numbers lexed ws e)) (read.place, is), left.1, group), left.2)

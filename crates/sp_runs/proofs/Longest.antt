@@ -5,11 +5,8 @@ use Rattle.sp_lex.specs.declared.tokens.Token.{Token}
 use Rattle.sp_lex.specs.Readings.{InOrder}
 use Rattle.sp_parser.specs.declared.symbol.Event.{Event}
 use Rattle.sp_parser.specs.declared.outcome.Outcome.{Outcome}
-use Rattle.sp_parser.specs.Grammar.{IsLongestViable, Derives}
-use Rattle.sp_parser.specs.Outcome.{IsParsed}
 use Rattle.sp_grammar.specs.declared.language.Start.{Start}
-use Rattle.sp_grammar.specs.Language.{language}
-use Rattle.sp_grammar.specs.Starts.{start_number}
+use Rattle.sp_grammar.specs.Sentences.{IsSentence, IsLongestPrefix, IsParsed}
 use Rattle.sp_runs.specs.Kinds.{token_number, numbers_of}
 use Rattle.std.proofs.Common.{zero, suc}
 use Rattle.sp_base.specs.declared.kinds.MKind.{MKind}
@@ -41,18 +38,18 @@ run_within start tokens at m h l =
     let left : length (drop at tokens) ≡ length tokens - at = length-drop at tokens in
     omega arith
 
-pub run_of : (start : Start) (tokens : List Token) (ks : List ℕ) (at m : ℕ) → ks ≡ numbers_of tokens → IsLongestViable language (start_number start) (drop at ks) m → IsLongestRun start (drop at tokens) m
-run_of start tokens ks at m e l = subst (λ w. IsLongestViable language (start_number start) w m) (numbers_from tokens ks at e) l
+pub run_of : (start : Start) (tokens : List Token) (ks : List ℕ) (at m : ℕ) → ks ≡ numbers_of tokens → IsLongestPrefix start (drop at ks) m → IsLongestRun start (drop at tokens) m
+run_of start tokens ks at m e l = subst (λ w. IsLongestPrefix start w m) (numbers_from tokens ks at e) l
 
-pub text_of : (start : Start) (tokens : List Token) (ks : List ℕ) (at m : ℕ) (marks : List Event) → ks ≡ numbers_of tokens → Derives language (start_number start) (take m (drop at ks)) marks → IsText start (drop at tokens) m marks
-text_of start tokens ks at m marks e d = subst (λ w. Derives language (start_number start) (take m w) marks) (numbers_from tokens ks at e) d
+pub text_of : (start : Start) (tokens : List Token) (ks : List ℕ) (at m : ℕ) (marks : List Event) → ks ≡ numbers_of tokens → IsSentence start (take m (drop at ks)) marks → IsText start (drop at tokens) m marks
+text_of start tokens ks at m marks e d = subst (λ w. IsSentence start (take m w) marks) (numbers_from tokens ks at e) d
 
-pub none_of : (start : Start) (tokens : List Token) (ks : List ℕ) (at m : ℕ) → ks ≡ numbers_of tokens → ((marks : List Event) → Derives language (start_number start) (take m (drop at ks)) marks → ⊥) → (marks : List Event) → IsText start (drop at tokens) m marks → ⊥
-none_of start tokens ks at m e d marks t = d marks (subst (λ w. Derives language (start_number start) (take m w) marks) (sym (numbers_from tokens ks at e)) t)
+pub none_of : (start : Start) (tokens : List Token) (ks : List ℕ) (at m : ℕ) → ks ≡ numbers_of tokens → ((marks : List Event) → IsSentence start (take m (drop at ks)) marks → ⊥) → (marks : List Event) → IsText start (drop at tokens) m marks → ⊥
+none_of start tokens ks at m e d marks t = d marks (subst (λ w. IsSentence start (take m w) marks) (sym (numbers_from tokens ks at e)) t)
 
 -- what an outcome says
-pub parsed_as : (start : Start) (w : List ℕ) (at : ℕ) (o p : Outcome) → o ≡ p → IsParsed language (start_number start) w at o → IsParsed language (start_number start) w at p
-parsed_as start w at o p e h = subst (λ z. IsParsed language (start_number start) w at z) e h
+pub parsed_as : (start : Start) (w : List ℕ) (at : ℕ) (o p : Outcome) → o ≡ p → IsParsed start w at o → IsParsed start w at p
+parsed_as start w at o p e h = subst (λ z. IsParsed start w at z) e h
 
 -- a refusal behind the longest run, which is no text
 pub refused_of : (start : Start) (tokens : List Token) (at end m to : ℕ) (r : ReadFault) → r ≡ fault.Diag (refused_at end (drop to tokens)) (refused_with (drop to tokens)) → to ≡ at + m

@@ -2,13 +2,10 @@
 use Rattle.std.proofs.Common.{◌≡◌, ℕ, zero, suc, ◌+◌, ◌<◌, ◌≤◌, List, [], ◌∷◌, ◌++◌, length, take, drop, ap, ◌∙◌, sym, subst, refl, arith, append_assoc}
 use Rattle.sp_lex.specs.declared.tokens.Token.{Token}
 use Rattle.sp_parser.specs.declared.symbol.Event.{Event}
-use Rattle.sp_parser.specs.Grammar.{Table, AreKinds, IsViable, IsLongestViable, Derives}
+use Rattle.sp_parser.specs.Grammar.{AreKinds}
 use Rattle.sp_grammar.specs.declared.language.Start.{Start}
-use Rattle.sp_parser.proofs.Texts.{only_one}
-use Rattle.sp_parser.proofs.Tested.{certified_by_test}
-use Rattle.sp_grammar.specs.Language.{language, language_sets, language_tested}
-use Rattle.sp_grammar.proofs.Starting.{ends_after, is_part}
-use Rattle.sp_grammar.specs.Starts.{start_number}
+use Rattle.sp_grammar.specs.Sentences.{IsSentence, BeginsSentence, IsLongestPrefix}
+use Rattle.sp_grammar.proofs.OwnWords.{read_one_way}
 use Rattle.sp_runs.specs.Kinds.{numbers_of}
 use Rattle.sp_runs.specs.Runs.{IsLongestRun, IsText}
 use Rattle.sp_runs.specs.TokenKinds.{tokens_are_kinds}
@@ -38,19 +35,19 @@ split (x ∷ w) zero j h = refl
 split (x ∷ w) (suc i) zero h = absurd (omega arith)
 split (x ∷ w) (suc i) (suc j) h = ap (λ r. x ∷ r) (split w i j (omega arith))
 
--- a shorter prefix is viable too
-viable_shorter : (g : Table) (n : ℕ) (w : List ℕ) (i j : ℕ) → AreKinds w → i ≤ j → IsViable g n (take j w) → IsViable g n (take i w)
-viable_shorter g n w i j a h v = (
+-- a shorter prefix begins a sentence too
+begins_shorter : (start : Start) (w : List ℕ) (i j : ℕ) → AreKinds w → i ≤ j → BeginsSentence start (take j w) → BeginsSentence start (take i w)
+begins_shorter start w i j a h v = (
   drop i (take j w) ++ v.0,
   v.1,
   kinds_both (drop i (take j w)) v.0 (kinds_drop (take j w) i (kinds_take w j a)) v.2,
-  subst (λ u. Derives g n u v.1) (sym (sym (append_assoc (take i w) (drop i (take j w)) v.0) ∙ ap (λ u. u ++ v.0) (split w i j h))) v.3,
+  subst (λ u. IsSentence start u v.1) (sym (sym (append_assoc (take i w) (drop i (take j w)) v.0) ∙ ap (λ u. u ++ v.0) (split w i j h))) v.3,
 )
 
-not_longer : (g : Table) (n : ℕ) (w : List ℕ) (i j : ℕ) → AreKinds w → IsLongestViable g n w i → IsLongestViable g n w j → i < j → ⊥
-not_longer g n w i j a x y h =
+not_longer : (start : Start) (w : List ℕ) (i j : ℕ) → AreKinds w → IsLongestPrefix start w i → IsLongestPrefix start w j → i < j → ⊥
+not_longer start w i j a x y h =
     let within : j ≤ length w = y.within in
-    x.stops (omega arith) (viable_shorter g n w (i + 1) j a (omega arith) y.begins)
+    x.stops (omega arith) (begins_shorter start w (i + 1) j a (omega arith) y.begins)
 
 same_place : (i j : ℕ) → (i < j → ⊥) → (j < i → ⊥) → i ≡ j
 same_place zero zero a b = refl
@@ -60,8 +57,7 @@ same_place (suc i) (suc j) a b = ap (λ n. suc n) (same_place i j (λ h. a (omeg
 
 pub one_longest : (start : Start) (tokens : List Token) (m n : ℕ) → IsLongestRun start tokens m → IsLongestRun start tokens n → m ≡ n
 one_longest start tokens m n x y =
-    same_place m n (not_longer language (start_number start) (numbers_of tokens) m n (tokens_are_kinds tokens) x y) (not_longer language (start_number start) (numbers_of tokens) n m (tokens_are_kinds tokens) y x)
+    same_place m n (not_longer start (numbers_of tokens) m n (tokens_are_kinds tokens) x y) (not_longer start (numbers_of tokens) n m (tokens_are_kinds tokens) y x)
 
 pub one_derivation : (start : Start) (tokens : List Token) (m : ℕ) (first second : List Event) → IsText start tokens m first → IsText start tokens m second → first ≡ second
-one_derivation start tokens m first second p q =
-    only_one language language_sets (certified_by_test language language_sets language_tested) (start_number start) (take m (numbers_of tokens)) second first (is_part start) (ends_after start) q p
+one_derivation start tokens m first second p q = read_one_way start (take m (numbers_of tokens)) first second p q

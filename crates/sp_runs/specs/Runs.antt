@@ -1,4 +1,4 @@
--- Runs of tokens that begin or are texts of the grammar, and the refusal of what is none.
+-- Runs of tokens that begin or are texts of the grammar in its own words, and the refusal of what is none.
 use Rattle.std.specs.Prelude.{ℕ, ◌≡◌, ◌+◌, ◌==◌, ◌&&◌, not, List, [], ◌∷◌, take, drop, Bool, true}
 use Rattle.sp_base.specs.declared.kinds.MKind.{MKind}
 use Rattle.sp_base.specs.declared.kinds.MKind.TheVariants as module_kind
@@ -9,19 +9,18 @@ use Rattle.sp_lex.specs.declared.tokens.Token.{Token}
 use Rattle.sp_parser.specs.declared.symbol.Event.{Event}
 use Rattle.sp_parser.specs.declared.symbol.Symbol.{Symbol}
 use Rattle.sp_parser.specs.declared.symbol.Symbol.TheVariants as symbol
-use Rattle.sp_parser.specs.Grammar.{Table, Production, IsLongestViable, Derives}
+use Rattle.sp_parser.specs.Grammar.{Table, Production}
 use Rattle.sp_grammar.specs.declared.language.Start.{Start}
-use Rattle.sp_grammar.specs.Language.{language}
-use Rattle.sp_grammar.specs.Starts.{start_number}
+use Rattle.sp_grammar.specs.Sentences.{IsSentence, IsLongestPrefix}
 use Rattle.sp_runs.specs.Kinds.{numbers_of}
 
 -- the first m tokens begin some text of this kind, and no longer run of them does
 abbrev pub IsLongestRun : Start → List Token → ℕ → Type 0
-IsLongestRun start tokens m = IsLongestViable language (start_number start) (numbers_of tokens) m
+IsLongestRun start tokens m = IsLongestPrefix start (numbers_of tokens) m
 
--- the first m tokens are a text of this kind, and its derivation passes these marks
+-- the first m tokens are a text of this kind, and the grammar reads them passing these marks
 abbrev pub IsText : Start → List Token → ℕ → List Event → Type 0
-IsText start tokens m marks = Derives language (start_number start) (take m (numbers_of tokens)) marks
+IsText start tokens m marks = IsSentence start (take m (numbers_of tokens)) marks
 
 -- What is read of the tokens from a place on, and the place behind it: their longest run, which is a text.
 abbrev pub IsRead : Start → List Token → ℕ → List Event → ℕ → Type 0
@@ -67,6 +66,6 @@ abbrev pub in_no_part : ℕ → List (List Production) → Bool
 in_no_part k [] = true
 in_no_part k (ps ∷ rest) = stands_in_none k ps && in_no_part k rest
 
--- no production of the table has this terminal
+-- no production of the grammar has this terminal
 abbrev pub stands_nowhere : ℕ → Table → Bool
 stands_nowhere k g = in_no_part k g.productions

@@ -3,13 +3,13 @@ ghost use Rattle.std.specs.Prelude.{◌≡◌, ℕ, List, None, true};
 ghost use Rattle.sp_lex.specs.declared.tokens.Token.{Token};
 ghost use Rattle.sp_parser.specs.declared.symbol.Event.{Event};
 ghost use Rattle.sp_grammar.specs.declared.language.Start.{Start};
-ghost use Rattle.sp_grammar.specs.Language.{language};
+ghost use Rattle.sp_grammar.specs.Own.{own};
 ghost use Rattle.sp_runs.specs.Kinds.{number_of};
 ghost use Rattle.sp_runs.specs.Runs.{IsLongestRun, IsText, stands_nowhere};
 
-/// No production of the grammar has a word without a terminal.
+/// No alternative of the grammar has a word without a terminal.
 pub fn no_production_has_other_words()
-    ensures { stands_nowhere (number_of None) language ≡ true }
+    ensures { stands_nowhere (number_of None) own ≡ true }
 {}
 
 /// Of all runs that begin some text only one is the longest: what is read, or where it is refused, is determined.
@@ -17,7 +17,7 @@ pub fn longest_run_is_one()
     ensures { (start : Start) (tokens : List Token) (m n : ℕ) → IsLongestRun start tokens m → IsLongestRun start tokens n → m ≡ n }
 {}
 
-/// A run of tokens has one derivation at most.
+/// A run of tokens is read in one way at most.
 pub fn derivation_is_one()
     ensures { (start : Start) (tokens : List Token) (m : ℕ) (first second : List Event) → IsText start tokens m first → IsText start tokens m second → first ≡ second }
 {}
