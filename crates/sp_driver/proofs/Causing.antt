@@ -1,10 +1,10 @@
 -- The causes of the statuses.
 use Rattle.std.specs.Prelude.{◌⊎◌}
-use Rattle.std.proofs.Common.{◌≡◌, ◌≢◌, ◌<◌, ℕ, List, Option, sym, ◌∙◌, refl, arith, inl, inr, ⊎_elim}
+use Rattle.std.proofs.Common.{◌≡◌, ◌≢◌, ◌<◌, ℕ, sym, ◌∙◌, refl, arith, inl, inr, ⊎_elim}
 use Rattle.sp_driver.specs.declared.exits.Exit.{Exit}
 use Rattle.sp_driver.specs.declared.exits.RunExit.{RunExit}
 use Rattle.sp_driver.specs.Causes.{Counts, IsCausedBy}
-use Rattle.sp_driver.specs.Driver.{ExitCause, Reported, status_of}
+use Rattle.sp_driver.specs.Driver.{Faults, Messages, ExitCause, Reported, status_of}
 
 -- what an exit's status has to do with the counts, the messages aside
 data Kind (before after : Counts) (code : ℕ) : Type 0 where
@@ -12,17 +12,21 @@ data Kind (before after : Counts) (code : ℕ) : Type 0 where
   reading : (before.modules < after.modules) ⊎ (before.input < after.input) → after.out ≡ before.out → code ≡ 4 → Kind before after code
   writing : after.modules ≡ before.modules → after.input ≡ before.input → before.out < after.out → code ≡ 5 → Kind before after code
 
-kind_of : (before after : Counts) (exit : Exit) → ExitCause before.modules after.modules before.input after.input before.out after.out exit → Kind before after (status_of exit)
-kind_of before after Exit.Usage c = calm c.0 c.1 c.2 (λ e. omega arith) (λ e. omega arith)
-kind_of before after (Exit.Refused r) c = calm c.0 c.1 c.2 (λ e. omega arith) (λ e. omega arith)
-kind_of before after Exit.ModulesFault c = reading (inl c.0) c.2 refl
-kind_of before after Exit.NoMemory c = calm c.0 c.1 c.2 (λ e. omega arith) (λ e. omega arith)
-kind_of before after (Exit.Ran RunExit.Done) c = calm c.0 c.1.0 c.1.1 (λ e. omega arith) (λ e. omega arith)
-kind_of before after (Exit.Ran RunExit.Failed) c = calm c.0 c.1.0 c.1.1 (λ e. omega arith) (λ e. omega arith)
-kind_of before after (Exit.Ran RunExit.InputFault) c = reading (inr c.1.0) c.1.1 refl
-kind_of before after (Exit.Ran RunExit.OutFault) c = writing c.0 c.1.0 c.1.1 refl
-kind_of before after (Exit.Ran RunExit.TooLong) c = calm c.0 c.1.0 c.1.1 (λ e. omega arith) (λ e. omega arith)
-kind_of before after (Exit.Ran RunExit.NoMemory) c = calm c.0 c.1.0 c.1.1 (λ e. omega arith) (λ e. omega arith)
+-- the counts with those of the output for messages
+abbrev pub counts : Faults → Messages → Counts
+counts faults messages = record { modules = faults.modules; input = faults.input; out = faults.out; err = messages.faults }
+
+kind_of : (before after : Faults) (told_before told_after : Messages) (exit : Exit) → ExitCause before after exit → Kind (counts before told_before) (counts after told_after) (status_of exit)
+kind_of before after told_before told_after Exit.Usage c = calm c.0 c.1 c.2 (λ e. omega arith) (λ e. omega arith)
+kind_of before after told_before told_after (Exit.Refused r) c = calm c.0 c.1 c.2 (λ e. omega arith) (λ e. omega arith)
+kind_of before after told_before told_after Exit.ModulesFault c = reading (inl c.0) c.2 refl
+kind_of before after told_before told_after Exit.NoMemory c = calm c.0 c.1 c.2 (λ e. omega arith) (λ e. omega arith)
+kind_of before after told_before told_after (Exit.Ran RunExit.Done) c = calm c.0 c.1.0 c.1.1 (λ e. omega arith) (λ e. omega arith)
+kind_of before after told_before told_after (Exit.Ran RunExit.Failed) c = calm c.0 c.1.0 c.1.1 (λ e. omega arith) (λ e. omega arith)
+kind_of before after told_before told_after (Exit.Ran RunExit.InputFault) c = reading (inr c.1.0) c.1.1 refl
+kind_of before after told_before told_after (Exit.Ran RunExit.OutFault) c = writing c.0 c.1.0 c.1.1 refl
+kind_of before after told_before told_after (Exit.Ran RunExit.TooLong) c = calm c.0 c.1.0 c.1.1 (λ e. omega arith) (λ e. omega arith)
+kind_of before after told_before told_after (Exit.Ran RunExit.NoMemory) c = calm c.0 c.1.0 c.1.1 (λ e. omega arith) (λ e. omega arith)
 
 -- the message was put
 told_whole : (before after : Counts) (code status : ℕ) → Kind before after code → status ≡ code → after.err ≡ before.err → IsCausedBy before after status
@@ -68,10 +72,12 @@ told_in_vain before after status seven = record {
   write_fault_tells = λ f. inr seven;
 }
 
-pub caused_by : (before after : Counts) (exit : Exit) (held_before held_after : Option (List ℕ)) (status : ℕ) → ExitCause before.modules after.modules before.input after.input before.out after.out exit
-    → Reported exit held_before held_after before.err after.err status → IsCausedBy before after status
-caused_by before after exit held_before held_after status cause told =
+pub caused_by : (before after : Faults) (told_before told_after : Messages) (exit : Exit) (status : ℕ) → ExitCause before after exit → Reported exit told_before told_after status
+    → IsCausedBy (counts before told_before) (counts after told_after) status
+caused_by before after told_before told_after exit status cause reported =
+    let first = counts before told_before in
+    let last = counts after told_after in
     ⊎_elim
-    (λ whole. told_whole before after (status_of exit) status (kind_of before after exit cause) whole.0 whole.2)
-    (λ part. ⊎_elim (λ failed. told_failing before after status failed.0 failed.2) (λ vain. told_in_vain before after status vain.0) part)
-    told
+    (λ whole. told_whole first last (status_of exit) status (kind_of before after told_before told_after exit cause) whole.0 whole.2)
+    (λ part. ⊎_elim (λ failed. told_failing first last status failed.0 failed.2) (λ vain. told_in_vain first last status vain.0) part)
+    reported

@@ -6,11 +6,10 @@ use Rattle.std.proofs.lemmas.List.{append-nil, length-append}
 use Rattle.sp_base.specs.Input.{ended}
 use Rattle.sp_io.specs.Moved.{appended, prepended}
 use Rattle.sp_io.proofs.Moves.{appended-nil}
-use Rattle.sp_meaning.specs.declared.grammar.Field.{Field}
-use Rattle.sp_meaning.specs.Meaning.{mean}
+use Rattle.sp_meaning.specs.Meaning.{UnitMeaning}
 use Rattle.sp_driver.specs.declared.exits.Exit.{Exit}
 use Rattle.sp_driver.specs.declared.exits.RunExit.{RunExit}
-use Rattle.sp_driver.specs.Driver.{Says, Reported, IsRefused, IsLoaded, status_of, message_of, run_status, run_message}
+use Rattle.sp_driver.specs.Driver.{Objects, Messages, Says, Reported, IsRefused, IsLoaded, run_meaning, status_of, message_of, run_status, run_message}
 use Rattle.sp_command.specs.Refusals.{refusal_text}
 use Rattle.sp_driver.specs.Run.{Runs, IsTakenWhole, IsWhole}
 use Rattle.sp_driver.specs.Shown.{most_taken, shown}
@@ -23,16 +22,16 @@ abbrev pub IsCalm : ℕ → Type 0
 IsCalm status = (status ≢ 4) × (status ≢ 5) × (status ≢ 7)
 
 -- what was written, of a run to such an exit over an input that is told
-pub record IsRunOf (fields : List Field) (n : ℕ) (input : List ℕ) (held_before held_after : Option (List ℕ)) (exit : RunExit) : Type 0 where
+pub record IsRunOf (meaning : UnitMeaning) (n : ℕ) (input : List ℕ) (held_before held_after : Option (List ℕ)) (exit : RunExit) : Type 0 where
   pub out : List ℕ
   pub put : held_after ≡ appended held_before out
-  pub answer : run_answer fields n input ≡ record { status = run_status exit; out = out; err = run_message exit }
+  pub answer : run_answer meaning n input ≡ record { status = run_status exit; out = out; err = run_message exit }
 
-is_ended : (fields : List Field) (n : ℕ) (input : List ℕ) → length input ≤ most_taken → run_answer fields n input ≡ ended_answer fields n input
-is_ended fields n input le = ap (λ b. cond b (long_answer fields n input) (ended_answer fields n input)) (le-ltb most_taken (length input) le)
+is_ended : (meaning : UnitMeaning) (n : ℕ) (input : List ℕ) → length input ≤ most_taken → run_answer meaning n input ≡ ended_answer meaning n input
+is_ended meaning n input le = ap (λ b. cond b (long_answer meaning n input) (ended_answer meaning n input)) (le-ltb most_taken (length input) le)
 
-is_long : (fields : List Field) (n : ℕ) (input : List ℕ) → most_taken < length input → run_answer fields n input ≡ long_answer fields n input
-is_long fields n input lt = ap (λ b. cond b (long_answer fields n input) (ended_answer fields n input)) (lt-ltb most_taken (length input) lt)
+is_long : (meaning : UnitMeaning) (n : ℕ) (input : List ℕ) → most_taken < length input → run_answer meaning n input ≡ long_answer meaning n input
+is_long meaning n input lt = ap (λ b. cond b (long_answer meaning n input) (ended_answer meaning n input)) (lt-ltb most_taken (length input) lt)
 
 -- what was taken of a told input is its front
 taken_of : (input taken : List ℕ) (left : Option (List ℕ)) → Some input ≡ prepended taken left → (rest : List ℕ) × (left ≡ Some rest) × (input ≡ taken ++ rest)
@@ -46,35 +45,35 @@ all_taken input taken (Some rest) e over = let is : input ≡ taken ++ rest = cc
 pieces_within : (n m : ℕ) → 1 ≤ n → m / n * n ≤ m
 pieces_within n m one = let rest : n * (m / n) + m % n ≡ m = omega arith in omega arith
 
-run_over : (fields : List Field) (n : ℕ) (input taken written : List ℕ) (left : Option (List ℕ)) (code : ℕ) → Some input ≡ prepended taken left → IsWhole fields n taken written left
-    → stand_status (mean fields taken ended).stand ≡ code → run_answer fields n input ≡ record { status = code; out = written; err = [] }
-run_over fields n input taken written left code took is_whole status =
-    ap (λ bytes. run_answer fields n bytes) (all_taken input taken left took is_whole.taken_whole)
-    ∙ is_ended fields n taken is_whole.not_long
-    ∙ ap (λ out. record { status = stand_status (mean fields taken ended).stand; out = out; err = [] }) (run_whole fields n taken is_whole.not_long ∙ sym is_whole.lines)
+run_over : (meaning : UnitMeaning) (n : ℕ) (input taken written : List ℕ) (left : Option (List ℕ)) (code : ℕ) → Some input ≡ prepended taken left → IsWhole meaning n taken written left
+    → stand_status (meaning taken ended).stand ≡ code → run_answer meaning n input ≡ record { status = code; out = written; err = [] }
+run_over meaning n input taken written left code took is_whole status =
+    ap (λ bytes. run_answer meaning n bytes) (all_taken input taken left took is_whole.taken_whole)
+    ∙ is_ended meaning n taken is_whole.not_long
+    ∙ ap (λ out. record { status = stand_status (meaning taken ended).stand; out = out; err = [] }) (run_whole meaning n taken is_whole.not_long ∙ sym is_whole.lines)
     ∙ ap (λ status. record { status = status; out = written; err = [] }) status
 
-run_too_long : (fields : List Field) (n : ℕ) (input taken written : List ℕ) (left : Option (List ℕ)) → 1 ≤ n → Some input ≡ prepended taken left → most_taken < length taken
-    → written ≡ shown fields n taken (most_taken / n) → run_answer fields n input ≡ record { status = 6; out = written; err = codes "spicy-driver: input too long\n" }
-run_too_long fields n input taken written left one took long lines =
+run_too_long : (meaning : UnitMeaning) (n : ℕ) (input taken written : List ℕ) (left : Option (List ℕ)) → 1 ≤ n → Some input ≡ prepended taken left → most_taken < length taken
+    → written ≡ shown meaning n taken (most_taken / n) → run_answer meaning n input ≡ record { status = 6; out = written; err = codes "spicy-driver: input too long\n" }
+run_too_long meaning n input taken written left one took long lines =
     let front = taken_of input taken left took in
     let within : most_taken / n * n ≤ length taken = omega (arith, pieces_within n most_taken one) in
     let longer : most_taken < length input = omega (arith, ap length front.2, length-append taken front.0) in
-    is_long fields n input longer
+    is_long meaning n input longer
     ∙ ap (λ out. record { status = 6; out = out; err = codes "spicy-driver: input too long\n" })
-    (run_long fields n input longer ∙ ap (λ bytes. shown fields n bytes (most_taken / n)) front.2 ∙ shown-append fields n taken front.0 (most_taken / n) within ∙ sym lines)
+    (run_long meaning n input longer ∙ ap (λ bytes. shown meaning n bytes (most_taken / n)) front.2 ∙ shown-append meaning n taken front.0 (most_taken / n) within ∙ sym lines)
 
-pub run_of : (fields : List Field) (n : ℕ) (input : List ℕ) (left held_before held_after : Option (List ℕ)) (exit : RunExit) → 1 ≤ n → IsCalm (run_status exit)
-    → Runs fields n (Some input) left held_before held_after exit → IsRunOf fields n input held_before held_after exit
-run_of fields n input left held_before held_after RunExit.Done one calm r =
-    record { out = r.written; put = r.put; answer = run_over fields n input r.taken r.written left 0 r.took r.at_exit.0 (ap stand_status r.at_exit.1) }
-run_of fields n input left held_before held_after RunExit.Failed one calm r =
-    record { out = r.written; put = r.put; answer = run_over fields n input r.taken r.written left 1 r.took r.at_exit.0 (ap stand_status r.at_exit.1.1) }
-run_of fields n input left held_before held_after RunExit.TooLong one calm r =
-    record { out = r.written; put = r.put; answer = run_too_long fields n input r.taken r.written left one r.took r.at_exit.0 r.at_exit.1 }
-run_of fields n input left held_before held_after RunExit.InputFault one calm r = absurd (calm.0 refl)
-run_of fields n input left held_before held_after RunExit.OutFault one calm r = absurd (calm.1 refl)
-run_of fields n input left held_before held_after RunExit.NoMemory one calm r = absurd (calm.2 refl)
+pub run_of : (meaning : UnitMeaning) (n : ℕ) (input : List ℕ) (left held_before held_after : Option (List ℕ)) (exit : RunExit) → 1 ≤ n → IsCalm (run_status exit)
+    → Runs meaning n (Some input) left held_before held_after exit → IsRunOf meaning n input held_before held_after exit
+run_of meaning n input left held_before held_after RunExit.Done one calm r =
+    record { out = r.written; put = r.put; answer = run_over meaning n input r.taken r.written left 0 r.took r.at_exit.0 (ap stand_status r.at_exit.1) }
+run_of meaning n input left held_before held_after RunExit.Failed one calm r =
+    record { out = r.written; put = r.put; answer = run_over meaning n input r.taken r.written left 1 r.took r.at_exit.0 (ap stand_status r.at_exit.1.1) }
+run_of meaning n input left held_before held_after RunExit.TooLong one calm r =
+    record { out = r.written; put = r.put; answer = run_too_long meaning n input r.taken r.written left one r.took r.at_exit.0 r.at_exit.1 }
+run_of meaning n input left held_before held_after RunExit.InputFault one calm r = absurd (calm.0 refl)
+run_of meaning n input left held_before held_after RunExit.OutFault one calm r = absurd (calm.1 refl)
+run_of meaning n input left held_before held_after RunExit.NoMemory one calm r = absurd (calm.2 refl)
 
 -- the answer that an exit makes
 record IsMade (words : List (List ℕ)) (files : List ℕ → Option (List ℕ)) (input : List ℕ) (held_before held_after : Option (List ℕ)) (exit : Exit) : Type 0 where
@@ -84,24 +83,26 @@ record IsMade (words : List (List ℕ)) (files : List ℕ → Option (List ℕ))
   pub put : held_after ≡ appended held_before answer.out
   pub message : message_of exit ≡ answer.err
 
-made : (words : List (List ℕ)) (files : List ℕ → Option (List ℕ)) (input : List ℕ) (left held_before held_after : Option (List ℕ)) (exit : Exit) → IsCalm (status_of exit)
-    → Says words (Some files) (record { left = Some input; held = held_before }) (record { left = left; held = held_after }) exit → IsMade words files input held_before held_after exit
-made words files input left held_before held_after Exit.Usage calm says = record {
+made : (words : List (List ℕ)) (files : List ℕ → Option (List ℕ)) (input : List ℕ) (before after : Objects) (exit : Exit) → IsCalm (status_of exit) → before.left ≡ Some input
+    → Says words (Some files) before after exit → IsMade words files input before.held after.held exit
+made words files input before after Exit.Usage calm told says = record {
   answer = record { status = 2; out = []; err = codes "spicy-driver: usage\n" };
   is_answer = inl (says.0, refl);
   status = refl;
-  put = says.1.1 ∙ sym (appended-nil held_before);
+  put = says.1.1 ∙ sym (appended-nil before.held);
   message = refl;
 }
-made words files input left held_before held_after (Exit.Refused refusal) calm (wanted, content, found, holds, refused, untouched) = record {
+made words files input before after (Exit.Refused refusal) calm told (wanted, content, found, holds, refused, untouched) = record {
   answer = record { status = 3; out = []; err = refusal_text refusal };
   is_answer = inr (inl (wanted, refusal, found, subst (λ content. IsRefused wanted.file content refusal) holds refused, refl));
   status = refl;
-  put = untouched.1 ∙ sym (appended-nil held_before);
+  put = untouched.1 ∙ sym (appended-nil before.held);
   message = refl;
 }
-made words files input left held_before held_after (Exit.Ran exit) calm (wanted, content, fields, found, holds, loaded, ran) =
-    let run = run_of fields wanted.increment input left held_before held_after exit (words_some words wanted found) calm ran in
+made words files input before after (Exit.Ran exit) calm told (wanted, content, fields, found, holds, loaded, ran) =
+    let meaning = run_meaning fields in
+    let over_input = subst (λ left. Runs meaning wanted.increment left after.left before.held after.held exit) told ran in
+    let run = run_of meaning wanted.increment input after.left before.held after.held exit (words_some words wanted found) calm over_input in
     record {
       answer = record { status = run_status exit; out = run.out; err = run_message exit };
       is_answer = inr (inr (wanted, fields, found, subst (λ content. IsLoaded content fields) holds loaded, sym run.answer));
@@ -109,20 +110,17 @@ made words files input left held_before held_after (Exit.Ran exit) calm (wanted,
       put = run.put;
       message = refl;
     }
-made words files input left held_before held_after Exit.ModulesFault calm says = absurd (calm.0 refl)
-made words files input left held_before held_after Exit.NoMemory calm says = absurd (calm.2 refl)
+made words files input before after Exit.ModulesFault calm told says = absurd (calm.0 refl)
+made words files input before after Exit.NoMemory calm told says = absurd (calm.2 refl)
 
 -- the program's answer, where the files and the input are told
-pub answered : (words : List (List ℕ)) (told_files : Option (List ℕ → Option (List ℕ))) (told_input left out_before out_after err_before err_after : Option (List ℕ)) (faults_before faults_after : ℕ) (exit : Exit) (status : ℕ)
-    → Says words told_files (record { left = told_input; held = out_before }) (record { left = left; held = out_after }) exit
-    → Reported exit err_before err_after faults_before faults_after status
-    → IsAnswered words told_files told_input out_before out_after err_before err_after status
-answered words told_files told_input left out_before out_after err_before err_after faults_before faults_after exit status says reported files input files_told input_told not4 not5 not7 =
+pub answered : (words : List (List ℕ)) (told_files : Option (List ℕ → Option (List ℕ))) (before after : Objects) (told_before told_after : Messages) (exit : Exit) (status : ℕ)
+    → Says words told_files before after exit → Reported exit told_before told_after status
+    → IsAnswered words told_files before.left before.held after.held told_before.held told_after.held status
+answered words told_files before after told_before told_after exit status says reported files input files_told input_told not4 not5 not7 =
     ⊎_elim
-    (λ told. let calm : IsCalm (status_of exit) = ((λ e. not4 (told.0 ∙ e)), (λ e. not5 (told.0 ∙ e)), (λ e. not7 (told.0 ∙ e))) in
-    let m = made words files input left out_before out_after exit calm
-    (subst (λ input. Says words (Some files) (record { left = input; held = out_before }) (record { left = left; held = out_after }) exit) input_told
-    (subst (λ files. Says words files (record { left = told_input; held = out_before }) (record { left = left; held = out_after }) exit) files_told says)) in
-    (m.answer, m.is_answer, told.0 ∙ m.status, m.put, told.1 ∙ ap (λ message. appended err_before message) m.message))
+    (λ whole. let calm : IsCalm (status_of exit) = ((λ e. not4 (whole.0 ∙ e)), (λ e. not5 (whole.0 ∙ e)), (λ e. not7 (whole.0 ∙ e))) in
+    let m = made words files input before after exit calm input_told (subst (λ files. Says words files before after exit) files_told says) in
+    (m.answer, m.is_answer, whole.0 ∙ m.status, m.put, whole.1 ∙ ap (λ message. appended told_before.held message) m.message))
     (λ part. ⊎_elim (λ failed. absurd (not5 failed.0)) (λ vain. absurd (not7 vain.0)) part)
     reported

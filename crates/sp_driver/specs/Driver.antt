@@ -3,6 +3,8 @@ use Rattle.std.specs.Prelude.{◌≡◌, ◌≤◌, ◌<◌, ◌⊎◌, ℕ, Lis
 use Rattle.sp_base.specs.declared.kinds.MKind.{MKind}
 use Rattle.sp_base.specs.declared.kinds.MKind.TheVariants.{ModuleNotFound, TooLarge, OutOfProfile}
 use Rattle.sp_io.specs.Moved.{appended}
+use Rattle.sp_base.specs.declared.places.Limits.{Limits}
+use Rattle.sp_meaning.specs.Meaning.{UnitMeaning, mean}
 use Rattle.sp_meaning.specs.declared.grammar.Field.{Field}
 use Rattle.sp_small_reader.specs.IntegerUnit.{IsIntegerUnit, Reads}
 use Rattle.sp_driver.specs.declared.exits.Exit.{Exit}
@@ -33,17 +35,37 @@ abbrev pub IsLoaded : Option (List ℕ) → List Field → Type 0
 IsLoaded None fields = ⊥
 IsLoaded (Some text) fields = (length text ≤ most_text) × Reads text fields
 
--- what the input has left and what the output holds, where they tell it
-pub record Streams : Type 0 where
+-- the limits of a run: a million turns without progress, 100 units open, and 8 fibers within one another
+abbrev pub run_limits : Limits
+run_limits = record { turns = 1000000; depth = 100; fibers = 8 }
+
+-- what a run has to show: the meaning of the first unit of the program with these fields, within the limits of a run
+abbrev pub run_meaning : List Field → UnitMeaning
+run_meaning fields = mean fields 0 run_limits
+
+-- how often the modules, the input and the output failed
+pub record Faults : Type 0 where
+  pub modules : ℕ
+  pub input : ℕ
+  pub out : ℕ
+
+-- what the input has left and what the output holds, where they tell it, and how often these and the modules failed
+pub record Objects : Type 0 where
   pub left : Option (List ℕ)
   pub held : Option (List ℕ)
+  pub faults : Faults
+
+-- what the output for messages holds, where it tells it, and how often it failed
+pub record Messages : Type 0 where
+  pub held : Option (List ℕ)
+  pub faults : ℕ
 
 -- nothing of the input was taken, and nothing was put out
-abbrev pub IsUntouched : Streams → Streams → Type 0
+abbrev pub IsUntouched : Objects → Objects → Type 0
 IsUntouched before after = (after.left ≡ before.left) × (after.held ≡ before.held)
 
 -- what the words, the files, the input and the output have to do with an exit
-abbrev pub Says : List (List ℕ) → Option (List ℕ → Option (List ℕ)) → Streams → Streams → Exit → Type 0
+abbrev pub Says : List (List ℕ) → Option (List ℕ → Option (List ℕ)) → Objects → Objects → Exit → Type 0
 Says words files before after Exit.Usage = (words_of words ≡ None) × IsUntouched before after
 Says words files before after (Exit.Refused refusal) =
     (wanted : Words) × (content : Option (List ℕ))
@@ -54,16 +76,14 @@ Says words files before after Exit.NoMemory = (wanted : Words) × (words_of word
 Says words files before after (Exit.Ran exit) =
     (wanted : Words) × (content : Option (List ℕ)) × (fields : List Field)
     × (words_of words ≡ Some wanted) × Holds files wanted.file content × IsLoaded content fields
-    × Runs fields wanted.increment before.left after.left before.held after.held exit
+    × Runs (run_meaning fields) wanted.increment before.left after.left before.held after.held exit
 
--- which counts of faults rose at an exit, the messages aside
-abbrev pub ExitCause : ℕ → ℕ → ℕ → ℕ → ℕ → ℕ → Exit → Type 0
-ExitCause modules_before modules_after input_before input_after out_before out_after Exit.ModulesFault =
-    (modules_before < modules_after) × (input_after ≡ input_before) × (out_after ≡ out_before)
-ExitCause modules_before modules_after input_before input_after out_before out_after (Exit.Ran exit) =
-    (modules_after ≡ modules_before) × RunCause input_before input_after out_before out_after exit
-ExitCause modules_before modules_after input_before input_after out_before out_after exit =
-    (modules_after ≡ modules_before) × (input_after ≡ input_before) × (out_after ≡ out_before)
+-- which counts of faults rose at an exit: at a fault of the modules theirs, in a run that of the input or of the output
+-- as the run says, and else none
+abbrev pub ExitCause : Faults → Faults → Exit → Type 0
+ExitCause before after Exit.ModulesFault = (before.modules < after.modules) × (after.input ≡ before.input) × (after.out ≡ before.out)
+ExitCause before after (Exit.Ran exit) = (after.modules ≡ before.modules) × RunCause before.input after.input before.out after.out exit
+ExitCause before after exit = (after.modules ≡ before.modules) × (after.input ≡ before.input) × (after.out ≡ before.out)
 
 abbrev pub run_status : RunExit → ℕ
 run_status RunExit.Done = 0
@@ -96,8 +116,16 @@ message_of (Exit.Ran exit) = run_message exit
 
 -- the message of an exit was put whole and the status is that of the exit; or it was put in part, if at
 -- all, since the output for messages failed or there was no memory
-abbrev pub Reported : Exit → Option (List ℕ) → Option (List ℕ) → ℕ → ℕ → ℕ → Type 0
-Reported exit held_before held_after faults_before faults_after status =
-    ((status ≡ status_of exit) × (held_after ≡ appended held_before (message_of exit)) × (faults_after ≡ faults_before))
-    ⊎ (((status ≡ 5) × IsPartPut held_before held_after (message_of exit) × (faults_before < faults_after))
-    ⊎ ((status ≡ 7) × IsPartPut held_before held_after (message_of exit) × (faults_after ≡ faults_before)))
+abbrev pub Reported : Exit → Messages → Messages → ℕ → Type 0
+Reported exit before after status =
+    ((status ≡ status_of exit) × (after.held ≡ appended before.held (message_of exit)) × (after.faults ≡ before.faults))
+    ⊎ (((status ≡ 5) × IsPartPut before.held after.held (message_of exit) × (before.faults < after.faults))
+    ⊎ ((status ≡ 7) × IsPartPut before.held after.held (message_of exit) × (after.faults ≡ before.faults)))
+
+-- the program ended by one exit: what was taken and put is what the exit says, exactly those counts of faults rose that
+-- are its cause, and its message and its status were told
+pub record Ended (words : List (List ℕ)) (files : Option (List ℕ → Option (List ℕ))) (before after : Objects) (told_before told_after : Messages) (status : ℕ) : Type 0 where
+  pub exit : Exit
+  pub says : Says words files before after exit
+  pub cause : ExitCause before.faults after.faults exit
+  pub reported : Reported exit told_before told_after status

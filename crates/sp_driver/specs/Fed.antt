@@ -1,10 +1,10 @@
 -- Between two pieces of a run.
 use Rattle.std.specs.Prelude.{◌≡◌, ◌*◌, ℕ, List, length, Option}
 use Rattle.sp_io.specs.Moved.{appended, prepended}
-use Rattle.sp_meaning.specs.declared.grammar.Field.{Field}
 use Rattle.sp_meaning.specs.declared.stand.Stand.{Stand}
+use Rattle.sp_meaning.specs.Meaning.{UnitMeaning}
 use Rattle.sp_session.specs.declared.session.Session.{Session}
-use Rattle.sp_session.specs.Session.{StandsFor, IsFed, grammar}
+use Rattle.sp_session.specs.Session.{StandsFor, IsFed, means}
 use Rattle.sp_driver.specs.declared.exits.RunExit.{RunExit}
 use Rattle.sp_driver.specs.declared.exits.Stop.{Stop}
 use Rattle.sp_driver.specs.declared.exits.Turn.{Turn}
@@ -13,20 +13,20 @@ use Rattle.sp_driver.specs.Run.{Runs, RunCause}
 use Rattle.sp_driver.specs.Shown.{shown}
 
 -- j whole pieces, which make the bytes s, were fed, and their lines were put
-pub record IsFedBy (fields : List Field) (n : ℕ) (session : Session) (left_before left_after held_before held_after : Option (List ℕ)) (s : List ℕ) (j : ℕ) : Type 0 where
+pub record IsFedBy (meaning : UnitMeaning) (n : ℕ) (session : Session) (left_before left_after held_before held_after : Option (List ℕ)) (s : List ℕ) (j : ℕ) : Type 0 where
   pub stands : StandsFor session s
   pub fed : IsFed session
-  pub grammar : grammar session ≡ fields
+  pub means : means session ≡ meaning
   pub took : left_before ≡ prepended s left_after
-  pub put : held_after ≡ appended held_before (shown fields n s j)
+  pub put : held_after ≡ appended held_before (shown meaning n s j)
   pub size : length s ≡ j * n
 
 -- behind one more piece
-abbrev pub Turned : List Field → ℕ → Session → Option (List ℕ) → Option (List ℕ) → Option (List ℕ) → Option (List ℕ) → Turn → Type 0
-Turned fields n session left_before left_after held_before held_after More =
-    (s : List ℕ) × (j : ℕ) × IsFedBy fields n session left_before left_after held_before held_after s j
-Turned fields n session left_before left_after held_before held_after (Ends exit) =
-    Runs fields n left_before left_after held_before held_after exit
+abbrev pub Turned : UnitMeaning → ℕ → Session → Option (List ℕ) → Option (List ℕ) → Option (List ℕ) → Option (List ℕ) → Turn → Type 0
+Turned meaning n session left_before left_after held_before held_after More =
+    (s : List ℕ) × (j : ℕ) × IsFedBy meaning n session left_before left_after held_before held_after s j
+Turned meaning n session left_before left_after held_before held_after (Ends exit) =
+    Runs meaning n left_before left_after held_before held_after exit
 
 abbrev pub TurnCause : ℕ → ℕ → ℕ → ℕ → Turn → Type 0
 TurnCause input_before input_after out_before out_after More = (input_after ≡ input_before) × (out_after ≡ out_before)

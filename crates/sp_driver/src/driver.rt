@@ -1,9 +1,8 @@
 // The program: it reads its words, the module and the input, and answers a status.
 ghost use Rattle.std.specs.Prelude.{◌≡◌, ◌<◌, ◌-◌, ◌^◌, IfOk};
-ghost use Rattle.sp_driver.specs.declared.exits.Exit.{Exit};
 ghost use Rattle.sp_driver.specs.Causes.{IsCausedBy};
 ghost use Rattle.sp_driver.specs.Whole.{IsAnswered};
-ghost use Rattle.sp_driver.specs.Driver.{Says, ExitCause, Reported, status_of, run_status, message_of, run_message};
+ghost use Rattle.sp_driver.specs.Driver.{Says, ExitCause, Reported, Ended, status_of, run_status, message_of, run_message};
 
 use crate::exits::{Exit, RunExit};
 use crate::load::load;
@@ -25,8 +24,11 @@ fn drive<M: Modules, S: Source, O: Out>(
     requires input_faults { S.faults input.old < 2 ^ 64 - 1 }
     requires out_faults { O.faults out.old < 2 ^ 64 - 1 }
     ensures says { Says words.now (M.files modules.old)
-        (record { left = S.left input.old; held = O.held out.old }) (record { left = S.left input.new; held = O.held out.new }) result }
-    ensures cause { ExitCause (M.faults modules.old) (M.faults modules.new) (S.faults input.old) (S.faults input.new) (O.faults out.old) (O.faults out.new) result }
+        (record { left = S.left input.old; held = O.held out.old; faults = record { modules = M.faults modules.old; input = S.faults input.old; out = O.faults out.old } })
+        (record { left = S.left input.new; held = O.held out.new; faults = record { modules = M.faults modules.new; input = S.faults input.new; out = O.faults out.new } }) result }
+    ensures cause { ExitCause
+        (record { modules = M.faults modules.old; input = S.faults input.old; out = O.faults out.old })
+        (record { modules = M.faults modules.new; input = S.faults input.new; out = O.faults out.new }) result }
 {
     let Some(wanted) = words_wanted(words) else {
         return Exit::Usage;
@@ -78,7 +80,8 @@ fn status(exit: &Exit) -> u8
 /// Puts the message of an exit, and answers the status.
 fn report<E: Out>(alloc: Global, exit: &Exit, err: &mut E) -> u8
     requires { E.faults err.old < 2 ^ 64 - 1 }
-    ensures { Reported exit.now (E.held err.old) (E.held err.new) (E.faults err.old) (E.faults err.new) result }
+    ensures { Reported exit.now
+        (record { held = E.held err.old; faults = E.faults err.old }) (record { held = E.held err.new; faults = E.faults err.new }) result }
 {
     let Ok(message) = message(alloc, exit) else {
         return 7;
@@ -104,10 +107,11 @@ pub fn spicy_driver<M: Modules, S: Source, O: Out, E: Out>(
     requires input_faults { S.faults input.old < 2 ^ 64 - 1 }
     requires out_faults { O.faults out.old < 2 ^ 64 - 1 }
     requires err_faults { E.faults err.old < 2 ^ 64 - 1 }
-    ensures exits { (exit : Exit)
-        × Says words.now (M.files modules.old)
-        (record { left = S.left input.old; held = O.held out.old }) (record { left = S.left input.new; held = O.held out.new }) exit
-        × Reported exit (E.held err.old) (E.held err.new) (E.faults err.old) (E.faults err.new) result }
+    ensures exits { Ended words.now (M.files modules.old)
+        (record { left = S.left input.old; held = O.held out.old; faults = record { modules = M.faults modules.old; input = S.faults input.old; out = O.faults out.old } })
+        (record { left = S.left input.new; held = O.held out.new; faults = record { modules = M.faults modules.new; input = S.faults input.new; out = O.faults out.new } })
+        (record { held = E.held err.old; faults = E.faults err.old })
+        (record { held = E.held err.new; faults = E.faults err.new }) result }
     ensures causes { IsCausedBy (record { modules = M.faults modules.old; input = S.faults input.old; out = O.faults out.old; err = E.faults err.old })
         (record { modules = M.faults modules.new; input = S.faults input.new; out = O.faults out.new; err = E.faults err.new }) result }
     ensures answer { IsAnswered words.now (M.files modules.old) (S.left input.old) (O.held out.old) (O.held out.new) (E.held err.old) (E.held err.new) result }

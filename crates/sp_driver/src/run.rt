@@ -1,14 +1,15 @@
 // A run: the unit over an input in pieces, its lines put out behind each of them.
-ghost use Rattle.std.specs.Prelude.{◌≡◌, ◌≤◌, ◌<◌, ◌+◌, ◌-◌, ◌^◌, ℕ, List, Option, [], ◌++◌, length, drop, IfOk, OnOk, OnErr, MatchResult};
+ghost use Rattle.std.specs.Prelude.{◌≡◌, ◌≢◌, ◌≤◌, ◌<◌, ◌+◌, ◌-◌, ◌^◌, ℕ, List, Option, [], ◌++◌, length, drop, IfOk, OnOk, OnErr, MatchResult};
 ghost use Rattle.sp_base.specs.Input.{held_open, ended};
 ghost use Rattle.sp_io.specs.Moved.{appended};
-ghost use Rattle.sp_meaning.specs.Meaning.{mean};
-ghost use Rattle.sp_session.specs.Session.{StandsFor, IsFed, grammar, received, told_by};
+ghost use Rattle.sp_meaning.specs.declared.stand.Stand.TheVariants.{Waiting};
+ghost use Rattle.sp_session.specs.Session.{StandsFor, IsFed, means, received, told_by};
 ghost use Rattle.sp_json.specs.Lines.{lines_of};
 ghost use Rattle.sp_command.specs.Puts.{IsPartPut};
 ghost use Rattle.sp_driver.specs.Parts.{StopCause};
 ghost use Rattle.sp_driver.specs.Shown.{added, flow_name};
 ghost use Rattle.sp_driver.specs.Run.{Runs, RunCause};
+ghost use Rattle.sp_driver.specs.Driver.{run_meaning};
 ghost use Rattle.sp_driver.specs.Fed.{IsFedBy, Turned, TurnCause, IsOver, exit_of_stop, exit_of_stand};
 
 use crate::exits::{RunExit, Stop, Turn};
@@ -24,6 +25,10 @@ const MOST_TAKEN: u64 = 1 << 62;
 
 const FLOW: &str = "0";
 
+/// The number of the unit that runs: the first of the program.
+const FIRST_UNIT: u32 = 0;
+
+/// The limits of a run.
 const LIMITS: Limits = Limits {
     turns: 1_000_000,
     depth: 100,
@@ -43,10 +48,10 @@ fn step<O: Out>(
     ensures fed { (s : List ℕ) → StandsFor session.old s → OnOk result (IsFed session.new) }
     ensures received { OnOk result (received session.new ≡ received session.old + length piece.now) }
     ensures held { (s : List ℕ) → StandsFor session.old s → OnOk result (O.held out.new ≡ appended (O.held out.old)
-        (lines_of flow_name (drop (length (told_by session.old s)) (mean (grammar session.old) (s ++ piece.now) held_open).events))) }
+        (lines_of flow_name (drop (length (told_by session.old s)) (means session.old (s ++ piece.now) held_open).events))) }
     ensures part { (s : List ℕ) → StandsFor session.old s → OnErr result (IsPartPut (O.held out.old) (O.held out.new)
-        (lines_of flow_name (drop (length (told_by session.old s)) (mean (grammar session.old) (s ++ piece.now) held_open).events))) }
-    ensures grammar { grammar session.new ≡ grammar session.old }
+        (lines_of flow_name (drop (length (told_by session.old s)) (means session.old (s ++ piece.now) held_open).events))) }
+    ensures means { means session.new ≡ means session.old }
     ensures cause { MatchResult result (λ _. O.faults out.new ≡ O.faults out.old) (StopCause (O.faults out.old) (O.faults out.new)) }
 {
     let mut events = Events::new(alloc);
@@ -58,10 +63,11 @@ fn step<O: Out>(
 fn finish<O: Out>(alloc: Global, session: &mut Session<'_>, out: &mut O) -> Result<RunExit, Stop>
     requires { O.faults out.old < 2 ^ 64 - 1 }
     ensures held { (s : List ℕ) → StandsFor session.old s → IsFed session.old
-        → OnOk result (O.held out.new ≡ appended (O.held out.old) (added (grammar session.old) s s ended)) }
+        → OnOk result (O.held out.new ≡ appended (O.held out.old) (added (means session.old) s s ended)) }
     ensures part { (s : List ℕ) → StandsFor session.old s → IsFed session.old
-        → OnErr result (IsPartPut (O.held out.old) (O.held out.new) (added (grammar session.old) s s ended)) }
-    ensures exit { (s : List ℕ) → StandsFor session.old s → IfOk result (λ exit. exit ≡ exit_of_stand (mean (grammar session.old) s ended).stand) }
+        → OnErr result (IsPartPut (O.held out.old) (O.held out.new) (added (means session.old) s s ended)) }
+    ensures exit { (s : List ℕ) → StandsFor session.old s → IfOk result (λ exit. exit ≡ exit_of_stand (means session.old s ended).stand) }
+    ensures decided { (s : List ℕ) → StandsFor session.old s → IfOk result (λ _. (means session.old s ended).stand ≢ Waiting) }
     ensures over { IfOk result IsOver }
     ensures cause { MatchResult result (λ _. O.faults out.new ≡ O.faults out.old) (StopCause (O.faults out.old) (O.faults out.new)) }
 {
@@ -104,11 +110,11 @@ fn turn<S: Source, O: Out>(
     requires room { received session.old ≤ 2 ^ 62 }
     requires input_faults { S.faults input.old < 2 ^ 64 - 1 }
     requires out_faults { O.faults out.old < 2 ^ 64 - 1 }
-    ensures turned { (left held : Option (List ℕ)) (s : List ℕ) (j : ℕ) → IsFedBy (grammar session.old) n session.old left (S.left input.old) held (O.held out.old) s j
-        → Turned (grammar session.old) n session.new left (S.left input.new) held (O.held out.new) result }
+    ensures turned { (left held : Option (List ℕ)) (s : List ℕ) (j : ℕ) → IsFedBy (means session.old) n session.old left (S.left input.old) held (O.held out.old) s j
+        → Turned (means session.old) n session.new left (S.left input.new) held (O.held out.new) result }
     ensures room { result ≡ Turn.More → received session.new ≤ 2 ^ 62 }
     ensures more { result ≡ Turn.More → received session.old < received session.new }
-    ensures grammar { result ≡ Turn.More → grammar session.new ≡ grammar session.old }
+    ensures means { result ≡ Turn.More → means session.new ≡ means session.old }
     ensures cause { TurnCause (S.faults input.old) (S.faults input.new) (O.faults out.old) (O.faults out.new) result }
 {
     piece.clear();
@@ -145,10 +151,10 @@ pub fn run_unit<S: Source, O: Out>(
     requires small { n ≤ 65536 }
     requires input_faults { S.faults input.old < 2 ^ 64 - 1 }
     requires out_faults { O.faults out.old < 2 ^ 64 - 1 }
-    ensures runs { Runs program.now.fields.items n (S.left input.old) (S.left input.new) (O.held out.old) (O.held out.new) result }
+    ensures runs { Runs (run_meaning program.now.fields.items) n (S.left input.old) (S.left input.new) (O.held out.old) (O.held out.new) result }
     ensures cause { RunCause (S.faults input.old) (S.faults input.new) (O.faults out.old) (O.faults out.new) result }
 {
-    let Ok(mut session) = Session::start(alloc, program, 0, LIMITS) else {
+    let Ok(mut session) = Session::start(alloc, program, FIRST_UNIT, LIMITS) else {
         return RunExit::NoMemory;
     };
     if let Err(stop) = step(alloc, &mut session, &[], out) {

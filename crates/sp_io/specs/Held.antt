@@ -1,5 +1,5 @@
 -- What the objects in memory are seen as.
-use Rattle.std.specs.Prelude.{◌≡◌, ◌≤◌, ◌+◌, ◌-◌, ◌^◌, ℕ, min, List, [], ◌∷◌, length, drop}
+use Rattle.std.specs.Prelude.{◌≡◌, ◌≤◌, ◌+◌, ◌-◌, ◌^◌, ℕ, min, List, [], ◌∷◌, length, drop, Bool, Option}
 
 -- the number of the next call, the numbers of the calls that fail, and how often one failed
 pub record Calls : Type 0 where
@@ -27,8 +27,24 @@ pub record ModulesState : Type 0 where
   pub files : List (List ℕ × List ℕ)
   pub calls : Calls
 
--- an object over the real thing tells nothing but how often it failed
-pub record RealState : Type 0 where
+-- modules in the real folders tell nothing but how often they failed
+pub record FolderState : Type 0 where
+  pub faults : ℕ
+
+-- a source over a reader: what is left, where the reader tells it, and how often it failed
+pub record ReaderState : Type 0 where
+  pub left : Option (List ℕ)
+  pub faults : ℕ
+
+-- a source over a file: whether it was opened, what is left of it, where that is told, and how often it failed
+pub record FileState : Type 0 where
+  pub is_open : Bool
+  pub left : Option (List ℕ)
+  pub faults : ℕ
+
+-- an output over a writer: what the writer holds, where it tells that, and how often it failed
+pub record WriterState : Type 0 where
+  pub held : Option (List ℕ)
   pub faults : ℕ
 
 -- pieces without this many bytes of the first

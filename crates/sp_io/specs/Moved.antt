@@ -1,7 +1,8 @@
 -- What calls do to the bytes that an object has left or holds, where it tells them.
-use Rattle.std.specs.Prelude.{◌≡◌, ◌≤◌, ℕ, List, [], ◌++◌, length, Option, Some, None, MatchOption, Result, Ok, Err}
+use Rattle.std.specs.Prelude.{◌≡◌, ◌≤◌, ℕ, List, [], ◌++◌, length, take, Option, Some, None, MatchOption, Result, Ok, Err}
 use Rattle.sp_io.specs.declared.traits.Took as took
 use Rattle.sp_io.specs.declared.traits.SourceFault.{SourceFault}
+use Rattle.sp_io.specs.declared.traits.OutFault.{OutFault}
 
 -- what is held after these bytes are appended, where it is told
 abbrev pub appended : Option (List ℕ) → List ℕ → Option (List ℕ)
@@ -30,3 +31,18 @@ abbrev pub Takes : ℕ → Option (List ℕ) → Option (List ℕ) → List ℕ 
 Takes most before after old new (Ok took.TheVariants.Some) = (piece : List ℕ) × Moves most before after old new piece
 Takes most before after old new (Ok took.TheVariants.End) = Stays before after old new × MatchOption before (Unit {0}) (λ left. left ≡ [])
 Takes most before after old new (Err fault) = Stays before after old new
+
+-- a take from an object that tells what it has left; of another one this says nothing
+abbrev pub TakesTold : ℕ → Option (List ℕ) → Option (List ℕ) → List ℕ → List ℕ → Result took.Took SourceFault → Type 0
+TakesTold most None after old new result = Unit {0}
+TakesTold most (Some left) after old new result = Takes most (Some left) after old new result
+
+-- a put appends a front of the piece and answers its length, or is refused and appends nothing
+abbrev pub Puts : Option (List ℕ) → Option (List ℕ) → List ℕ → Result ℕ OutFault → Type 0
+Puts before after piece (Ok n) = after ≡ appended before (take n piece)
+Puts before after piece (Err fault) = after ≡ before
+
+-- a put into an object that tells what it holds; of another one this says nothing
+abbrev pub PutsTold : Option (List ℕ) → Option (List ℕ) → List ℕ → Result ℕ OutFault → Type 0
+PutsTold None after piece result = Unit {0}
+PutsTold (Some held) after piece result = Puts (Some held) after piece result

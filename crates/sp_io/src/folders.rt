@@ -1,8 +1,10 @@
 // Modules in the real folders. They tell no content; each error raises the count of faults.
-ghost use Rattle.std.specs.Prelude.{◌≡◌, None};
+ghost use Rattle.std.specs.Prelude.{◌≡◌, None, take, IfOk, IfSome};
+ghost use Rattle.std.specs.IoError.{error_kind};
+ghost use Rattle.sp_io.specs.Opening.{unopened, unread};
 
 use crate::traits::{Modules, ModulesFault};
-use sp_base::ByteList;
+use sp_base::{ByteList, NoMemory};
 use std::alloc::Global;
 use std::fs::File;
 use std::io;
@@ -22,9 +24,9 @@ pub struct DirModules<'r, R> {
 }
 
 impl<'r, R> Model for DirModules<'r, R> {
-    ghost use Rattle.sp_io.specs.Held.{RealState};
+    ghost use Rattle.sp_io.specs.Held.{FolderState};
 
-    ghost Value = { RealState };
+    ghost Value = { FolderState };
 
     ghost view = { λ m. record { faults = m.faults } };
 }
@@ -65,22 +67,40 @@ fn front_of_file<R: Files>(
     path: &str,
 ) -> Result<Option<ByteList>, ModulesFault> {
     match File::open(rt, path) {
-        Ok(file) => {
-            let mut bytes = Vec::new(alloc);
-            file.take(LONGEST)
-                .read_to_end(&mut bytes)
-                .map_err(modules_fault)?;
-            let text = ByteList::from_slice(alloc, bytes.as_slice()).map_err(
-                |_| ModulesFault::NoMemory,
-            )?;
-            Ok(Some(text))
-        }
-        Err(error) if error.kind() == ErrorKind::NotFound => Ok(None),
-        Err(error) => Err(modules_fault(error)),
+        Ok(file) => Ok(Some(front_of(alloc, file)?)),
+        Err(error) => unopened(&error),
     }
 }
 
-fn modules_fault(error: io::Error) -> ModulesFault {
+/// The first `LONGEST` bytes that the reader has left, or all where it has no more.
+fn front_of<R: Read + Drop>(alloc: Global, reader: R) -> Result<ByteList, ModulesFault>
+    ensures { IfOk result (λ front. IfSome (R.remaining reader) (λ left. front ≡ take 1048577 left)) }
+{
+    let mut bytes = Vec::new(alloc);
+    let mut front = reader.take(LONGEST);
+    if let Err(error) = front.read_to_end(&mut bytes) {
+        return Err(unread(&error));
+    }
+    match ByteList::from_slice(alloc, bytes.as_slice()) {
+        Ok(front) => Ok(front),
+        Err(NoMemory) => Err(ModulesFault::NoMemory),
+    }
+}
+
+/// What is answered where a file could not be opened: that there is none at this path, or a fault.
+fn unopened(error: &io::Error) -> Result<Option<ByteList>, ModulesFault>
+    ensures { result ≡ unopened (error_kind error.now) }
+{
+    match error.kind() {
+        ErrorKind::NotFound | ErrorKind::NotADirectory | ErrorKind::InvalidFilename => Ok(None),
+        _ => Err(unread(error)),
+    }
+}
+
+/// Why a file could not be read.
+fn unread(error: &io::Error) -> ModulesFault
+    ensures { result ≡ unread (error_kind error.now) }
+{
     match error.kind() {
         ErrorKind::OutOfMemory => ModulesFault::NoMemory,
         _ => ModulesFault::Failed,

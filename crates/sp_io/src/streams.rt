@@ -1,6 +1,12 @@
-// A real file and the standard streams. They tell no content; each error raises the count of faults.
-ghost use Rattle.std.specs.Prelude.{◌≡◌, ◌≤◌, None, length, IfOk};
-ghost use Rattle.sp_io.specs.Moved.{Takes};
+// A source over a reader and an output over a writer: the standard streams, and a file. Each error raises the count
+// of faults. As a source or an output they tell no content, since the real thing tells none; what they do over a reader
+// or a writer that tells its bytes is said by clauses of their own.
+ghost use Rattle.std.specs.Prelude.{◌≡◌, ◌≢◌, ◌≤◌, [], None, Err, false, length, IfOk, MatchResult};
+ghost use Rattle.std.specs.Io.Buffered.{reader_remaining};
+ghost use Rattle.std.specs.Io.KnownBytes.{WriteAppends};
+ghost use Rattle.sp_io.specs.Causes.{OutCause, SourceCause};
+ghost use Rattle.sp_io.specs.Moved.{Takes, TakesTold, PutsTold};
+ghost use Rattle.sp_io.specs.declared.traits.SourceFault.TheVariants as source_fault;
 
 use crate::traits::{Out, OutFault, Source, SourceFault, Took};
 use sp_base::{ByteList, NoMemory};
@@ -21,6 +27,9 @@ struct Retrying<R> {
 }
 
 impl<R: Read> Read for Retrying<R> {
+    ghost remaining = { λ r. R.remaining r.inner };
+
+    #[tactic(auto, using(crate::proofs::Told::keeps_more, crate::proofs::Told::read_again))]
     fn read(&mut self, buf: &mut [u8]) -> io::Result<usize> {
         for _ in 0..u64::MAX {
             match self.inner.read(buf) {
@@ -33,7 +42,9 @@ impl<R: Read> Read for Retrying<R> {
 }
 
 /// Reads in chunks, and again where a signal interrupted a read.
-fn reader_of<R: Read + Drop>(alloc: Global, inner: R) -> Result<BufReader<Retrying<R>>, NoMemory> {
+fn reader_of<R: Read + Drop>(alloc: Global, inner: R) -> Result<BufReader<Retrying<R>>, NoMemory>
+    ensures { IfOk result (λ reader. reader_remaining (λ r. R.remaining r.inner) reader ≡ R.remaining inner) }
+{
     BufReader::with_capacity(alloc, CHUNK, Retrying { inner }).map_err(|_| NoMemory)
 }
 
@@ -45,6 +56,7 @@ fn take_from<R: BufRead>(
 ) -> Result<Took, SourceFault>
     requires { 1 ≤ most }
     ensures takes { Takes most None None into.old into.new result }
+    ensures told { TakesTold most (R.remaining reader.old) (R.remaining reader.new) into.old into.new result }
 {
     let bytes = reader.fill_buf().map_err(|_| SourceFault::Failed)?;
     if bytes.is_empty() {
@@ -57,37 +69,44 @@ fn take_from<R: BufRead>(
     Ok(Took::Some)
 }
 
-/// The standard input.
+/// The standard input, or another reader.
 #[derive(Drop)]
-pub struct StdSource {
-    reader: BufReader<Retrying<Stdin>>,
+pub struct StdSource<R: Read = Stdin> {
+    reader: BufReader<Retrying<R>>,
     faults: u64,
 }
 
-impl Model for StdSource {
-    ghost use Rattle.sp_io.specs.Held.{RealState};
+impl<R: Read> Model for StdSource<R> {
+    ghost use Rattle.std.specs.Io.Buffered.{reader_remaining};
+    ghost use Rattle.sp_io.specs.Held.{ReaderState};
 
-    ghost Value = { RealState };
+    ghost Value = { ReaderState };
 
-    ghost view = { λ s. record { faults = s.faults } };
+    ghost view = { λ s. record { left = reader_remaining (λ r. R.remaining r.inner) s.reader; faults = s.faults } };
 }
 
-impl StdSource {
-    /// Reads this standard input, 65,536 bytes at a time.
-    pub fn new(alloc: Global, stdin: Stdin) -> Result<StdSource, NoMemory>
-        ensures { IfOk result (λ source. source.faults ≡ 0) }
+impl<R: Read + Drop> StdSource<R> {
+    /// Reads this standard input, or another reader, 65,536 bytes at a time.
+    pub fn new(alloc: Global, reader: R) -> Result<StdSource<R>, NoMemory>
+        ensures left { IfOk result (λ source. source.left ≡ R.remaining reader) }
+        ensures faults { IfOk result (λ source. source.faults ≡ 0) }
     {
-        let reader = reader_of(alloc, stdin)?;
+        let reader = reader_of(alloc, reader)?;
         Ok(StdSource { reader, faults: 0 })
     }
 }
 
-impl Source for StdSource {
+impl<R: Read + Drop> Source for StdSource<R> {
     ghost left = { λ _. None };
 
     ghost faults = { λ s. s.faults };
 
-    fn take(&mut self, most: u64, into: &mut ByteList) -> Result<Took, SourceFault> {
+    fn take(&mut self, most: u64, into: &mut ByteList) -> Result<Took, SourceFault>
+        requires { 1 ≤ most }
+        ensures takes { Takes most None None into.old into.new result }
+        ensures told { TakesTold most self.old.left self.new.left into.old into.new result }
+        ensures cause { MatchResult result (λ _. self.new.faults ≡ self.old.faults) (SourceCause self.old.faults self.new.faults) }
+    {
         let answer = take_from(&mut self.reader, most, into);
         if let Err(SourceFault::Failed) = answer {
             self.faults = self.faults.saturating_add(1);
@@ -98,17 +117,19 @@ impl Source for StdSource {
 
 /// A file. Where it couldn't be opened, each take fails.
 #[derive(Drop)]
-pub struct FileSource<F> {
+pub struct FileSource<F: Read> {
     reader: Option<BufReader<Retrying<F>>>,
     faults: u64,
 }
 
-impl<F> Model for FileSource<F> {
-    ghost use Rattle.sp_io.specs.Held.{RealState};
+impl<F: Read> Model for FileSource<F> {
+    ghost use Rattle.std.specs.Prelude.{is_some, option_and_then};
+    ghost use Rattle.std.specs.Io.Buffered.{reader_remaining};
+    ghost use Rattle.sp_io.specs.Held.{FileState};
 
-    ghost Value = { RealState };
+    ghost Value = { FileState };
 
-    ghost view = { λ s. record { faults = s.faults } };
+    ghost view = { λ s. record { is_open = is_some s.reader; left = option_and_then (reader_remaining (λ r. F.remaining r.inner)) s.reader; faults = s.faults } };
 }
 
 impl<F: Read + Drop> FileSource<F> {
@@ -133,7 +154,13 @@ impl<F: Read + Drop> Source for FileSource<F> {
 
     ghost faults = { λ s. s.faults };
 
-    fn take(&mut self, most: u64, into: &mut ByteList) -> Result<Took, SourceFault> {
+    fn take(&mut self, most: u64, into: &mut ByteList) -> Result<Took, SourceFault>
+        requires { 1 ≤ most }
+        ensures takes { Takes most None None into.old into.new result }
+        ensures told { TakesTold most self.old.left self.new.left into.old into.new result }
+        ensures shut { self.old.is_open ≡ false → result ≡ Err source_fault.Failed }
+        ensures cause { MatchResult result (λ _. self.new.faults ≡ self.old.faults) (SourceCause self.old.faults self.new.faults) }
+    {
         let answer = match &mut self.reader {
             Some(reader) => take_from(reader, most, into),
             None => Err(SourceFault::Failed),
@@ -145,25 +172,26 @@ impl<F: Read + Drop> Source for FileSource<F> {
     }
 }
 
-/// The standard output or the standard error output.
+/// The standard output or the standard error output, or another writer.
 #[derive(Drop)]
-pub struct StdOut<W> {
+pub struct StdOut<W: Write> {
     writer: W,
     faults: u64,
 }
 
-impl<W> Model for StdOut<W> {
-    ghost use Rattle.sp_io.specs.Held.{RealState};
+impl<W: Write> Model for StdOut<W> {
+    ghost use Rattle.sp_io.specs.Held.{WriterState};
 
-    ghost Value = { RealState };
+    ghost Value = { WriterState };
 
-    ghost view = { λ out. record { faults = out.faults } };
+    ghost view = { λ out. record { held = W.contents out.writer; faults = out.faults } };
 }
 
-impl<W> StdOut<W> {
+impl<W: Write> StdOut<W> {
     /// Writes to this stream, without a buffer.
     pub fn new(writer: W) -> StdOut<W>
-        ensures { result.faults ≡ 0 }
+        ensures held { result.held ≡ W.contents writer }
+        ensures faults { result.faults ≡ 0 }
     {
         StdOut { writer, faults: 0 }
     }
@@ -174,7 +202,12 @@ impl<W: Write> Out for StdOut<W> {
 
     ghost faults = { λ out. out.faults };
 
-    fn put(&mut self, piece: &[u8]) -> Result<u64, OutFault> {
+    fn put(&mut self, piece: &[u8]) -> Result<u64, OutFault>
+        requires { piece.now ≢ [] }
+        ensures count { IfOk result (λ n. (1 ≤ n) × (n ≤ length piece.now)) }
+        ensures told { PutsTold self.old.held self.new.held piece.now result }
+        ensures cause { MatchResult result (λ _. self.new.faults ≡ self.old.faults) (OutCause self.old.faults self.new.faults) }
+    {
         match write_retrying(&mut self.writer, piece) {
             Ok(count) if count > 0 => Ok(count as u64),
             _ => {
@@ -186,8 +219,10 @@ impl<W: Write> Out for StdOut<W> {
 }
 
 /// Writes once, and again where a signal interrupted that.
+#[tactic(auto, using(crate::proofs::Told::keeps_more, crate::proofs::Told::write_again))]
 fn write_retrying<W: Write>(writer: &mut W, piece: &[u8]) -> io::Result<usize>
-    ensures { IfOk result (λ count. count ≤ length piece.now) }
+    ensures count { IfOk result (λ count. count ≤ length piece.now) }
+    ensures bytes { WriteAppends (W.contents writer.old) (W.contents writer.new) result piece.now }
 {
     for _ in 0..u64::MAX {
         match writer.write(piece) {

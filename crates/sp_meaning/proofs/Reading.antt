@@ -12,8 +12,8 @@ use Rattle.sp_meaning.specs.declared.stand.Stand.{Stand}
 use Rattle.sp_meaning.specs.Width.{width_of}
 use Rattle.sp_meaning.specs.Leaf.{got, lacking, integer_leaf}
 use Rattle.sp_meaning.specs.Result.{State, fine, failed, need, Result, ends, behind, then_do}
-use Rattle.sp_meaning.specs.Meaning.{stored, field_by, fields_mean, begun, meaning_by, mean}
-use Rattle.sp_meaning.specs.Steady.{IsDecided, IsSteady}
+use Rattle.sp_meaning.specs.Meaning.{stored, field_by, fields_mean, begun, meaning_by, unit_means}
+use Rattle.sp_meaning.specs.Steady.{IsDecided, IsSettled, IsSteady}
 
 pub behind-nil : (r : Result) → behind [] r ≡ r
 behind-nil (ends how es st) = refl
@@ -89,7 +89,7 @@ continued_events (ends (failed e) es st) next is = ([], ap (λ r. (meaning_by r)
 continued_events (ends (need mark) es st) next is =
     let more = events_behind es is.0 in (more.0, ap (λ r. (meaning_by r).events) is.1 ∙ more.1)
 
-pub is_steady : IsSteady
+pub is_steady : (fields : List Field) → IsSteady (unit_means fields)
 is_steady fields s t close = continued_events (fields_mean s held_open fields begun) (fields_mean (s ++ t) close fields begun) (fields_continue s t close fields begun)
 
 continued_final : (r next : Result) → Continues r next → (meaning_by r).stand ≢ Stand.Waiting → meaning_by next ≡ meaning_by r
@@ -98,12 +98,12 @@ continued_final (ends (failed e) es st) next is final = ap meaning_by is
 continued_final (ends (need mark) es st) next is final = absurd (final refl)
 
 -- a unit that doesn't wait has the same meaning on all that may follow
-pub is_final : (fields : List Field) (s t : List ℕ) (close : Close) → (mean fields s held_open).stand ≢ Stand.Waiting → mean fields (s ++ t) close ≡ mean fields s held_open
-is_final fields s t close final = continued_final (fields_mean s held_open fields begun) (fields_mean (s ++ t) close fields begun) (fields_continue s t close fields begun) final
+pub is_settled : (fields : List Field) → IsSettled (unit_means fields)
+is_settled fields s t close final = continued_final (fields_mean s held_open fields begun) (fields_mean (s ++ t) close fields begun) (fields_continue s t close fields begun) final
 
 -- and at the end of its input
-pub is_final_ended : (fields : List Field) (s : List ℕ) → (mean fields s held_open).stand ≢ Stand.Waiting → mean fields s ended ≡ mean fields s held_open
-is_final_ended fields s final = ap (λ bytes. mean fields bytes ended) (sym (append-nil s)) ∙ is_final fields s [] ended final
+pub is_settled_ended : (fields : List Field) (s : List ℕ) → (unit_means fields s held_open).stand ≢ Stand.Waiting → unit_means fields s ended ≡ unit_means fields s held_open
+is_settled_ended fields s final = ap (λ bytes. unit_means fields bytes ended) (sym (append-nil s)) ∙ is_settled fields s [] ended final
 
 abbrev NeedsNothing : Result → Type 0
 NeedsNothing (ends (need mark) es st) = ⊥
@@ -122,5 +122,5 @@ decided_by (ends fine es st) nothing e = cc
 decided_by (ends (failed error) es st) nothing e = cc
 decided_by (ends (need mark) es st) nothing e = nothing
 
-pub is_decided : IsDecided
+pub is_decided : (fields : List Field) → IsDecided (unit_means fields)
 is_decided fields s = decided_by (fields_mean s ended fields begun) (ended_needs_nothing s fields begun)

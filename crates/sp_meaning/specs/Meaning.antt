@@ -1,8 +1,10 @@
 -- The meaning of a unit on a list of bytes that is held open or ended. It reads the grammar on the whole
 -- list; pieces don't occur in it.
-use Rattle.std.specs.Prelude.{ℕ, ◌+◌, List, [], ◌∷◌, ◌++◌, length, drop, min, None}
+use Rattle.std.specs.Prelude.{◌≡◌, ℕ, zero, suc, ◌+◌, List, [], ◌∷◌, ◌++◌, length, drop, min, None}
 use Rattle.sp_base.specs.Input.{Close}
-use Rattle.sp_base.specs.declared.kinds.PKind.TheVariants.{Short}
+use Rattle.sp_base.specs.declared.kinds.PKind.{PKind}
+use Rattle.sp_base.specs.declared.kinds.PKind.TheVariants.{Short, Turns, Depth}
+use Rattle.sp_base.specs.declared.places.Limits.{Limits}
 use Rattle.sp_base.specs.declared.places.ParseError.{ParseError}
 use Rattle.sp_events.specs.Tree.{unit, fields_of}
 use Rattle.sp_events.specs.declared.event.Event.{Event}
@@ -15,9 +17,12 @@ use Rattle.sp_meaning.specs.Result.{State, fine, failed, need, Result, ends, the
 use Rattle.sp_meaning.specs.Told.{told_value}
 use Rattle.sp_meaning.specs.Width.{width_of}
 
+abbrev pub error_at : PKind → ℕ → ParseError
+error_at kind place = record { kind = kind; offset = place; text = None }
+
 -- the data end too early for what begins at a place
 abbrev pub short_at : ℕ → ParseError
-short_at place = record { kind = Short; offset = place; text = None }
+short_at place = error_at Short place
 
 -- the field has this value; the next one begins behind its bytes
 abbrev pub stored : Field → Val → State → State
@@ -57,9 +62,38 @@ meaning_by (ends fine es st) = record { events = es ++ told (What.Done (unit (fi
 meaning_by (ends (failed e) es st) = record { events = es ++ told (What.Failed e); stand = Stand.Failed e; marks = [] }
 meaning_by (ends (need mark) es st) = record { events = es; stand = Stand.Waiting; marks = mark ∷ [] }
 
--- the meaning of a unit with these fields on these bytes
-abbrev pub mean : List Field → List ℕ → Close → Meaning
-mean fields s close = meaning_by (fields_mean s close fields begun)
+-- what a unit means: its meaning on each list of bytes, held open or ended
+abbrev pub UnitMeaning : Type 0
+UnitMeaning = List ℕ → Close → Meaning
+
+-- the meaning of a unit with these fields, once it is entered
+abbrev pub unit_means : List Field → UnitMeaning
+unit_means fields s close = meaning_by (fields_mean s close fields begun)
+
+-- a unit that fails at its entry, before it reads a byte
+abbrev pub barred : PKind → UnitMeaning
+barred kind s close = meaning_by (ends (failed (error_at kind 0)) [] begun)
+
+-- The entry of a unit is one turn without progress, and the unit is then the first that is open. More than the limit of
+-- turns or of depth fails it there. A unit of integers makes no other turn, and opens no other unit and no fiber.
+abbrev pub entered : ℕ → ℕ → UnitMeaning → UnitMeaning
+entered zero depth meaning = barred Turns
+entered (suc turns) zero meaning = barred Depth
+entered (suc turns) (suc depth) meaning = meaning
+
+-- a program has one unit, whose number is 0
+abbrev pub IsUnit : ℕ → Type 0
+IsUnit number = number ≡ 0
+
+-- the fields of the unit with this number
+abbrev pub fields_of_unit : List Field → ℕ → List Field
+fields_of_unit fields zero = fields
+fields_of_unit fields (suc number) = []
+
+-- The meaning of the unit with this number, of the program with these fields, within limits. Proofs don't see into it by
+-- themselves: to those who use it, the meaning within other limits, or of another number, is another one.
+unfoldable pub mean : List Field → ℕ → Limits → UnitMeaning
+mean fields number limits = entered limits.turns limits.depth (unit_means (fields_of_unit fields number))
 
 -- the least mark, or the length of the input where nothing waits
 abbrev pub least : ℕ → List ℕ → ℕ
@@ -67,5 +101,5 @@ least end [] = end
 least end (mark ∷ marks) = min mark (least end marks)
 
 -- the place from which on a reader must keep the bytes
-abbrev pub low : List Field → List ℕ → Close → ℕ
-low fields s close = least (length s) (mean fields s close).marks
+abbrev pub low : UnitMeaning → List ℕ → Close → ℕ
+low meaning s close = least (length s) (meaning s close).marks

@@ -7,6 +7,6 @@ mod stand;
 mod told;
 
 pub use grammar::{Field, IntType, Program};
-pub use laws::{decided, steady};
+pub use laws::{decided, settled, steady};
 pub use stand::Stand;
 pub use told::told_value;

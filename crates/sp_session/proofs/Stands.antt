@@ -7,8 +7,8 @@ use Rattle.sp_events.specs.declared.event.Event.{Event}
 use Rattle.sp_meaning.specs.declared.grammar.Field.{Field}
 use Rattle.sp_meaning.specs.declared.stand.Stand.{Stand}
 use Rattle.sp_meaning.specs.Result.{Result as Reading, ends, fine, failed, need}
-use Rattle.sp_meaning.specs.Meaning.{Meaning, fields_mean, begun, meaning_by, mean, least, low}
-use Rattle.sp_meaning.proofs.Reading.{width_some, is_final, is_final_ended}
+use Rattle.sp_meaning.specs.Meaning.{Meaning, fields_mean, begun, meaning_by, unit_means, least, low}
+use Rattle.sp_meaning.proofs.Reading.{width_some, is_settled, is_settled_ended}
 use Rattle.sp_session.specs.declared.progress.Progress.{Progress}
 use Rattle.sp_session.specs.declared.session.Phase.{Phase}
 use Rattle.sp_session.specs.Reading.{Leads, Lacks, Waits, Advanced, state_of}
@@ -23,7 +23,7 @@ leads_at fields Phase.Ended p s live = absurd live
 leads_at fields Phase.Broken p s live = absurd live
 
 -- and it has told nothing
-pub told_none : (fields : List Field) (phase : Phase) (p : Progress) (s : List ℕ) → IsLive phase Stand.Waiting fields p s → told_in phase fields s ≡ []
+pub told_none : (fields : List Field) (phase : Phase) (p : Progress) (s : List ℕ) → IsLive phase Stand.Waiting fields p s → told_in phase (unit_means fields) s ≡ []
 told_none fields Phase.Fresh p s live = refl
 told_none fields Phase.Fed p s live =
     ap (λ (m : Meaning). m.events) (mean_waits fields p.next (state_of p) p.window s live.1.leads live.1.lacks live.1.left)
@@ -32,7 +32,7 @@ told_none fields Phase.Broken p s live = absurd live
 
 -- so all events of a meaning are still to be told
 pub told_next : (fields : List Field) (phase : Phase) (p : Progress) (s : List ℕ) (before after events : List Event) → IsLive phase Stand.Waiting fields p s → after ≡ before ++ events
-    → after ≡ before ++ drop (length (told_in phase fields s)) events
+    → after ≡ before ++ drop (length (told_in phase (unit_means fields) s)) events
 told_next fields phase p s before after events live e =
     e ∙ ap (λ (told : List Event). before ++ drop (length told) events) (sym (told_none fields phase p s live))
 
@@ -41,7 +41,7 @@ pub final_at : (fields : List Field) (phase : Phase) (stand : Stand) (p : Progre
     → IsAt fields Phase.Fed stand p (r + length piece) (s ++ piece)
 final_at fields Phase.Fed Stand.Waiting p r s piece final is = absurd (final refl)
 final_at fields Phase.Fed stand p r s piece final is = record {
-  live = (is.live.0 ∙ sym (ap (λ (m : Meaning). m.stand) (is_final fields s piece held_open (λ e. final (is.live.0 ∙ e)))), is.live.1);
+  live = (is.live.0 ∙ sym (ap (λ (m : Meaning). m.stand) (is_settled fields s piece held_open (λ e. final (is.live.0 ∙ e)))), is.live.1);
   counted = omega (arith, length-append s piece, is.counted);
 }
 final_at fields Phase.Fresh stand p r s piece final is = absurd (final is.live.1)
@@ -49,8 +49,8 @@ final_at fields Phase.Ended stand p r s piece final is = absurd is.live
 final_at fields Phase.Broken stand p r s piece final is = absurd is.live
 
 pub final_stand : (fields : List Field) (phase : Phase) (stand : Stand) (p : Progress) (s piece : List ℕ) → stand ≢ Stand.Waiting → IsLive phase stand fields p s
-    → stand ≡ (mean fields (s ++ piece) held_open).stand
-final_stand fields Phase.Fed stand p s piece final live = live.0 ∙ sym (ap (λ (m : Meaning). m.stand) (is_final fields s piece held_open (λ e. final (live.0 ∙ e))))
+    → stand ≡ (unit_means fields (s ++ piece) held_open).stand
+final_stand fields Phase.Fed stand p s piece final live = live.0 ∙ sym (ap (λ (m : Meaning). m.stand) (is_settled fields s piece held_open (λ e. final (live.0 ∙ e))))
 final_stand fields Phase.Fresh stand p s piece final live = absurd (final live.1)
 final_stand fields Phase.Ended stand p s piece final live = absurd live
 final_stand fields Phase.Broken stand p s piece final live = absurd live
@@ -59,25 +59,25 @@ none_left : (before events : List Event) → before ≡ before ++ drop (length e
 none_left before events = sym (ap (λ es. before ++ es) (drop_all (length events) events (omega arith)) ∙ append-nil before)
 
 pub final_events : (fields : List Field) (phase : Phase) (stand : Stand) (p : Progress) (s piece : List ℕ) (before : List Event) → stand ≢ Stand.Waiting → IsLive phase stand fields p s
-    → before ≡ before ++ drop (length (told_in phase fields s)) (mean fields (s ++ piece) held_open).events
+    → before ≡ before ++ drop (length (told_in phase (unit_means fields) s)) (unit_means fields (s ++ piece) held_open).events
 final_events fields Phase.Fed stand p s piece before final live =
-    none_left before (mean fields s held_open).events
-    ∙ ap (λ (m : Meaning). before ++ drop (length (mean fields s held_open).events) m.events) (sym (is_final fields s piece held_open (λ e. final (live.0 ∙ e))))
+    none_left before (unit_means fields s held_open).events
+    ∙ ap (λ (m : Meaning). before ++ drop (length (unit_means fields s held_open).events) m.events) (sym (is_settled fields s piece held_open (λ e. final (live.0 ∙ e))))
 final_events fields Phase.Fresh stand p s piece before final live = absurd (final live.1)
 final_events fields Phase.Ended stand p s piece before final live = absurd live
 final_events fields Phase.Broken stand p s piece before final live = absurd live
 
-pub over_stand : (fields : List Field) (phase : Phase) (stand : Stand) (p : Progress) (s : List ℕ) → stand ≢ Stand.Waiting → IsLive phase stand fields p s → stand ≡ (mean fields s ended).stand
-over_stand fields Phase.Fed stand p s final live = live.0 ∙ sym (ap (λ (m : Meaning). m.stand) (is_final_ended fields s (λ e. final (live.0 ∙ e))))
+pub over_stand : (fields : List Field) (phase : Phase) (stand : Stand) (p : Progress) (s : List ℕ) → stand ≢ Stand.Waiting → IsLive phase stand fields p s → stand ≡ (unit_means fields s ended).stand
+over_stand fields Phase.Fed stand p s final live = live.0 ∙ sym (ap (λ (m : Meaning). m.stand) (is_settled_ended fields s (λ e. final (live.0 ∙ e))))
 over_stand fields Phase.Fresh stand p s final live = absurd (final live.1)
 over_stand fields Phase.Ended stand p s final live = absurd live
 over_stand fields Phase.Broken stand p s final live = absurd live
 
 pub over_events : (fields : List Field) (phase : Phase) (stand : Stand) (p : Progress) (s : List ℕ) (before : List Event) → stand ≢ Stand.Waiting → IsLive phase stand fields p s
-    → before ≡ before ++ drop (length (told_in phase fields s)) (mean fields s ended).events
+    → before ≡ before ++ drop (length (told_in phase (unit_means fields) s)) (unit_means fields s ended).events
 over_events fields Phase.Fed stand p s before final live =
-    none_left before (mean fields s held_open).events
-    ∙ ap (λ (m : Meaning). before ++ drop (length (mean fields s held_open).events) m.events) (sym (is_final_ended fields s (λ e. final (live.0 ∙ e))))
+    none_left before (unit_means fields s held_open).events
+    ∙ ap (λ (m : Meaning). before ++ drop (length (unit_means fields s held_open).events) m.events) (sym (is_settled_ended fields s (λ e. final (live.0 ∙ e))))
 over_events fields Phase.Fresh stand p s before final live = absurd (final live.1)
 over_events fields Phase.Ended stand p s before final live = absurd live
 over_events fields Phase.Broken stand p s before final live = absurd live
@@ -105,7 +105,7 @@ if_ok (Err e) P Q f p = tt
 
 -- after a further piece with which the unit is read whole
 pub advanced_whole : (fields : List Field) (p : Progress) (s : List ℕ) (before after : List Event) (done : Bool) → Advanced fields p s before after done → done ≡ true
-    → after ≡ before ++ (mean fields s held_open).events
+    → after ≡ before ++ (unit_means fields s held_open).events
 advanced_whole fields p s before after true advanced e = advanced.events
 advanced_whole fields p s before after false advanced e = cc
 
@@ -115,10 +115,10 @@ pub advanced_waits : (fields : List Field) (p : Progress) (s : List ℕ) (before
 advanced_waits fields p s before after true advanced e = cc
 advanced_waits fields p s before after false advanced e = advanced
 
-pub waits_stand : (fields : List Field) (p : Progress) (s : List ℕ) → Waits fields p s → Stand.Waiting ≡ (mean fields s held_open).stand
+pub waits_stand : (fields : List Field) (p : Progress) (s : List ℕ) → Waits fields p s → Stand.Waiting ≡ (unit_means fields s held_open).stand
 waits_stand fields p s w = sym (ap (λ (m : Meaning). m.stand) (mean_waits fields p.next (state_of p) p.window s w.leads w.lacks w.left))
 
-pub waits_events : (fields : List Field) (p : Progress) (s : List ℕ) (before after : List Event) → Waits fields p s → after ≡ before → after ≡ before ++ (mean fields s held_open).events
+pub waits_events : (fields : List Field) (p : Progress) (s : List ℕ) (before after : List Event) → Waits fields p s → after ≡ before → after ≡ before ++ (unit_means fields s held_open).events
 waits_events fields p s before after w same =
     same ∙ sym (ap (λ (m : Meaning). before ++ m.events) (mean_waits fields p.next (state_of p) p.window s w.leads w.lacks w.left) ∙ append-nil before)
 
@@ -141,13 +141,13 @@ final_marks (ends fine es st) final = refl
 final_marks (ends (failed e) es st) final = refl
 final_marks (ends (need mark) es st) final = absurd (final refl)
 
-kept_none : (fields : List Field) (stand : Stand) (window s : List ℕ) → stand ≢ Stand.Waiting → stand ≡ (mean fields s held_open).stand → window ≡ [] → length window ≡ length s - low fields s held_open
+kept_none : (fields : List Field) (stand : Stand) (window s : List ℕ) → stand ≢ Stand.Waiting → stand ≡ (unit_means fields s held_open).stand → window ≡ [] → length window ≡ length s - low (unit_means fields) s held_open
 kept_none fields stand window s final is none =
     let m = ap (λ marks. least (length s) marks) (final_marks (fields_mean s held_open fields begun) (λ e. final (is ∙ e))) in
     omega (arith, m, ap length none)
 
 -- the bytes that are kept
-pub kept_at : (fields : List Field) (phase : Phase) (stand : Stand) (p : Progress) (s : List ℕ) → IsLive phase stand fields p s → length p.window ≡ length s - low fields s held_open
+pub kept_at : (fields : List Field) (phase : Phase) (stand : Stand) (p : Progress) (s : List ℕ) → IsLive phase stand fields p s → length p.window ≡ length s - low (unit_means fields) s held_open
 kept_at fields Phase.Fed Stand.Waiting p s live =
     let w = live.1 in
     let m = ap (λ (m : Meaning). least (length s) m.marks) (mean_waits fields p.next (state_of p) p.window s w.leads w.lacks w.left) in

@@ -6,7 +6,7 @@ use Rattle.sp_meaning.specs.declared.grammar.Field.{Field}
 use Rattle.sp_meaning.specs.declared.stand.Stand.{Stand}
 use Rattle.sp_meaning.specs.Width.{width_of}
 use Rattle.sp_meaning.specs.Result.{State}
-use Rattle.sp_meaning.specs.Meaning.{fields_mean, begun, mean, short_at}
+use Rattle.sp_meaning.specs.Meaning.{fields_mean, begun, unit_means, short_at}
 use Rattle.sp_session.specs.declared.progress.Progress.{Progress}
 use Rattle.sp_session.specs.declared.reading.Ending.{Ending}
 use Rattle.sp_session.specs.declared.reading.Ending.TheVariants.{Whole, Short}
@@ -35,8 +35,8 @@ pub record Waits (fields : List Field) (p : Progress) (s : List ℕ) : Type 0 wh
 
 -- the unit needs no more bytes: how it stands and what it told are those of its meaning
 pub record Ends (fields : List Field) (p : Progress) (s : List ℕ) (close : Close) (before after : List Event) (stand : Stand) : Type 0 where
-  pub is_stand : stand ≡ (mean fields s close).stand
-  pub events : after ≡ before ++ (mean fields s close).events
+  pub is_stand : stand ≡ (unit_means fields s close).stand
+  pub events : after ≡ before ++ (unit_means fields s close).events
   pub window : p.window ≡ []
 
 -- after a further piece: the unit is read whole, or it waits and has told nothing

@@ -5,15 +5,19 @@ use Rattle.sp_events.specs.declared.event.Event.{Event}
 use Rattle.sp_meaning.specs.declared.grammar.Field.{Field}
 use Rattle.sp_meaning.specs.declared.stand.Stand.{Stand}
 use Rattle.sp_meaning.specs.declared.stand.Stand.TheVariants.{Waiting, Done, Failed}
-use Rattle.sp_meaning.specs.Meaning.{mean}
+use Rattle.sp_meaning.specs.Meaning.{UnitMeaning, unit_means}
 use Rattle.sp_session.specs.declared.progress.Progress.{Progress}
 use Rattle.sp_session.specs.declared.session.Phase.{Phase}
 use Rattle.sp_session.specs.declared.session.Session.{Session}
 use Rattle.sp_session.specs.Reading.{Leads, Waits, state_of}
 
--- the unit that a session reads
+-- the fields that a session reads
 abbrev pub grammar : Session → List Field
 grammar session = session.program.now.fields.items
+
+-- what the unit that a session reads means, within its limits
+abbrev pub means : Session → UnitMeaning
+means session = unit_means (grammar session)
 
 -- how many bytes it was fed
 abbrev pub received : Session → ℕ
@@ -27,7 +31,7 @@ Stores (Failed e) fields p s = p.window ≡ []
 
 abbrev pub IsLive : Phase → Stand → List Field → Progress → List ℕ → Type 0
 IsLive Phase.Fresh stand fields p s = (s ≡ []) × (stand ≡ Waiting) × Leads fields p.next (state_of p) p.window []
-IsLive Phase.Fed stand fields p s = (stand ≡ (mean fields s held_open).stand) × Stores stand fields p s
+IsLive Phase.Fed stand fields p s = (stand ≡ (unit_means fields s held_open).stand) × Stores stand fields p s
 IsLive Phase.Ended stand fields p s = ⊥
 IsLive Phase.Broken stand fields p s = ⊥
 
@@ -43,7 +47,7 @@ StandsFor session s = IsAt (grammar session) session.phase session.stand session
 -- a session that was fed pieces that make the bytes s, and then had the end of its input
 pub record EndedFor (session : Session) (s : List ℕ) : Type 0 where
   pub phase : session.phase ≡ Phase.Ended
-  pub stand : session.stand ≡ (mean (grammar session) s ended).stand
+  pub stand : session.stand ≡ (means session s ended).stand
   pub window : session.progress.window ≡ []
 
 -- a session for which there was no memory
@@ -59,9 +63,9 @@ abbrev pub IsFed : Session → Type 0
 IsFed session = session.phase ≡ Phase.Fed
 
 -- the events that a session in this phase, which stands for s, has told
-abbrev pub told_in : Phase → List Field → List ℕ → List Event
-told_in Phase.Fed fields s = (mean fields s held_open).events
-told_in phase fields s = []
+abbrev pub told_in : Phase → UnitMeaning → List ℕ → List Event
+told_in Phase.Fed meaning s = (meaning s held_open).events
+told_in phase meaning s = []
 
 abbrev pub told_by : Session → List ℕ → List Event
-told_by session s = told_in session.phase (grammar session) s
+told_by session s = told_in session.phase (means session) s

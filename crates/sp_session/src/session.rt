@@ -31,15 +31,15 @@ pub struct Session<'p> {
 }
 
 impl<'p> Session<'p> {
-    ghost use Rattle.std.specs.Prelude.{◌++◌, ◌-◌, List, ℕ, [], drop, IfOk, OnOk, OnErr, IsErr};
+    ghost use Rattle.std.specs.Prelude.{◌≢◌, ◌++◌, ◌-◌, List, ℕ, [], drop, IfOk, OnOk, OnErr, IsErr};
     ghost use Rattle.sp_base.specs.Input.{held_open, ended};
-    ghost use Rattle.sp_meaning.specs.Meaning.{mean, low};
+    ghost use Rattle.sp_meaning.specs.Meaning.{IsUnit, mean, low};
     ghost use Rattle.sp_meaning.specs.declared.stand.Stand.TheVariants.{Waiting};
-    ghost use Rattle.sp_session.specs.Session.{grammar, received, StandsFor, EndedFor, IsBroken, IsFresh, IsFed, told_by};
+    ghost use Rattle.sp_session.specs.Session.{means, received, StandsFor, EndedFor, IsBroken, IsFresh, IsFed, told_by};
 
     /// A session that has run nothing: it stands for no bytes, and has told nothing.
     ///
-    /// The program has one unit, whose number is not looked at. Each limit is at least 1; a unit of integers
+    /// The number is that of a unit of the program, which has one. Each limit is at least 1; a unit of integers then
     /// meets none of them.
     pub fn start(
         alloc: Global,
@@ -47,12 +47,13 @@ impl<'p> Session<'p> {
         unit: u32,
         limits: Limits,
     ) -> Result<Session<'p>, NoMemory>
+        requires unit { IsUnit unit }
         requires turns { 1 ≤ limits.turns }
         requires depth { 1 ≤ limits.depth }
         requires fibers { 1 ≤ limits.fibers }
         ensures stands { IfOk result (λ session. StandsFor session []) }
         ensures fresh { IfOk result (λ session. IsFresh session) }
-        ensures grammar { IfOk result (λ session. grammar session ≡ program.now.fields.items) }
+        ensures means { IfOk result (λ session. means session ≡ mean program.now.fields.items unit limits) }
     {
         let _ = unit;
         let _ = limits;
@@ -77,14 +78,14 @@ impl<'p> Session<'p> {
         ensures stands { (s : List ℕ) → StandsFor self.old s → OnOk result (StandsFor self.new (s ++ piece.now)) }
         ensures fed { (s : List ℕ) → StandsFor self.old s → OnOk result (IsFed self.new) }
         ensures events { (s : List ℕ) → StandsFor self.old s → OnOk result (out.new
-            ≡ out.old ++ drop (length (told_by self.old s)) (mean (grammar self.old) (s ++ piece.now) held_open).events) }
-        ensures stand { (s : List ℕ) → StandsFor self.old s → IfOk result (λ stand. stand ≡ (mean (grammar self.old) (s ++ piece.now) held_open).stand) }
+            ≡ out.old ++ drop (length (told_by self.old s)) (means self.old (s ++ piece.now) held_open).events) }
+        ensures stand { (s : List ℕ) → StandsFor self.old s → IfOk result (λ stand. stand ≡ (means self.old (s ++ piece.now) held_open).stand) }
         ensures again { (s : List ℕ) → EndedFor self.old s → OnOk result (EndedFor self.new s × (out.new ≡ out.old)) }
-        ensures same { (s : List ℕ) → EndedFor self.old s → IfOk result (λ stand. stand ≡ (mean (grammar self.old) s ended).stand) }
+        ensures same { (s : List ℕ) → EndedFor self.old s → IfOk result (λ stand. stand ≡ (means self.old s ended).stand) }
         ensures received { OnOk result (received self.new ≡ received self.old + length piece.now) }
         ensures memory { OnErr result (IsBroken self.new × (out.new ≡ out.old)) }
         ensures broken { IsBroken self.old → IsErr result }
-        ensures grammar { grammar self.new ≡ grammar self.old }
+        ensures means { means self.new ≡ means self.old }
     {
         match self.phase {
             Phase::Broken => Err(NoMemory),
@@ -122,14 +123,15 @@ impl<'p> Session<'p> {
     pub fn end(&mut self, out: &mut Events) -> Result<Stand, NoMemory>
         ensures stands { (s : List ℕ) → StandsFor self.old s → OnOk result (EndedFor self.new s) }
         ensures events { (s : List ℕ) → StandsFor self.old s → OnOk result (out.new
-            ≡ out.old ++ drop (length (told_by self.old s)) (mean (grammar self.old) s ended).events) }
-        ensures stand { (s : List ℕ) → StandsFor self.old s → IfOk result (λ stand. stand ≡ (mean (grammar self.old) s ended).stand) }
+            ≡ out.old ++ drop (length (told_by self.old s)) (means self.old s ended).events) }
+        ensures stand { (s : List ℕ) → StandsFor self.old s → IfOk result (λ stand. stand ≡ (means self.old s ended).stand) }
+        ensures decided { (s : List ℕ) → StandsFor self.old s → IfOk result (λ stand. stand ≢ Waiting) }
         ensures again { (s : List ℕ) → EndedFor self.old s → OnOk result (EndedFor self.new s × (out.new ≡ out.old)) }
-        ensures same { (s : List ℕ) → EndedFor self.old s → IfOk result (λ stand. stand ≡ (mean (grammar self.old) s ended).stand) }
+        ensures same { (s : List ℕ) → EndedFor self.old s → IfOk result (λ stand. stand ≡ (means self.old s ended).stand) }
         ensures received { received self.new ≡ received self.old }
         ensures memory { OnErr result (IsBroken self.new × (out.new ≡ out.old)) }
         ensures broken { IsBroken self.old → IsErr result }
-        ensures grammar { grammar self.new ≡ grammar self.old }
+        ensures means { means self.new ≡ means self.old }
     {
         match self.phase {
             Phase::Broken => Err(NoMemory),
@@ -160,7 +162,7 @@ impl<'p> Session<'p> {
         ensures stand { IfOk result (λ stand. stand ≡ self.old.stand) }
         ensures err { OnErr result (IsBroken self.new) }
         ensures received { self.new.received ≡ self.old.received }
-        ensures grammar { grammar self.new ≡ grammar self.old }
+        ensures means { means self.new ≡ means self.old }
     {
         let answer = self.stand.copy();
         if answer.is_err() {
@@ -171,9 +173,9 @@ impl<'p> Session<'p> {
 
     /// How the unit stands; `Waiting` before the first call.
     pub fn stand(&self) -> &Stand
-        ensures live { (s : List ℕ) → StandsFor self.now s → IsFed self.now → result.now ≡ (mean (grammar self.now) s held_open).stand }
+        ensures live { (s : List ℕ) → StandsFor self.now s → IsFed self.now → result.now ≡ (means self.now s held_open).stand }
         ensures fresh { (s : List ℕ) → StandsFor self.now s → IsFresh self.now → result.now ≡ Waiting }
-        ensures over { (s : List ℕ) → EndedFor self.now s → result.now ≡ (mean (grammar self.now) s ended).stand }
+        ensures over { (s : List ℕ) → EndedFor self.now s → result.now ≡ (means self.now s ended).stand }
     {
         &self.stand
     }
@@ -189,7 +191,7 @@ impl<'p> Session<'p> {
     /// How many bytes of the input it keeps: those from the meaning's oldest mark on, and none where the unit
     /// does not wait.
     pub fn kept(&self) -> u64
-        ensures live { (s : List ℕ) → StandsFor self.now s → result ≡ length s - low (grammar self.now) s held_open }
+        ensures live { (s : List ℕ) → StandsFor self.now s → result ≡ length s - low (means self.now) s held_open }
         ensures over { (s : List ℕ) → EndedFor self.now s → result ≡ 0 }
     {
         self.progress.window.len() as u64

@@ -5,12 +5,17 @@ use Rattle.sp_driver.proofs.driver.spicy_driver.Goals as goal
 pub returns-clause-causes : goal.returns-clause-causes
 returns-clause-causes g c =
     caused_by
-    (record { modules = g.M.Modules.faults c.args.modules.now; input = g.S.Source.faults c.args.input.now; out = g.O.Out.faults c.args.out.now; err = g.E.Out.faults c.args.err.now })
-    (record { modules = g.M.Modules.faults c.drive-exit.new.modules; input = g.S.Source.faults c.drive-exit.new.input; out = g.O.Out.faults c.drive-exit.new.out; err = g.E.Out.faults c.report.new.err })
-    c.drive-exit.result (g.E.Out.held c.args.err.now) (g.E.Out.held c.report.new.err) c.report.result c.drive-exit.ensures.cause c.report.ensures
+    (record { modules = g.M.Modules.faults c.args.modules.now; input = g.S.Source.faults c.args.input.now; out = g.O.Out.faults c.args.out.now })
+    (record { modules = g.M.Modules.faults c.drive-exit.new.modules; input = g.S.Source.faults c.drive-exit.new.input; out = g.O.Out.faults c.drive-exit.new.out })
+    (record { held = g.E.Out.held c.args.err.now; faults = g.E.Out.faults c.args.err.now })
+    (record { held = g.E.Out.held c.report.new.err; faults = g.E.Out.faults c.report.new.err })
+    c.drive-exit.result c.report.result c.drive-exit.ensures.cause c.report.ensures
 
 pub returns-clause-answer : goal.returns-clause-answer
 returns-clause-answer g c =
-    answered c.args.words.now (g.M.Modules.files c.args.modules.now) (g.S.Source.left c.args.input.now) (g.S.Source.left c.drive-exit.new.input) (g.O.Out.held c.args.out.now) (g.O.Out.held c.drive-exit.new.out)
-    (g.E.Out.held c.args.err.now) (g.E.Out.held c.report.new.err) (g.E.Out.faults c.args.err.now) (g.E.Out.faults c.report.new.err)
+    answered c.args.words.now (g.M.Modules.files c.args.modules.now)
+    (record { left = g.S.Source.left c.args.input.now; held = g.O.Out.held c.args.out.now; faults = record { modules = g.M.Modules.faults c.args.modules.now; input = g.S.Source.faults c.args.input.now; out = g.O.Out.faults c.args.out.now } })
+    (record { left = g.S.Source.left c.drive-exit.new.input; held = g.O.Out.held c.drive-exit.new.out; faults = record { modules = g.M.Modules.faults c.drive-exit.new.modules; input = g.S.Source.faults c.drive-exit.new.input; out = g.O.Out.faults c.drive-exit.new.out } })
+    (record { held = g.E.Out.held c.args.err.now; faults = g.E.Out.faults c.args.err.now })
+    (record { held = g.E.Out.held c.report.new.err; faults = g.E.Out.faults c.report.new.err })
     c.drive-exit.result c.report.result c.drive-exit.ensures.says c.report.ensures

@@ -1,5 +1,5 @@
-use Rattle.sp_meaning.proofs.Reading.{is_decided}
+use Rattle.sp_meaning.proofs.Entry.{all_decided}
 use Rattle.sp_meaning.proofs.laws.decided.Goals as goal
 
 pub returns : goal.returns
-returns c = is_decided
+returns c = all_decided

@@ -16,12 +16,13 @@ returns-in_default c =
       stands = λ s is. on_ok r _ _ (λ same. subst (λ (x : Session). EndedFor x s) (sym same) (record { phase = refl; stand = over_stand fields h.phase h.stand h.progress s final is.live; window = over_window fields h.phase h.stand h.progress s final is.live })) e.ok;
       events = λ s is. on_ok r _ _ (λ _. over_events fields h.phase h.stand h.progress s c.args.out.now final is.live) e.ok;
       stand = λ s is. if_ok r _ _ (λ v same. same ∙ over_stand fields h.phase h.stand h.progress s final is.live) e.stand;
+      decided = λ s is. if_ok r _ _ (λ v same waits. final (sym same ∙ waits)) e.stand;
       again = search rules;
       same = search rules;
       received = search rules;
       memory = search rules;
       broken = search rules;
-      grammar = search rules;
+      means = search rules;
     }
 
 pub returns-in-Ok-clause-events : goal.returns-in-Ok-clause-events

@@ -23,7 +23,7 @@ returns-in_default c =
       received = search rules;
       memory = search rules;
       broken = search rules;
-      grammar = search rules;
+      means = search rules;
     }
 
 pub returns-in-Ok-true-clause-events : goal.returns-in-Ok-true-clause-events
