@@ -2,7 +2,7 @@
 // read, ` | ` and the text. The answer is `text` or the refusal's number, and the place behind the text or of the refusal.
 // What is read is `type`, `expr`, `stmt` or `module`, with the number of tokens before it behind an `@`, if there are any.
 // Of `marks` and such a word the answer is `marks` and the marks of the derivation, those of names, paths and rows left out.
-// In the text `\n`, `\t` and `\\` stand for bytes.
+// The text is in the form of `stored_cases`.
 #![tactic(auto)]
 
 use sp_base::{Place, place_of};
@@ -11,6 +11,7 @@ use sp_lex::{ReadFault, Token, lex};
 use sp_runs::{Parsed, read_from};
 use std::alloc::{AllocError, Global};
 use std::io;
+use stored_cases::bytes_of;
 
 /// The number that the digits are.
 fn number(text: &[u8]) -> u32 {
@@ -31,22 +32,6 @@ fn start_of(word: &str) -> Start {
         "stmt" => Start::Stmt,
         _ => Start::Expr,
     }
-}
-
-/// The bytes that the text of a line stands for.
-fn bytes_of(alloc: Global, text: &[u8]) -> Result<Vec<u8>, AllocError> {
-    let mut bytes = Vec::new(alloc);
-    let mut escaped = false;
-    for byte in text {
-        match (escaped, *byte) {
-            (true, b'n') => bytes.push(b'\n')?,
-            (true, b't') => bytes.push(b'\t')?,
-            (false, b'\\') => {}
-            (_, other) => bytes.push(other)?,
-        }
-        escaped = !escaped && *byte == b'\\';
-    }
-    Ok(bytes)
 }
 
 /// Where the token stands, or the end.
