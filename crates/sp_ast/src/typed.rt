@@ -1,138 +1,44 @@
 // Trees by what they are. None is higher than [`MOST_LEVELS`](crate::MOST_LEVELS).
 use crate::bounded::BoundedTree;
 use crate::tree::Tree;
-use std::marker::Model;
+use std::marker::{Model, PhantomData};
+
+/// A tree that is what its marker says.
+#[derive(Drop)]
+pub struct Whole<K> {
+    tree: BoundedTree,
+    marker: PhantomData<K>,
+}
+
+/// Marks expressions.
+#[derive(Drop)]
+pub struct ExprKind;
+
+/// Marks statements.
+#[derive(Drop)]
+pub struct StmtKind;
+
+/// Marks types.
+#[derive(Drop)]
+pub struct TypeKind;
+
+/// Marks modules.
+#[derive(Drop)]
+pub struct ModuleKind;
 
 /// An expression.
-#[derive(Drop)]
-pub struct Expr {
-    tree: BoundedTree,
-}
-
-impl Model for Expr {
-    ghost use Rattle.std.specs.Coded.{codes};
-    ghost use Rattle.sp_ast.specs.Trees.{Tree as Data, coded_tree};
-
-    ghost Value = { Data };
-
-    ghost coded = { coded_tree (Prim.hlevel codes) };
-
-    ghost view = { λ x. x.tree };
-}
-
-impl Expr {
-    ghost use Rattle.std.specs.Prelude.{◌≡◌};
-    ghost use Rattle.sp_ast.specs.Heights.{IsLow};
-
-    pub fn new(tree: BoundedTree) -> Expr
-        ensures { result ≡ tree }
-    {
-        Expr { tree }
-    }
-
-    pub fn tree(&self) -> &Tree
-        ensures { result.now ≡ self.now }
-    {
-        self.tree.as_tree()
-    }
-
-    /// The tree is low. It does nothing; a caller's proof has the fact from it.
-    pub fn is_low(&self)
-        ensures { IsLow self.now }
-    {
-        self.tree.is_low();
-    }
-}
+pub type Expr = Whole<ExprKind>;
 
 /// A statement.
-#[derive(Drop)]
-pub struct Stmt {
-    tree: BoundedTree,
-}
-
-impl Model for Stmt {
-    ghost use Rattle.std.specs.Coded.{codes};
-    ghost use Rattle.sp_ast.specs.Trees.{Tree as Data, coded_tree};
-
-    ghost Value = { Data };
-
-    ghost coded = { coded_tree (Prim.hlevel codes) };
-
-    ghost view = { λ x. x.tree };
-}
-
-impl Stmt {
-    ghost use Rattle.std.specs.Prelude.{◌≡◌};
-    ghost use Rattle.sp_ast.specs.Heights.{IsLow};
-
-    pub fn new(tree: BoundedTree) -> Stmt
-        ensures { result ≡ tree }
-    {
-        Stmt { tree }
-    }
-
-    pub fn tree(&self) -> &Tree
-        ensures { result.now ≡ self.now }
-    {
-        self.tree.as_tree()
-    }
-
-    /// The tree is low. It does nothing; a caller's proof has the fact from it.
-    pub fn is_low(&self)
-        ensures { IsLow self.now }
-    {
-        self.tree.is_low();
-    }
-}
+pub type Stmt = Whole<StmtKind>;
 
 /// A type.
-#[derive(Drop)]
-pub struct TypeTree {
-    tree: BoundedTree,
-}
-
-impl Model for TypeTree {
-    ghost use Rattle.std.specs.Coded.{codes};
-    ghost use Rattle.sp_ast.specs.Trees.{Tree as Data, coded_tree};
-
-    ghost Value = { Data };
-
-    ghost coded = { coded_tree (Prim.hlevel codes) };
-
-    ghost view = { λ x. x.tree };
-}
-
-impl TypeTree {
-    ghost use Rattle.std.specs.Prelude.{◌≡◌};
-    ghost use Rattle.sp_ast.specs.Heights.{IsLow};
-
-    pub fn new(tree: BoundedTree) -> TypeTree
-        ensures { result ≡ tree }
-    {
-        TypeTree { tree }
-    }
-
-    pub fn tree(&self) -> &Tree
-        ensures { result.now ≡ self.now }
-    {
-        self.tree.as_tree()
-    }
-
-    /// The tree is low. It does nothing; a caller's proof has the fact from it.
-    pub fn is_low(&self)
-        ensures { IsLow self.now }
-    {
-        self.tree.is_low();
-    }
-}
+pub type TypeTree = Whole<TypeKind>;
 
 /// A module.
-#[derive(Drop)]
-pub struct Module {
-    tree: BoundedTree,
-}
+pub type Module = Whole<ModuleKind>;
 
-impl Model for Module {
+impl<K> Model for Whole<K> {
     ghost use Rattle.std.specs.Coded.{codes};
     ghost use Rattle.sp_ast.specs.Trees.{Tree as Data, coded_tree};
 
@@ -143,14 +49,17 @@ impl Model for Module {
     ghost view = { λ x. x.tree };
 }
 
-impl Module {
+impl<K> Whole<K> {
     ghost use Rattle.std.specs.Prelude.{◌≡◌};
     ghost use Rattle.sp_ast.specs.Heights.{IsLow};
 
-    pub fn new(tree: BoundedTree) -> Module
+    pub fn new(tree: BoundedTree) -> Whole<K>
         ensures { result ≡ tree }
     {
-        Module { tree }
+        Whole {
+            tree,
+            marker: PhantomData,
+        }
     }
 
     pub fn tree(&self) -> &Tree
