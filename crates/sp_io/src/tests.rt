@@ -178,8 +178,8 @@ fn puts_into_a_writer_that_writes_less_and_fails(rt: HostRuntime) -> Result<(), 
     let mut out = StdOut::new(Fake::new(rt.alloc(), b"", acts));
     assert_eq!(rt; out.put(b"abc")?, 2);
     put_all(&mut out, b"cdef")?;
-    assert!(rt; put_all(&mut out, b"g").is_err());
-    assert!(rt; put_all(&mut out, b"h").is_err());
+    assert!(rt; out.put(b"g").is_err());
+    assert!(rt; out.put(b"h").is_err());
     Ok(())
 }
 

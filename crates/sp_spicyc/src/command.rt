@@ -97,6 +97,7 @@ pub fn spicyc<M: Modules, O: Out, E: Out>(
     requires err_faults { E.faults err.old < 2 ^ 64 - 1 }
     ensures exits { (exit : Exit)
         × Says words.now (M.files modules.old) exit
+        × ExitCause (M.faults modules.old) (M.faults modules.new) exit
         × Reported exit
         (record { out = O.held out.old; err = E.held err.old; out_faults = O.faults out.old; err_faults = E.faults err.old })
         (record { out = O.held out.new; err = E.held err.new; out_faults = O.faults out.new; err_faults = E.faults err.new }) result }
