@@ -295,6 +295,174 @@ def mark_numbers(g, _):
     )
 
 
+PARTS = """\
+-- The parts of the grammar by their numbers, and tokens, parts and marks as symbols, which a script writes from
+-- tools/grammar.txt.
+use Rattle.std.specs.Prelude.{ℕ, List, [], ◌∷◌}
+use Rattle.sp_parser.specs.declared.symbol.Symbol.{Symbol}
+use Rattle.sp_parser.specs.declared.symbol.Symbol.TheVariants as symbol
+use Rattle.sp_parser.specs.Grammar.{CLOSE}
+use Rattle.sp_grammar.specs.declared.terminals.Terminal.{Terminal}
+use Rattle.sp_grammar.specs.declared.marks.Mark.{Mark}
+use Rattle.sp_grammar.specs.Terminals.{terminal_number}
+use Rattle.sp_grammar.specs.Marks.{mark_number}
+
+-- a part of the grammar
+pub data Part : Type 0 where
+%s
+abbrev pub part_number : Part → ℕ
+%s
+-- the parts in the order of their numbers
+abbrev pub all_parts : List Part
+all_parts = %s
+
+-- a token of this kind
+abbrev pub kind : Terminal → Symbol
+kind t = symbol.Terminal (terminal_number t)
+
+-- what closes a list of types: a `>`, or a half of a `>>`
+abbrev pub close : Symbol
+close = symbol.Terminal CLOSE
+
+abbrev pub part : Part → Symbol
+part p = symbol.Nonterminal (part_number p)
+
+-- the place at which this is built
+abbrev pub mark : Mark → Symbol
+mark m = symbol.Mark (mark_number m)
+"""
+
+
+def parts(g, _):
+    """The parts in contracts."""
+    rows = [g.parts[i : i + 8] for i in range(0, len(g.parts), 8)]
+    return PARTS % (
+        "".join(f"  {' '.join(row)} : Part\n" for row in rows),
+        "".join(f"part_number Part.{part} = {number}\n" for number, part in enumerate(g.parts)),
+        antt_list(f"Part.{part}" for part in g.parts),
+    )
+
+
+NUMBERS = """\
+-- The numbers of the kinds of tokens in the table.
+use Rattle.std.specs.Prelude.{ℕ}
+use Rattle.sp_grammar.specs.declared.terminals.Terminal.{Terminal}
+use Rattle.sp_grammar.specs.declared.terminals.Terminal.TheVariants as kind
+
+abbrev pub terminal_number : Terminal → ℕ
+%s"""
+
+
+def terminal_numbers(g, _):
+    """Their numbers in contracts."""
+    return TERMINAL_NUMBERS % "".join(f"terminal_number kind.{name} = {number}\n" for number, _, name in terminals(g))
+
+
+TERMINAL_KINDS = """\
+-- The numbers of terminals are kinds of tokens, by their cases, which a script writes from tools/grammar.txt.
+use Rattle.std.specs.Prelude.{map}
+use Rattle.std.proofs.Common.{◌<◌, List, [], ◌∷◌, lit<}
+use Rattle.sp_parser.specs.Grammar.{AreKinds, SECOND}
+use Rattle.sp_grammar.specs.declared.terminals.Terminal.{Terminal}
+use Rattle.sp_grammar.specs.declared.terminals.Terminal.TheVariants as kind
+use Rattle.sp_grammar.specs.Terminals.{terminal_number}
+
+pub is_kind : (t : Terminal) → terminal_number t < SECOND
+%s
+pub terminals_are_kinds : (terminals : List Terminal) → AreKinds (map terminal_number terminals)
+terminals_are_kinds [] = tt
+terminals_are_kinds (t ∷ terminals) = (is_kind t, terminals_are_kinds terminals)
+"""
+
+
+def terminal_kinds(g, _):
+    """That their numbers are below those with a meaning of their own."""
+    return TERMINAL_KINDS % "".join(f"is_kind kind.{name} = lit< tt\n" for _, _, name in terminals(g))
+
+
+MARKS = """\
+// The marks of the grammar, which a script writes from tools/grammar.txt.
+ghost use Rattle.std.specs.Prelude.{◌≡◌, IfSome, IfNone};
+ghost use Rattle.sp_grammar.specs.Marks.{mark_number, mark_with};
+ghost use Rattle.sp_grammar.specs.declared.marks.Mark.{Mark};
+
+/// What is built where a derivation passes a mark. `Begin` opens a tree. A mark with the name of an alternative closes it, or
+/// makes it of one token or of the trees before it.
+#[derive(Clone, Copy, Debug)]
+pub enum Mark {
+%s}
+
+impl Mark {
+    /// Its number in the table.
+    pub fn number(self) -> u8
+        ensures { result ≡ mark_number self }
+    {
+        match self {
+%s        }
+    }
+}
+
+/// The marks in the order of their numbers.
+#[rattlefmt::skip]
+static MARKS: [Mark; %d] = [
+%s];
+
+/// The mark with a number in the table, if there is one.
+pub fn mark_of(number: u8) -> Option<Mark>
+    ensures named { result ≡ mark_with number }
+    ensures some { IfSome result (λ m. mark_number m ≡ number) }
+    ensures none { IfNone result ((m : Mark) → ¬ (mark_number m ≡ number)) }
+{
+    let place = number as usize;
+    if place < MARKS.len() {
+        Some(MARKS[place])
+    } else {
+        None
+    }
+}
+"""
+
+
+def mark_enum(g, _):
+    """The marks in the code."""
+    names = [camel(mark) for mark in g.marks]
+    return MARKS % (
+        "".join(f"    {name},\n" for name in names),
+        "".join(f"            Mark::{name} => {number},\n" for number, name in enumerate(names)),
+        len(names),
+        lines_of([f"Mark::{name}" for name in names], 5, "    "),
+    )
+
+
+MARK_NUMBERS = """\
+-- The numbers of the marks in the table.
+use Rattle.std.specs.Prelude.{ℕ, List, [], ◌∷◌, Option, Some, None}
+use Rattle.std.proofs.Common.{get_or}
+use Rattle.std.specs.Prelude.{map}
+use Rattle.sp_grammar.specs.declared.marks.Mark.{Mark}
+use Rattle.sp_grammar.specs.declared.marks.Mark.TheVariants as build
+
+abbrev pub mark_number : Mark → ℕ
+%s
+-- the marks in the order of their numbers
+abbrev pub all_marks : List Mark
+all_marks = %s
+
+-- the mark with a number, if there is one
+abbrev pub mark_with : ℕ → Option Mark
+mark_with n = get_or (map Some all_marks) n None
+"""
+
+
+def mark_numbers(g, _):
+    """Their numbers in contracts."""
+    names = [camel(mark) for mark in g.marks]
+    return MARK_NUMBERS % (
+        "".join(f"mark_number build.{name} = {number}\n" for number, name in enumerate(names)),
+        antt_list(f"build.{name}" for name in names),
+    )
+
+
 WRITTEN = """\
 -- The written grammar: the productions of each part, with the marks at which trees are built. A script writes it from
 -- tools/grammar.txt.
@@ -428,7 +596,7 @@ FILES = {
     "specs/Terminals.antt": terminal_numbers,
     "specs/TerminalKinds.antt": terminal_kinds,
     "specs/Marks.antt": mark_numbers,
-    "specs/Written.antt": written,
+    "specs/Written.antt": parts,
     "proofs/Numbers.antt": number_proofs,
 }
 

@@ -1,12 +1,11 @@
--- The grammar of the language, as the table of the code, and that the table passes the test.
-use Rattle.std.specs.Prelude.{◌≡◌, length, map, true, refl}
+-- The table of the code, and that it passes the test. What the language is says specs/Own.antt.
+use Rattle.std.specs.Prelude.{◌≡◌, length, true, refl}
 use Rattle.sp_grammar.specs.declared.tables.TheConstants.{SPANS, ROWS, SYMBOLS}
 use Rattle.sp_parser.specs.Grammar.{Table}
 use Rattle.sp_parser.specs.Rows.{table_from}
 use Rattle.sp_parser.specs.Certificate.{Certificate}
 use Rattle.sp_parser.specs.Test.{table_test}
 use Rattle.sp_grammar.specs.Sets.{sets}
-use Rattle.sp_grammar.specs.Written.{written, all_parts, right_sides}
 
 unfoldable pub language : Table
 language = table_from SPANS ROWS SYMBOLS
@@ -26,8 +25,3 @@ language_is = refl
 pub language_parts : length language_sets.height ≡ 98
 unfolding language_sets
 language_parts = refl
-
--- the table has the written productions
-pub language_written : map right_sides language.productions ≡ map written all_parts
-unfolding language
-language_written = refl

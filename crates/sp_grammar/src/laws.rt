@@ -1,5 +1,5 @@
 // What the table has to do with the grammar.
-ghost use Rattle.std.specs.Prelude.{◌≡◌, ℕ, List, map, false};
+ghost use Rattle.std.specs.Prelude.{◌≡◌, ℕ, List, false};
 ghost use Rattle.sp_parser.specs.declared.symbol.Event.{Event};
 ghost use Rattle.sp_parser.specs.Grammar.{Derives, productions_of};
 ghost use Rattle.sp_grammar.specs.declared.language.Start.{Start};
@@ -11,12 +11,7 @@ ghost use Rattle.sp_grammar.specs.Own.{own, alternatives, is_piece};
 ghost use Rattle.sp_grammar.specs.Reads.{IsRead};
 ghost use Rattle.sp_grammar.specs.Starts.{start_number};
 ghost use Rattle.sp_grammar.specs.Terminals.{terminal_number};
-ghost use Rattle.sp_grammar.specs.Written.{Part, part_number, written, all_parts, right_sides};
-
-/// The table has the productions that a script wrote beside it in words, and no other.
-pub fn table_is_written()
-    ensures { map right_sides language.productions ≡ map written all_parts }
-{}
+ghost use Rattle.sp_grammar.specs.Written.{Part, part_number};
 
 /// The table derives from each part (modules, types, expressions, statements and all that they consist of) exactly what
 /// the grammar in its own words reads, passing the same marks. There each binary level is left-recursive, and so groups

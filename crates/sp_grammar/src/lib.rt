@@ -10,9 +10,7 @@ mod terminals;
 mod tests;
 
 pub use language::{Language, Start, parse_kinds};
-pub use laws::{
-    grammar_is_unambiguous, numbers_are_apart, table_is_written, table_reads_the_grammar,
-};
+pub use laws::{grammar_is_unambiguous, numbers_are_apart, table_reads_the_grammar};
 pub use marks::{Mark, mark_of};
 pub use tables::{ROWS, SPANS, SYMBOLS};
 pub use terminals::Terminal;
