@@ -15,12 +15,17 @@ use sp_runs::derivation_is_one;
 /// module, a type a type, a statement a statement and an expression an expression. So the rules of the marks find what
 /// they want at each place, whatever the text is.
 pub fn every_text_is_built()
-    ensures { (start : Start) (text : List ℕ) (tokens : List Token) (m : ℕ) (events : List Event) → IsText start tokens m events → (t : Tree) × (is_of (group_of start) t ≡ true) × IsBuilt text tokens events t }
+    ensures { (start : Start) (text : List ℕ) (tokens : List Token) (m : ℕ) (events : List Event)
+        → IsText start tokens m events → (t : Tree) × (is_of (group_of start) t ≡ true)
+        × IsBuilt text tokens events t }
 {}
 
 /// A run of tokens has one tree at most.
 pub fn tree_is_one()
-    ensures { (start : Start) (text : List ℕ) (tokens : List Token) (m : ℕ) (first second : List Event) (t u : Tree) → IsText start tokens m first → IsText start tokens m second → IsBuilt text tokens first t → IsBuilt text tokens second u → t ≡ u }
+    ensures { (start : Start) (text : List ℕ) (tokens : List Token) (m : ℕ)
+        (first second : List Event) (t u : Tree) → IsText start tokens m first
+        → IsText start tokens m second → IsBuilt text tokens first t
+        → IsBuilt text tokens second u → t ≡ u }
 {
     derivation_is_one();
 }

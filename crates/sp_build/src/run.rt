@@ -22,7 +22,9 @@ fn run(
     stack: &mut Vec<Item>,
 ) -> Result<bool, NoMemory>
     requires { from ≤ length tokens.now.list }
-    ensures { IfOk result (λ yes. IsStep yes (all_done tokens.now.text (drop from tokens.now.list) events.now (reverse stack.old.items)) (reverse stack.new.items)) }
+    ensures { IfOk result (λ yes. IsStep yes
+        (all_done tokens.now.text (drop from tokens.now.list) events.now
+        (reverse stack.old.items)) (reverse stack.new.items)) }
 {
     for event in events {
         let Some(mark) = mark_of(event.mark) else {

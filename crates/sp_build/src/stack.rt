@@ -85,9 +85,13 @@ pub(crate) fn opened(stack: &mut Vec<Item>) -> Option<usize>
 
 /// Takes the last tree, if it is wanted, and else nothing.
 fn next_wanted(stack: &mut Vec<Item>, wanted: Wanted) -> Result<Option<BoundedTree>, NoMemory>
-    ensures some { IfOk result (λ o. IfSome o (λ t. (reverse stack.old.items ≡ item_is.Built t ∷ reverse stack.new.items) × (passes wanted t ≡ true))) }
-    ensures fewer { IfOk result (λ o. IfSome o (λ t. length stack.new.items < length stack.old.items)) }
-    ensures none { IfOk result (λ o. IfNone o ((reverse stack.new.items ≡ reverse stack.old.items) × Ends (passes wanted) (reverse stack.old.items))) }
+    ensures some { IfOk result (λ o. IfSome o (λ t.
+        (reverse stack.old.items ≡ item_is.Built t ∷ reverse stack.new.items)
+        × (passes wanted t ≡ true))) }
+    ensures fewer { IfOk result (λ o. IfSome o (λ t. length stack.new.items
+        < length stack.old.items)) }
+    ensures none { IfOk result (λ o. IfNone o ((reverse stack.new.items ≡ reverse stack.old.items)
+        × Ends (passes wanted) (reverse stack.old.items))) }
 {
     match take(stack) {
         Some(Item::Built(tree)) => {
@@ -111,8 +115,10 @@ pub(crate) fn gather(
     wanted: Wanted,
     found: &mut Parts,
 ) -> Result<(), NoMemory>
-    ensures value { OnOk result ((gathered (passes wanted) (reverse stack.old.items) (reverse found.old)).value ≡ reverse found.new) }
-    ensures rest { OnOk result ((gathered (passes wanted) (reverse stack.old.items) (reverse found.old)).rest ≡ reverse stack.new.items) }
+    ensures value { OnOk result ((gathered (passes wanted) (reverse stack.old.items)
+        (reverse found.old)).value ≡ reverse found.new) }
+    ensures rest { OnOk result ((gathered (passes wanted) (reverse stack.old.items)
+        (reverse found.old)).rest ≡ reverse stack.new.items) }
 {
     while let Some(tree) = next_wanted(stack, wanted)? {
         found.push(tree)?;

@@ -18,7 +18,8 @@ use std::alloc::Global;
 
 /// Takes what a slot wants, behind the parts that are found, or answers false.
 fn fill(stack: &mut Vec<Item>, slot: Slot, found: &mut Parts) -> Result<bool, NoMemory>
-    ensures { IfOk result (λ yes. IsFilled yes slot (reverse found.old) (reverse stack.old.items) (reverse found.new) (reverse stack.new.items)) }
+    ensures { IfOk result (λ yes. IsFilled yes slot (reverse found.old) (reverse stack.old.items)
+        (reverse found.new) (reverse stack.new.items)) }
 {
     match slot {
         Slot::Part(sort) => {
@@ -34,7 +35,8 @@ fn fill(stack: &mut Vec<Item>, slot: Slot, found: &mut Parts) -> Result<bool, No
 
 /// Takes the parts that the slots want, the last ones on the stack.
 fn parts(alloc: Global, slots: &[Slot], stack: &mut Vec<Item>) -> Result<Option<Parts>, NoMemory>
-    ensures { IfOk result (λ o. IsTaken o (popped_parts slots.now (reverse stack.old.items)) (reverse stack.new.items)) }
+    ensures { IfOk result (λ o. IsTaken o (popped_parts slots.now (reverse stack.old.items))
+        (reverse stack.new.items)) }
 {
     let mut found = Parts::with_capacity(alloc, slots.len())?;
     let mut left = slots.len();
@@ -54,7 +56,8 @@ fn closed(
     slots: &[Slot],
     stack: &mut Vec<Item>,
 ) -> Result<Option<(usize, Parts)>, NoMemory>
-    ensures { IfOk result (λ o. IsClosed (option_map (λ x. (x.0, x.1)) o) slots.now (reverse stack.old.items) (reverse stack.new.items)) }
+    ensures { IfOk result (λ o. IsClosed (option_map (λ x. (x.0, x.1)) o) slots.now
+        (reverse stack.old.items) (reverse stack.new.items)) }
 {
     let Some(parts) = parts(alloc, slots, stack)? else {
         return Ok(None);
@@ -74,7 +77,8 @@ fn leaf_tree(
     what: Leaf,
 ) -> Result<Option<BoundedTree>, NoMemory>
     requires { from ≤ length tokens.now.list }
-    ensures { IfOk result (λ o. o ≡ leaf tokens.now.text (leaf_view what) (token_of (drop from tokens.now.list) at)) }
+    ensures { IfOk result (λ o. o ≡ leaf tokens.now.text (leaf_view what)
+        (token_of (drop from tokens.now.list) at)) }
 {
     let rest = &tokens.as_slice()[from..];
     if at < rest.len() {
@@ -106,7 +110,8 @@ fn worded_form(worded: Worded, word: IntWord) -> Form
 }
 
 fn gathers(alloc: Global, stack: &mut Vec<Item>) -> Result<bool, NoMemory>
-    ensures { IfOk result (λ yes. IsStep yes (done_by gathers [] [] 0 (reverse stack.old.items)) (reverse stack.new.items)) }
+    ensures { IfOk result (λ yes. IsStep yes (done_by gathers [] [] 0 (reverse stack.old.items))
+        (reverse stack.new.items)) }
 {
     let mut row = Parts::new(alloc);
     gather(stack, Wanted::Nodes, &mut row)?;
@@ -128,7 +133,9 @@ fn closes(
     stack: &mut Vec<Item>,
 ) -> Result<bool, NoMemory>
     requires { from ≤ length tokens.now.list }
-    ensures { IfOk result (λ yes. IsStep yes (done_by (closes slots.now form) tokens.now.text (drop from tokens.now.list) at (reverse stack.old.items)) (reverse stack.new.items)) }
+    ensures { IfOk result (λ yes. IsStep yes
+        (done_by (closes slots.now form) tokens.now.text (drop from tokens.now.list) at
+        (reverse stack.old.items)) (reverse stack.new.items)) }
 {
     let rest = &tokens.as_slice()[from..];
     let Some((place, parts)) = closed(alloc, slots, stack)? else {
@@ -149,7 +156,9 @@ fn closes_integer(
     stack: &mut Vec<Item>,
 ) -> Result<bool, NoMemory>
     requires { from ≤ length tokens.now.list }
-    ensures { IfOk result (λ yes. IsStep yes (done_by (closes_integer slots.now (worded_form worded)) tokens.now.text (drop from tokens.now.list) at (reverse stack.old.items)) (reverse stack.new.items)) }
+    ensures { IfOk result (λ yes. IsStep yes
+        (done_by (closes_integer slots.now (worded_form worded)) tokens.now.text
+        (drop from tokens.now.list) at (reverse stack.old.items)) (reverse stack.new.items)) }
 {
     let rest = &tokens.as_slice()[from..];
     let Some((place, parts)) = closed(alloc, slots, stack)? else {
@@ -172,7 +181,9 @@ fn closes_attribute(
     stack: &mut Vec<Item>,
 ) -> Result<bool, NoMemory>
     requires { from ≤ length tokens.now.list }
-    ensures { IfOk result (λ yes. IsStep yes (done_by (closes_attribute slots.now (λ name. form_is.Attribute name)) tokens.now.text (drop from tokens.now.list) at (reverse stack.old.items)) (reverse stack.new.items)) }
+    ensures { IfOk result (λ yes. IsStep yes
+        (done_by (closes_attribute slots.now (λ name. form_is.Attribute name)) tokens.now.text
+        (drop from tokens.now.list) at (reverse stack.old.items)) (reverse stack.new.items)) }
 {
     let rest = &tokens.as_slice()[from..];
     let Some((place, parts)) = closed(alloc, slots, stack)? else {
@@ -193,7 +204,9 @@ fn encloses(
     stack: &mut Vec<Item>,
 ) -> Result<bool, NoMemory>
     requires { from ≤ length tokens.now.list }
-    ensures { IfOk result (λ yes. IsStep yes (done_by encloses tokens.now.text (drop from tokens.now.list) at (reverse stack.old.items)) (reverse stack.new.items)) }
+    ensures { IfOk result (λ yes. IsStep yes
+        (done_by encloses tokens.now.text (drop from tokens.now.list) at
+        (reverse stack.old.items)) (reverse stack.new.items)) }
 {
     let rest = &tokens.as_slice()[from..];
     let Some(tree) = popped(stack, Sort::One(Group::Expressions)) else {
@@ -230,7 +243,9 @@ fn joins(
     stack: &mut Vec<Item>,
 ) -> Result<bool, NoMemory>
     requires { from ≤ length tokens.now.list }
-    ensures { IfOk result (λ yes. IsStep yes (done_by (joins slots.now form) tokens.now.text (drop from tokens.now.list) at (reverse stack.old.items)) (reverse stack.new.items)) }
+    ensures { IfOk result (λ yes. IsStep yes
+        (done_by (joins slots.now form) tokens.now.text (drop from tokens.now.list) at
+        (reverse stack.old.items)) (reverse stack.new.items)) }
 {
     let rest = &tokens.as_slice()[from..];
     let Some(parts) = parts(alloc, slots, stack)? else {
@@ -242,7 +257,8 @@ fn joins(
 }
 
 fn wraps(alloc: Global, group: Group, form: Form, stack: &mut Vec<Item>) -> Result<bool, NoMemory>
-    ensures { IfOk result (λ yes. IsStep yes (done_by (wraps group form) [] [] 0 (reverse stack.old.items)) (reverse stack.new.items)) }
+    ensures { IfOk result (λ yes. IsStep yes
+        (done_by (wraps group form) [] [] 0 (reverse stack.old.items)) (reverse stack.new.items)) }
 {
     let Some(tree) = popped(stack, Sort::One(group)) else {
         return Ok(false);
@@ -264,7 +280,9 @@ fn step_by(
     stack: &mut Vec<Item>,
 ) -> Result<bool, NoMemory>
     requires { from ≤ length tokens.now.list }
-    ensures { IfOk result (λ yes. IsStep yes (done_by (rule_view rule) tokens.now.text (drop from tokens.now.list) at (reverse stack.old.items)) (reverse stack.new.items)) }
+    ensures { IfOk result (λ yes. IsStep yes
+        (done_by (rule_view rule) tokens.now.text (drop from tokens.now.list) at
+        (reverse stack.old.items)) (reverse stack.new.items)) }
 {
     match rule {
         Rule::Begins => {
@@ -305,7 +323,9 @@ pub(crate) fn step(
     stack: &mut Vec<Item>,
 ) -> Result<bool, NoMemory>
     requires { from ≤ length tokens.now.list }
-    ensures { IfOk result (λ yes. IsStep yes (marked mark tokens.now.text (drop from tokens.now.list) at (reverse stack.old.items)) (reverse stack.new.items)) }
+    ensures { IfOk result (λ yes. IsStep yes
+        (marked mark tokens.now.text (drop from tokens.now.list) at (reverse stack.old.items))
+        (reverse stack.new.items)) }
 {
     step_by(alloc, tokens, from, at, rule_of(mark), stack)
 }

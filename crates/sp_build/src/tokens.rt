@@ -118,7 +118,8 @@ fn hook_name_of(hook: Hook) -> HookName
 }
 
 fn event_of(kind: TokenKind) -> Option<HookName>
-    ensures { (form : HookName → Form) (bytes : List ℕ) → option_map form result ≡ form_of (by_event form) kind bytes }
+    ensures { (form : HookName → Form) (bytes : List ℕ)
+        → option_map form result ≡ form_of (by_event form) kind bytes }
 {
     match kind {
         TokenKind::Hook(hook) => Some(hook_name_of(hook)),
@@ -128,7 +129,9 @@ fn event_of(kind: TokenKind) -> Option<HookName>
 
 fn name_of(alloc: Global, tokens: &Tokens, at: usize) -> Result<Option<Text>, NoMemory>
     requires { at < length tokens.now.list }
-    ensures { IfOk result (λ o. (form : List ℕ → Form) → option_map form o ≡ form_of (by_name form) (kind_at tokens.now at) (bytes_at tokens.now at)) }
+    ensures { IfOk result (λ o. (form : List ℕ → Form)
+        → option_map form o ≡ form_of (by_name form) (kind_at tokens.now at)
+        (bytes_at tokens.now at)) }
 {
     let kind = tokens.as_slice()[at].kind;
     match kind {
@@ -139,7 +142,9 @@ fn name_of(alloc: Global, tokens: &Tokens, at: usize) -> Result<Option<Text>, No
 
 fn string_of(alloc: Global, tokens: &Tokens, at: usize) -> Result<Option<Text>, NoMemory>
     requires { at < length tokens.now.list }
-    ensures { IfOk result (λ o. (form : List ℕ → Form) → option_map form o ≡ form_of (by_string form) (kind_at tokens.now at) (bytes_at tokens.now at)) }
+    ensures { IfOk result (λ o. (form : List ℕ → Form)
+        → option_map form o ≡ form_of (by_string form) (kind_at tokens.now at)
+        (bytes_at tokens.now at)) }
 {
     let kind = tokens.as_slice()[at].kind;
     match kind {
@@ -150,7 +155,9 @@ fn string_of(alloc: Global, tokens: &Tokens, at: usize) -> Result<Option<Text>, 
 
 fn bytes_of(alloc: Global, tokens: &Tokens, at: usize) -> Result<Option<ByteList>, NoMemory>
     requires { at < length tokens.now.list }
-    ensures { IfOk result (λ o. (form : List ℕ → Form) → option_map form o ≡ form_of (by_bytes form) (kind_at tokens.now at) (bytes_at tokens.now at)) }
+    ensures { IfOk result (λ o. (form : List ℕ → Form)
+        → option_map form o ≡ form_of (by_bytes form) (kind_at tokens.now at)
+        (bytes_at tokens.now at)) }
 {
     let kind = tokens.as_slice()[at].kind;
     match kind {
@@ -161,7 +168,9 @@ fn bytes_of(alloc: Global, tokens: &Tokens, at: usize) -> Result<Option<ByteList
 
 fn regex_of(alloc: Global, tokens: &Tokens, at: usize) -> Result<Option<Text>, NoMemory>
     requires { at < length tokens.now.list }
-    ensures { IfOk result (λ o. (form : List ℕ → Form) → option_map form o ≡ form_of (by_regex form) (kind_at tokens.now at) (bytes_at tokens.now at)) }
+    ensures { IfOk result (λ o. (form : List ℕ → Form)
+        → option_map form o ≡ form_of (by_regex form) (kind_at tokens.now at)
+        (bytes_at tokens.now at)) }
 {
     let kind = tokens.as_slice()[at].kind;
     match kind {
@@ -172,7 +181,8 @@ fn regex_of(alloc: Global, tokens: &Tokens, at: usize) -> Result<Option<Text>, N
 
 fn number_of(tokens: &Tokens, at: usize) -> Option<u64>
     requires { at < length tokens.now.list }
-    ensures { (form : ℕ → Form) → option_map form result ≡ form_of (by_number form) (kind_at tokens.now at) (bytes_at tokens.now at) }
+    ensures { (form : ℕ → Form) → option_map form result ≡ form_of (by_number form)
+        (kind_at tokens.now at) (bytes_at tokens.now at) }
 {
     let kind = tokens.as_slice()[at].kind;
     match kind {
@@ -189,7 +199,8 @@ pub(crate) fn form_of(
     leaf: Leaf,
 ) -> Result<Option<Form>, NoMemory>
     requires { at < length tokens.now.list }
-    ensures { IfOk result (λ o. o ≡ form_of (leaf_view leaf) (kind_at tokens.now at) (bytes_at tokens.now at)) }
+    ensures { IfOk result (λ o. o ≡ form_of (leaf_view leaf) (kind_at tokens.now at)
+        (bytes_at tokens.now at)) }
 {
     let kind = tokens.as_slice()[at].kind;
     match leaf {

@@ -10,7 +10,8 @@ pub fn put_text<O: Out>(out: &mut O, text: &[u8]) -> Result<(), OutFault>
     requires { O.faults out.old < 2 ^ 64 - 1 }
     ensures held { OnOk result (O.held out.new ≡ appended (O.held out.old) text.now) }
     ensures part { OnErr result (IsPartPut (O.held out.old) (O.held out.new) text.now) }
-    ensures cause { MatchResult result (λ _. O.faults out.new ≡ O.faults out.old) (PutCause (O.faults out.old) (O.faults out.new)) }
+    ensures cause { MatchResult result (λ _. O.faults out.new ≡ O.faults out.old)
+        (PutCause (O.faults out.old) (O.faults out.new)) }
 {
     put_all(out, text)
 }

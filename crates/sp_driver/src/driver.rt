@@ -24,11 +24,35 @@ fn drive<M: Modules, S: Source, O: Out>(
     requires input_faults { S.faults input.old < 2 ^ 64 - 1 }
     requires out_faults { O.faults out.old < 2 ^ 64 - 1 }
     ensures says { Says words.now (M.files modules.old)
-        (record { left = S.left input.old; held = O.held out.old; faults = record { modules = M.faults modules.old; input = S.faults input.old; out = O.faults out.old } })
-        (record { left = S.left input.new; held = O.held out.new; faults = record { modules = M.faults modules.new; input = S.faults input.new; out = O.faults out.new } }) result }
+        (record {
+          left = S.left input.old;
+          held = O.held out.old;
+          faults = record {
+            modules = M.faults modules.old;
+            input = S.faults input.old;
+            out = O.faults out.old;
+          };
+        })
+        (record {
+          left = S.left input.new;
+          held = O.held out.new;
+          faults = record {
+            modules = M.faults modules.new;
+            input = S.faults input.new;
+            out = O.faults out.new;
+          };
+        }) result }
     ensures cause { ExitCause
-        (record { modules = M.faults modules.old; input = S.faults input.old; out = O.faults out.old })
-        (record { modules = M.faults modules.new; input = S.faults input.new; out = O.faults out.new }) result }
+        (record {
+          modules = M.faults modules.old;
+          input = S.faults input.old;
+          out = O.faults out.old;
+        })
+        (record {
+          modules = M.faults modules.new;
+          input = S.faults input.new;
+          out = O.faults out.new;
+        }) result }
 {
     let Some(wanted) = words_wanted(words) else {
         return Exit::Usage;
@@ -81,7 +105,8 @@ fn status(exit: &Exit) -> u8
 fn report<E: Out>(alloc: Global, exit: &Exit, err: &mut E) -> u8
     requires { E.faults err.old < 2 ^ 64 - 1 }
     ensures { Reported exit.now
-        (record { held = E.held err.old; faults = E.faults err.old }) (record { held = E.held err.new; faults = E.faults err.new }) result }
+        (record { held = E.held err.old; faults = E.faults err.old })
+        (record { held = E.held err.new; faults = E.faults err.new }) result }
 {
     let Ok(message) = message(alloc, exit) else {
         return 7;
@@ -108,13 +133,40 @@ pub fn spicy_driver<M: Modules, S: Source, O: Out, E: Out>(
     requires out_faults { O.faults out.old < 2 ^ 64 - 1 }
     requires err_faults { E.faults err.old < 2 ^ 64 - 1 }
     ensures exits { Ended words.now (M.files modules.old)
-        (record { left = S.left input.old; held = O.held out.old; faults = record { modules = M.faults modules.old; input = S.faults input.old; out = O.faults out.old } })
-        (record { left = S.left input.new; held = O.held out.new; faults = record { modules = M.faults modules.new; input = S.faults input.new; out = O.faults out.new } })
+        (record {
+          left = S.left input.old;
+          held = O.held out.old;
+          faults = record {
+            modules = M.faults modules.old;
+            input = S.faults input.old;
+            out = O.faults out.old;
+          };
+        })
+        (record {
+          left = S.left input.new;
+          held = O.held out.new;
+          faults = record {
+            modules = M.faults modules.new;
+            input = S.faults input.new;
+            out = O.faults out.new;
+          };
+        })
         (record { held = E.held err.old; faults = E.faults err.old })
         (record { held = E.held err.new; faults = E.faults err.new }) result }
-    ensures causes { IsCausedBy (record { modules = M.faults modules.old; input = S.faults input.old; out = O.faults out.old; err = E.faults err.old })
-        (record { modules = M.faults modules.new; input = S.faults input.new; out = O.faults out.new; err = E.faults err.new }) result }
-    ensures answer { IsAnswered words.now (M.files modules.old) (S.left input.old) (O.held out.old) (O.held out.new) (E.held err.old) (E.held err.new) result }
+    ensures causes { IsCausedBy (record {
+      modules = M.faults modules.old;
+      input = S.faults input.old;
+      out = O.faults out.old;
+      err = E.faults err.old;
+    })
+        (record {
+          modules = M.faults modules.new;
+          input = S.faults input.new;
+          out = O.faults out.new;
+          err = E.faults err.new;
+        }) result }
+    ensures answer { IsAnswered words.now (M.files modules.old) (S.left input.old) (O.held out.old)
+        (O.held out.new) (E.held err.old) (E.held err.new) result }
 {
     let exit = drive(alloc, words, modules, input, out);
     report(alloc, &exit, err)

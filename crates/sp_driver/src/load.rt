@@ -18,9 +18,11 @@ const MOST_TEXT: usize = 1_048_576;
 /// The unit of the module at the path.
 pub fn load<M: Modules>(alloc: Global, path: &str, modules: &mut M) -> Result<Program, Exit>
     requires { M.faults modules.old < 2 ^ 64 - 1 }
-    ensures ok { IfOk result (λ program. (content : Option (List ℕ)) × Holds (M.files modules.old) path.now content × IsLoaded content program.fields.items) }
+    ensures ok { IfOk result (λ program. (content : Option (List ℕ))
+        × Holds (M.files modules.old) path.now content × IsLoaded content program.fields.items) }
     ensures err { IfErr result (IsNotLoaded (M.files modules.old) path.now) }
-    ensures cause { MatchResult result (λ _. M.faults modules.new ≡ M.faults modules.old) (LoadCause (M.faults modules.old) (M.faults modules.new)) }
+    ensures cause { MatchResult result (λ _. M.faults modules.new ≡ M.faults modules.old)
+        (LoadCause (M.faults modules.old) (M.faults modules.new)) }
 {
     match modules.read(path) {
         Ok(Some(text)) => {

@@ -21,9 +21,12 @@ pub fn put_lines<O: Out>(
     out: &mut O,
 ) -> Result<(), Stop>
     requires { O.faults out.old < 2 ^ 64 - 1 }
-    ensures held { OnOk result (O.held out.new ≡ appended (O.held out.old) (lines_of flow.now events.now)) }
-    ensures part { OnErr result (IsPartPut (O.held out.old) (O.held out.new) (lines_of flow.now events.now)) }
-    ensures cause { MatchResult result (λ _. O.faults out.new ≡ O.faults out.old) (StopCause (O.faults out.old) (O.faults out.new)) }
+    ensures held { OnOk result (O.held out.new ≡ appended (O.held out.old)
+        (lines_of flow.now events.now)) }
+    ensures part { OnErr result (IsPartPut (O.held out.old) (O.held out.new)
+        (lines_of flow.now events.now)) }
+    ensures cause { MatchResult result (λ _. O.faults out.new ≡ O.faults out.old)
+        (StopCause (O.faults out.old) (O.faults out.new)) }
 {
     for event in events {
         let text = line(alloc, flow, event)?;
@@ -45,8 +48,10 @@ pub fn fill<S: Source>(n: u64, input: &mut S, piece: &mut ByteList) -> Result<bo
     ensures bound { length piece.new ≤ n }
     ensures full { result ≡ Ok true → length piece.new ≡ n }
     ensures short { OnErr result (length piece.new < n) }
-    ensures end { result ≡ Ok false → (length piece.new < n) × MatchOption (S.left input.new) (Unit {0}) (λ left. left ≡ []) }
-    ensures cause { MatchResult result (λ _. S.faults input.new ≡ S.faults input.old) (SourceCause (S.faults input.old) (S.faults input.new)) }
+    ensures end { result ≡ Ok false → (length piece.new < n)
+        × MatchOption (S.left input.new) (Unit {0}) (λ left. left ≡ []) }
+    ensures cause { MatchResult result (λ _. S.faults input.new ≡ S.faults input.old)
+        (SourceCause (S.faults input.old) (S.faults input.new)) }
 {
     while (piece.len() as u64) < n {
         let most = n - piece.len() as u64;

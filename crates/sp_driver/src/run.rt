@@ -44,15 +44,21 @@ fn step<O: Out>(
 ) -> Result<(), Stop>
     requires room { received session.old + length piece.now ≤ 2 ^ 62 }
     requires faults { O.faults out.old < 2 ^ 64 - 1 }
-    ensures stands { (s : List ℕ) → StandsFor session.old s → OnOk result (StandsFor session.new (s ++ piece.now)) }
+    ensures stands { (s : List ℕ) → StandsFor session.old s
+        → OnOk result (StandsFor session.new (s ++ piece.now)) }
     ensures fed { (s : List ℕ) → StandsFor session.old s → OnOk result (IsFed session.new) }
     ensures received { OnOk result (received session.new ≡ received session.old + length piece.now) }
-    ensures held { (s : List ℕ) → StandsFor session.old s → OnOk result (O.held out.new ≡ appended (O.held out.old)
-        (lines_of flow_name (drop (length (told_by session.old s)) (means session.old (s ++ piece.now) held_open).events))) }
-    ensures part { (s : List ℕ) → StandsFor session.old s → OnErr result (IsPartPut (O.held out.old) (O.held out.new)
-        (lines_of flow_name (drop (length (told_by session.old s)) (means session.old (s ++ piece.now) held_open).events))) }
+    ensures held { (s : List ℕ) → StandsFor session.old s
+        → OnOk result (O.held out.new ≡ appended (O.held out.old)
+        (lines_of flow_name (drop (length (told_by session.old s))
+        (means session.old (s ++ piece.now) held_open).events))) }
+    ensures part { (s : List ℕ) → StandsFor session.old s
+        → OnErr result (IsPartPut (O.held out.old) (O.held out.new)
+        (lines_of flow_name (drop (length (told_by session.old s))
+        (means session.old (s ++ piece.now) held_open).events))) }
     ensures means { means session.new ≡ means session.old }
-    ensures cause { MatchResult result (λ _. O.faults out.new ≡ O.faults out.old) (StopCause (O.faults out.old) (O.faults out.new)) }
+    ensures cause { MatchResult result (λ _. O.faults out.new ≡ O.faults out.old)
+        (StopCause (O.faults out.old) (O.faults out.new)) }
 {
     let mut events = Events::new(alloc);
     session.feed(piece, &mut events)?;
@@ -63,13 +69,18 @@ fn step<O: Out>(
 fn finish<O: Out>(alloc: Global, session: &mut Session<'_>, out: &mut O) -> Result<RunExit, Stop>
     requires { O.faults out.old < 2 ^ 64 - 1 }
     ensures held { (s : List ℕ) → StandsFor session.old s → IsFed session.old
-        → OnOk result (O.held out.new ≡ appended (O.held out.old) (added (means session.old) s s ended)) }
+        → OnOk result (O.held out.new ≡ appended (O.held out.old)
+        (added (means session.old) s s ended)) }
     ensures part { (s : List ℕ) → StandsFor session.old s → IsFed session.old
-        → OnErr result (IsPartPut (O.held out.old) (O.held out.new) (added (means session.old) s s ended)) }
-    ensures exit { (s : List ℕ) → StandsFor session.old s → IfOk result (λ exit. exit ≡ exit_of_stand (means session.old s ended).stand) }
-    ensures decided { (s : List ℕ) → StandsFor session.old s → IfOk result (λ _. (means session.old s ended).stand ≢ Waiting) }
+        → OnErr result (IsPartPut (O.held out.old) (O.held out.new)
+        (added (means session.old) s s ended)) }
+    ensures exit { (s : List ℕ) → StandsFor session.old s
+        → IfOk result (λ exit. exit ≡ exit_of_stand (means session.old s ended).stand) }
+    ensures decided { (s : List ℕ) → StandsFor session.old s
+        → IfOk result (λ _. (means session.old s ended).stand ≢ Waiting) }
     ensures over { IfOk result IsOver }
-    ensures cause { MatchResult result (λ _. O.faults out.new ≡ O.faults out.old) (StopCause (O.faults out.old) (O.faults out.new)) }
+    ensures cause { MatchResult result (λ _. O.faults out.new ≡ O.faults out.old)
+        (StopCause (O.faults out.old) (O.faults out.new)) }
 {
     let mut events = Events::new(alloc);
     let exit = exit_by(&session.end(&mut events)?);
@@ -110,12 +121,16 @@ fn turn<S: Source, O: Out>(
     requires room { received session.old ≤ 2 ^ 62 }
     requires input_faults { S.faults input.old < 2 ^ 64 - 1 }
     requires out_faults { O.faults out.old < 2 ^ 64 - 1 }
-    ensures turned { (left held : Option (List ℕ)) (s : List ℕ) (j : ℕ) → IsFedBy (means session.old) n session.old left (S.left input.old) held (O.held out.old) s j
-        → Turned (means session.old) n session.new left (S.left input.new) held (O.held out.new) result }
+    ensures turned { (left held : Option (List ℕ)) (s : List ℕ) (j : ℕ)
+        → IsFedBy (means session.old) n session.old left (S.left input.old) held (O.held out.old)
+        s j
+        → Turned (means session.old) n session.new left (S.left input.new) held (O.held out.new)
+        result }
     ensures room { result ≡ Turn.More → received session.new ≤ 2 ^ 62 }
     ensures more { result ≡ Turn.More → received session.old < received session.new }
     ensures means { result ≡ Turn.More → means session.new ≡ means session.old }
-    ensures cause { TurnCause (S.faults input.old) (S.faults input.new) (O.faults out.old) (O.faults out.new) result }
+    ensures cause { TurnCause (S.faults input.old) (S.faults input.new) (O.faults out.old)
+        (O.faults out.new) result }
 {
     piece.clear();
     let full = match fill(n, input, piece) {
@@ -151,8 +166,10 @@ pub fn run_unit<S: Source, O: Out>(
     requires small { n ≤ 65536 }
     requires input_faults { S.faults input.old < 2 ^ 64 - 1 }
     requires out_faults { O.faults out.old < 2 ^ 64 - 1 }
-    ensures runs { Runs (run_meaning program.now.fields.items) n (S.left input.old) (S.left input.new) (O.held out.old) (O.held out.new) result }
-    ensures cause { RunCause (S.faults input.old) (S.faults input.new) (O.faults out.old) (O.faults out.new) result }
+    ensures runs { Runs (run_meaning program.now.fields.items) n (S.left input.old)
+        (S.left input.new) (O.held out.old) (O.held out.new) result }
+    ensures cause { RunCause (S.faults input.old) (S.faults input.new) (O.faults out.old)
+        (O.faults out.new) result }
 {
     let Ok(mut session) = Session::start(alloc, program, FIRST_UNIT, LIMITS) else {
         return RunExit::NoMemory;

@@ -38,7 +38,8 @@ fn increment(digits: &[u8]) -> Option<u64>
 
 /// What the words want, or `None` at a usage fault.
 pub fn words_wanted(words: &[Text]) -> Option<Wanted<'_>>
-    ensures value { option_map (λ w. record { increment = w.increment; file = w.file.now }) result ≡ words_of words.now }
+    ensures value { option_map (λ w. record { increment = w.increment; file = w.file.now }) result
+        ≡ words_of words.now }
     ensures bound { IfSome result (λ w. (1 ≤ w.increment) × (w.increment ≤ 65536)) }
 {
     match words {

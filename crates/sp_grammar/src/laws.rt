@@ -18,14 +18,18 @@ ghost use Rattle.sp_grammar.specs.Written.{Part, part_number};
 /// to the left, and each alternative is whole; an `else` belongs to the nearest `if`, and a `(` after `new` and a path
 /// begins the arguments. Pieces that only the table has are left out.
 pub fn table_reads_the_grammar()
-    ensures derived { (p : Part) → is_piece p ≡ false → (kinds : List ℕ) (marks : List Event) → Derives language (part_number p) kinds marks → IsRead own (part_number p) kinds marks }
-    ensures read { (p : Part) → is_piece p ≡ false → (kinds : List ℕ) (marks : List Event) → IsRead own (part_number p) kinds marks → Derives language (part_number p) kinds marks }
+    ensures derived { (p : Part) → is_piece p ≡ false → (kinds : List ℕ) (marks : List Event)
+        → Derives language (part_number p) kinds marks → IsRead own (part_number p) kinds marks }
+    ensures read { (p : Part) → is_piece p ≡ false → (kinds : List ℕ) (marks : List Event)
+        → IsRead own (part_number p) kinds marks → Derives language (part_number p) kinds marks }
 {}
 
 /// The grammar in its own words is unambiguous: kinds of tokens are read as a module, a type, an expression or a statement
 /// with at most one list of marks.
 pub fn grammar_is_unambiguous()
-    ensures { (s : Start) (kinds : List ℕ) (marks others : List Event) → IsRead own (start_number s) kinds marks → IsRead own (start_number s) kinds others → marks ≡ others }
+    ensures { (s : Start) (kinds : List ℕ) (marks others : List Event)
+        → IsRead own (start_number s) kinds marks → IsRead own (start_number s) kinds others
+        → marks ≡ others }
 {}
 
 /// Each kind of token, each mark and each part has a number of its own, and the grammar has the alternatives of a part at

@@ -34,7 +34,8 @@ impl MemModules {
         fails: &[u64],
     ) -> Result<MemModules, NoMemory>
         ensures files { IfOk result (λ modules. modules.files ≡ files.now) }
-        ensures calls { IfOk result (λ modules. modules.calls ≡ record { next = 0; fails = fails.now; faults = 0 }) }
+        ensures calls { IfOk result (λ modules. modules.calls
+            ≡ record { next = 0; fails = fails.now; faults = 0 }) }
     {
         let calls = FailingCalls::new(alloc, fails)?;
         Ok(MemModules {
@@ -75,8 +76,10 @@ impl Modules for MemModules {
     fn read(&mut self, path: &str) -> Result<Option<ByteList>, ModulesFault>
         ensures content { IfOk result (λ answer. answer ≡ lookup self.old.files path.now) }
         ensures files { self.new.files ≡ self.old.files }
-        ensures cause { MatchResult result (λ _. self.new.calls.faults ≡ self.old.calls.faults) (ModulesCause self.old.calls.faults self.new.calls.faults) }
-        ensures listed { (result ≡ Err modules_fault.Failed) ↔ Contains self.old.calls.fails self.old.calls.next }
+        ensures cause { MatchResult result (λ _. self.new.calls.faults ≡ self.old.calls.faults)
+            (ModulesCause self.old.calls.faults self.new.calls.faults) }
+        ensures listed { (result ≡ Err modules_fault.Failed)
+            ↔ Contains self.old.calls.fails self.old.calls.next }
         ensures next { IsNextCall self.old.calls self.new.calls }
     {
         if self.calls.next_fails() {

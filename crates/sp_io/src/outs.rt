@@ -29,7 +29,8 @@ impl MemOut {
     /// Holds nothing yet. `fails` lists the calls of `put`, counted from 0, that fail.
     pub fn new(alloc: Global, fails: &[u64]) -> Result<MemOut, NoMemory>
         ensures held { IfOk result (λ out. out.held ≡ []) }
-        ensures calls { IfOk result (λ out. out.calls ≡ record { next = 0; fails = fails.now; faults = 0 }) }
+        ensures calls { IfOk result (λ out. out.calls
+            ≡ record { next = 0; fails = fails.now; faults = 0 }) }
     {
         let calls = FailingCalls::new(alloc, fails)?;
         Ok(MemOut {
@@ -55,8 +56,10 @@ impl Out for MemOut {
         ensures whole { IfOk result (λ n. n ≡ length piece.now) }
         ensures held { OnOk result (self.new.held ≡ self.old.held ++ piece.now) }
         ensures err { OnErr result (self.new.held ≡ self.old.held) }
-        ensures cause { MatchResult result (λ _. self.new.calls.faults ≡ self.old.calls.faults) (OutCause self.old.calls.faults self.new.calls.faults) }
-        ensures listed { (result ≡ Err out_fault.Failed) ↔ Contains self.old.calls.fails self.old.calls.next }
+        ensures cause { MatchResult result (λ _. self.new.calls.faults ≡ self.old.calls.faults)
+            (OutCause self.old.calls.faults self.new.calls.faults) }
+        ensures listed { (result ≡ Err out_fault.Failed)
+            ↔ Contains self.old.calls.fails self.old.calls.next }
         ensures next { IsNextCall self.old.calls self.new.calls }
     {
         if self.calls.next_fails() {

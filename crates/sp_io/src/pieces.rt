@@ -49,7 +49,8 @@ impl Pieces {
     /// are used up.
     pub fn take(&mut self, most: u64, into: &mut ByteList) -> Result<Took, SourceFault>
         requires { 1 ≤ most }
-        ensures bytes { OnOk result (into.new ≡ into.old ++ take most (first_piece (passed self.old))) }
+        ensures bytes { OnOk result (into.new ≡ into.old ++ take most
+            (first_piece (passed self.old))) }
         ensures pieces { OnOk result (self.new ≡ unused most (passed self.old)) }
         ensures end { (result ≡ Ok took.End) ↔ (passed self.old ≡ []) }
         ensures err { OnErr result ((self.new ≡ self.old) × (into.new ≡ into.old)) }
@@ -74,7 +75,8 @@ impl Pieces {
 /// The first piece from `index` on that isn't used up, and how much of it is used; `used` tells that of the first.
 fn first_unused(pieces: &[ByteList], index: usize, used: usize) -> (usize, usize)
     requires { IsUsedWithin used (drop index pieces.now) }
-    ensures same { unused result.1 (drop result.0 pieces.now) ≡ passed (unused used (drop index pieces.now)) }
+    ensures same { unused result.1 (drop result.0 pieces.now) ≡ passed
+        (unused used (drop index pieces.now)) }
     ensures within { IsUsedWithin result.1 (drop result.0 pieces.now) }
 {
     let (mut at, mut taken) = (index, used);

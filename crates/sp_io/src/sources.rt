@@ -33,7 +33,8 @@ impl MemSource {
     /// Holds copies of these pieces. `fails` lists the calls of `take`, counted from 0, that fail.
     pub fn new(alloc: Global, pieces: &[ByteList], fails: &[u64]) -> Result<MemSource, NoMemory>
         ensures pieces { IfOk result (λ source. source.pieces ≡ pieces.now) }
-        ensures calls { IfOk result (λ source. source.calls ≡ record { next = 0; fails = fails.now; faults = 0 }) }
+        ensures calls { IfOk result (λ source. source.calls
+            ≡ record { next = 0; fails = fails.now; faults = 0 }) }
     {
         let calls = FailingCalls::new(alloc, fails)?;
         Ok(MemSource {
@@ -50,14 +51,18 @@ impl Source for MemSource {
 
     fn take(&mut self, most: u64, into: &mut ByteList) -> Result<Took, SourceFault>
         requires { 1 ≤ most }
-        ensures takes { Takes most (Some (concat self.old.pieces)) (Some (concat self.new.pieces)) into.old into.new result }
-        ensures cause { MatchResult result (λ _. self.new.calls.faults ≡ self.old.calls.faults) (SourceCause self.old.calls.faults self.new.calls.faults) }
+        ensures takes { Takes most (Some (concat self.old.pieces)) (Some (concat self.new.pieces))
+            into.old into.new result }
+        ensures cause { MatchResult result (λ _. self.new.calls.faults ≡ self.old.calls.faults)
+            (SourceCause self.old.calls.faults self.new.calls.faults) }
 
         // One piece at most, and all of it that fits.
-        ensures bytes { OnOk result (into.new ≡ into.old ++ take most (first_piece (passed self.old.pieces))) }
+        ensures bytes { OnOk result (into.new ≡ into.old ++ take most
+            (first_piece (passed self.old.pieces))) }
         ensures pieces { OnOk result (self.new.pieces ≡ unused most (passed self.old.pieces)) }
         ensures err { OnErr result (self.new.pieces ≡ self.old.pieces) }
-        ensures listed { (result ≡ Err source_fault.Failed) ↔ Contains self.old.calls.fails self.old.calls.next }
+        ensures listed { (result ≡ Err source_fault.Failed)
+            ↔ Contains self.old.calls.fails self.old.calls.next }
         ensures next { IsNextCall self.old.calls self.new.calls }
     {
         if self.calls.next_fails() {
@@ -100,11 +105,13 @@ impl Source for SureSource {
 
     fn take(&mut self, most: u64, into: &mut ByteList) -> Result<Took, SourceFault>
         requires { 1 ≤ most }
-        ensures takes { Takes most (Some (concat self.old)) (Some (concat self.new)) into.old into.new result }
+        ensures takes { Takes most (Some (concat self.old)) (Some (concat self.new))
+            into.old into.new result }
         ensures cause { IfErr result (λ fault. fault ≡ source_fault.NoMemory) }
 
         // One piece at most, and all of it that fits.
-        ensures bytes { OnOk result (into.new ≡ into.old ++ take most (first_piece (passed self.old))) }
+        ensures bytes { OnOk result (into.new ≡ into.old ++ take most
+            (first_piece (passed self.old))) }
         ensures pieces { OnOk result (self.new ≡ unused most (passed self.old)) }
         ensures err { OnErr result (self.new ≡ self.old) }
     {

@@ -43,7 +43,8 @@ impl<R: Read> Read for Retrying<R> {
 
 /// Reads in chunks, and again where a signal interrupted a read.
 fn reader_of<R: Read + Drop>(alloc: Global, inner: R) -> Result<BufReader<Retrying<R>>, NoMemory>
-    ensures { IfOk result (λ reader. reader_remaining (λ r. R.remaining r.inner) reader ≡ R.remaining inner) }
+    ensures { IfOk result (λ reader. reader_remaining (λ r. R.remaining r.inner) reader
+        ≡ R.remaining inner) }
 {
     BufReader::with_capacity(alloc, CHUNK, Retrying { inner }).map_err(|_| NoMemory)
 }
@@ -56,7 +57,8 @@ fn take_from<R: BufRead>(
 ) -> Result<Took, SourceFault>
     requires { 1 ≤ most }
     ensures takes { Takes most None None into.old into.new result }
-    ensures told { TakesTold most (R.remaining reader.old) (R.remaining reader.new) into.old into.new result }
+    ensures told { TakesTold most (R.remaining reader.old) (R.remaining reader.new)
+        into.old into.new result }
 {
     let bytes = reader.fill_buf().map_err(|_| SourceFault::Failed)?;
     if bytes.is_empty() {
@@ -105,7 +107,8 @@ impl<R: Read + Drop> Source for StdSource<R> {
         requires { 1 ≤ most }
         ensures takes { Takes most None None into.old into.new result }
         ensures told { TakesTold most self.old.left self.new.left into.old into.new result }
-        ensures cause { MatchResult result (λ _. self.new.faults ≡ self.old.faults) (SourceCause self.old.faults self.new.faults) }
+        ensures cause { MatchResult result (λ _. self.new.faults ≡ self.old.faults)
+            (SourceCause self.old.faults self.new.faults) }
     {
         let answer = take_from(&mut self.reader, most, into);
         if let Err(SourceFault::Failed) = answer {
@@ -159,7 +162,8 @@ impl<F: Read + Drop> Source for FileSource<F> {
         ensures takes { Takes most None None into.old into.new result }
         ensures told { TakesTold most self.old.left self.new.left into.old into.new result }
         ensures shut { self.old.is_open ≡ false → result ≡ Err source_fault.Failed }
-        ensures cause { MatchResult result (λ _. self.new.faults ≡ self.old.faults) (SourceCause self.old.faults self.new.faults) }
+        ensures cause { MatchResult result (λ _. self.new.faults ≡ self.old.faults)
+            (SourceCause self.old.faults self.new.faults) }
     {
         let answer = match &mut self.reader {
             Some(reader) => take_from(reader, most, into),
@@ -206,7 +210,8 @@ impl<W: Write> Out for StdOut<W> {
         requires { piece.now ≢ [] }
         ensures count { IfOk result (λ n. (1 ≤ n) × (n ≤ length piece.now)) }
         ensures told { PutsTold self.old.held self.new.held piece.now result }
-        ensures cause { MatchResult result (λ _. self.new.faults ≡ self.old.faults) (OutCause self.old.faults self.new.faults) }
+        ensures cause { MatchResult result (λ _. self.new.faults ≡ self.old.faults)
+            (OutCause self.old.faults self.new.faults) }
     {
         match write_retrying(&mut self.writer, piece) {
             Ok(count) if count > 0 => Ok(count as u64),

@@ -53,9 +53,11 @@ pub trait Modules {
     /// The contents of the file at this path, or `None` where there is no such file.
     /// Of a file longer than 1,048,577 bytes an adapter gives the first 1,048,577 bytes.
     fn read(&mut self, path: &str) -> Result<Option<ByteList>, ModulesFault>
-        ensures content { (map : List ℕ → Option (List ℕ)) → files self.old ≡ Some map → IfOk result (λ answer. answer ≡ map path.now) }
+        ensures content { (map : List ℕ → Option (List ℕ)) → files self.old ≡ Some map
+            → IfOk result (λ answer. answer ≡ map path.now) }
         ensures files { files self.new ≡ files self.old }
-        ensures cause { MatchResult result (λ _. faults self.new ≡ faults self.old) (ModulesCause (faults self.old) (faults self.new)) };
+        ensures cause { MatchResult result (λ _. faults self.new ≡ faults self.old)
+            (ModulesCause (faults self.old) (faults self.new)) };
 }
 
 /// Where the bytes of an input come from.
@@ -70,7 +72,8 @@ pub trait Source {
     fn take(&mut self, most: u64, into: &mut ByteList) -> Result<Took, SourceFault>
         requires { 1 ≤ most }
         ensures takes { Takes most (left self.old) (left self.new) into.old into.new result }
-        ensures cause { MatchResult result (λ _. faults self.new ≡ faults self.old) (SourceCause (faults self.old) (faults self.new)) };
+        ensures cause { MatchResult result (λ _. faults self.new ≡ faults self.old)
+            (SourceCause (faults self.old) (faults self.new)) };
 }
 
 /// Where bytes are written to.
@@ -85,9 +88,11 @@ pub trait Out {
     fn put(&mut self, piece: &[u8]) -> Result<u64, OutFault>
         requires { piece.now ≢ [] }
         ensures count { IfOk result (λ n. (1 ≤ n) × (n ≤ length piece.now)) }
-        ensures held { IfOk result (λ n. held self.new ≡ appended (held self.old) (take n piece.now)) }
+        ensures held { IfOk result (λ n. held self.new ≡ appended (held self.old)
+            (take n piece.now)) }
         ensures err { OnErr result (held self.new ≡ held self.old) }
-        ensures cause { MatchResult result (λ _. faults self.new ≡ faults self.old) (OutCause (faults self.old) (faults self.new)) };
+        ensures cause { MatchResult result (λ _. faults self.new ≡ faults self.old)
+            (OutCause (faults self.old) (faults self.new)) };
 }
 
 /// Puts all bytes of the piece, in as many puts as that takes. After a refusal a front of the piece was put.
@@ -95,8 +100,10 @@ pub trait Out {
 pub fn put_all<O: Out>(out: &mut O, piece: &[u8]) -> Result<(), OutFault>
     requires { O.faults out.old < 2 ^ 64 - 1 }
     ensures held { OnOk result (O.held out.new ≡ appended (O.held out.old) piece.now) }
-    ensures part { OnErr result ((n : ℕ) × (n ≤ length piece.now) × (O.held out.new ≡ appended (O.held out.old) (take n piece.now))) }
-    ensures cause { MatchResult result (λ _. O.faults out.new ≡ O.faults out.old) (OutCause (O.faults out.old) (O.faults out.new)) }
+    ensures part { OnErr result ((n : ℕ) × (n ≤ length piece.now)
+        × (O.held out.new ≡ appended (O.held out.old) (take n piece.now))) }
+    ensures cause { MatchResult result (λ _. O.faults out.new ≡ O.faults out.old)
+        (OutCause (O.faults out.old) (O.faults out.new)) }
     ensures failed { (result ≡ Err out_fault.Failed) ↔ (O.faults out.old < O.faults out.new) }
 {
     let mut at: usize = 0;

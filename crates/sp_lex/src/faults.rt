@@ -39,7 +39,8 @@ pub(crate) fn own_fault(
     kind: TokenKind,
     bytes: &[u8],
 ) -> Result<Option<MKind>, NoMemory>
-    ensures { IfOk result (λ fault. MatchOption fault ((m : MKind) → ¬ IsOwnFault kind bytes.now m) (λ m. IsOwnFault kind bytes.now m)) }
+    ensures { IfOk result (λ fault. MatchOption fault ((m : MKind) → ¬ IsOwnFault kind bytes.now m)
+        (λ m. IsOwnFault kind bytes.now m)) }
 {
     let fault = match kind {
         TokenKind::Number if is_too_large(bytes) => Some(MKind::LiteralRange),

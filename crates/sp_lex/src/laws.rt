@@ -17,17 +17,22 @@ ghost use Rattle.sp_lex.specs.declared.tokens.Token.{Token};
 
 /// A name or a reserved word is the longest word at its place.
 pub fn words_are_longest()
-    ensures { (text : List ℕ) (tokens : List Token) → IsLexed text tokens → AllByRecursion (λ token. is_word_kind token.kind ≡ true → IsLongestText is_word_text text token) tokens }
+    ensures { (text : List ℕ) (tokens : List Token) → IsLexed text tokens
+        → AllByRecursion (λ token. is_word_kind token.kind ≡ true
+        → IsLongestText is_word_text text token) tokens }
 {}
 
 /// A number is the longest one at its place.
 pub fn numbers_are_longest()
-    ensures { (text : List ℕ) (tokens : List Token) → IsLexed text tokens → AllByRecursion (λ token. token.kind ≡ token_kind.Number → IsLongestText is_number_text text token) tokens }
+    ensures { (text : List ℕ) (tokens : List Token) → IsLexed text tokens
+        → AllByRecursion (λ token. token.kind ≡ token_kind.Number
+        → IsLongestText is_number_text text token) tokens }
 {}
 
 /// Only white space and comments stand before, between and behind the tokens.
 pub fn only_blanks_stand_between()
-    ensures { (text : List ℕ) (tokens : List Token) → IsLexed text tokens → AreSpaced text 0 tokens }
+    ensures { (text : List ℕ) (tokens : List Token) → IsLexed text tokens
+        → AreSpaced text 0 tokens }
 {}
 
 /// Each kind of token that has a text of its own stands once in the two lists, that of the reserved words or that of the
@@ -40,10 +45,14 @@ pub fn kinds_are_listed_once()
 
 /// A name is none of the reserved words.
 pub fn names_are_not_reserved()
-    ensures { (text : List ℕ) (tokens : List Token) → IsLexed text tokens → AllByRecursion (λ token. token.kind ≡ token_kind.Id → AllByRecursion (λ kind. is_spelled (bytes_of text token) kind ≡ false) reserved_words) tokens }
+    ensures { (text : List ℕ) (tokens : List Token) → IsLexed text tokens
+        → AllByRecursion (λ token. token.kind ≡ token_kind.Id
+        → AllByRecursion (λ kind. is_spelled (bytes_of text token) kind ≡ false) reserved_words)
+        tokens }
 {}
 
 /// A text without a fault has its tokens.
 pub fn faultless_texts_have_tokens()
-    ensures { (text : List ℕ) → ((span : Span) (kind : MKind) → ¬ IsFault text span kind) → (tokens : List Token) × IsLexed text tokens }
+    ensures { (text : List ℕ) → ((span : Span) (kind : MKind) → ¬ IsFault text span kind)
+        → (tokens : List Token) × IsLexed text tokens }
 {}

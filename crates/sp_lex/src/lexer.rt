@@ -76,7 +76,8 @@ fn text_fault(source: &[u8], seen: &[u8]) -> Option<Fault>
     ensures no_zero { IfNone result (AllByRecursion (λ byte. 0 < byte) seen.now) }
     ensures inside { IfSome result (λ f. f.span.from ≤ length seen.now) }
     ensures fault { IfSome result (λ f. IsTextFault source.now f.span f.kind) }
-    ensures least { IfSome result (λ f. (other : Span) (k : MKind) → IsTextFault source.now other k → GoesBefore f.span f.kind other k) }
+    ensures least { IfSome result (λ f. (other : Span) (k : MKind) → IsTextFault source.now other k
+        → GoesBefore f.span f.kind other k) }
 {
     let bad = first_bad(seen);
     if bad > 0 && source.len() > MOST_BYTES {
@@ -116,9 +117,12 @@ fn refused(alloc: Global, seen: &[u8], fault: Fault) -> ReadFault
     requires small { length seen.now ≤ most_bytes + 1 }
     requires inside { fault.span.from ≤ length seen.now }
     ensures inside { OnDiag (λ span _. span.from ≤ length seen.now) result }
-    ensures one { OnDiag (λ span kind. ((span ≡ fault.span) × (kind ≡ fault.kind)) ⊎ IsReadingFault seen.now outermost (reading seen.now) span kind) result }
+    ensures one { OnDiag (λ span kind. ((span ≡ fault.span) × (kind ≡ fault.kind))
+        ⊎ IsReadingFault seen.now outermost (reading seen.now) span kind) result }
     ensures before_it { OnDiag (λ span kind. GoesBefore span kind fault.span fault.kind) result }
-    ensures before_all { OnDiag (λ span kind. (other : Span) (k : MKind) → IsReadingFault seen.now outermost (reading seen.now) other k → GoesBefore span kind other k) result }
+    ensures before_all { OnDiag (λ span kind. (other : Span) (k : MKind)
+        → IsReadingFault seen.now outermost (reading seen.now) other k
+        → GoesBefore span kind other k) result }
 {
     match scan(alloc, seen) {
         Ok(_) => ReadFault::Diag(fault.span, fault.kind),
@@ -137,10 +141,14 @@ fn lexed(alloc: Global, text: &[u8]) -> Result<Tokens, ReadFault>
     requires no_zero { AllByRecursion (λ byte. 0 < byte) text.now }
     ensures text { IfOk result (λ tokens. tokens.text ≡ text.now) }
     ensures lexed { IfOk result (λ tokens. IsLexed text.now tokens.list) }
-    ensures right { IfOk result (λ _. (span : Span) (m : MKind) → ¬ IsReadingFault text.now outermost (reading text.now) span m) }
+    ensures right { IfOk result (λ _. (span : Span) (m : MKind)
+        → ¬ IsReadingFault text.now outermost (reading text.now) span m) }
     ensures inside { IfErr result (OnDiag (λ span _. span.from ≤ length text.now)) }
-    ensures fault { IfErr result (OnDiag (λ span m. IsReadingFault text.now outermost (reading text.now) span m)) }
-    ensures least { IfErr result (OnDiag (λ span m. (other : Span) (k : MKind) → IsReadingFault text.now outermost (reading text.now) other k → GoesBefore span m other k)) }
+    ensures fault { IfErr result (OnDiag (λ span m. IsReadingFault text.now outermost
+        (reading text.now) span m)) }
+    ensures least { IfErr result (OnDiag (λ span m. (other : Span) (k : MKind)
+        → IsReadingFault text.now outermost (reading text.now) other k
+        → GoesBefore span m other k)) }
 {
     match scan(alloc, text) {
         Ok(list) => Ok(Tokens::new(ByteList::from_slice(alloc, text)?, list)),
@@ -160,12 +168,15 @@ pub fn lex(alloc: Global, source: &[u8]) -> Result<Tokens, ReadFault>
     ensures texts { IfOk result (λ tokens. AllByRecursion (HasItsText source.now) tokens.list) }
     ensures each_right { IfOk result (λ tokens. AllByRecursion (IsRight source.now) tokens.list) }
     ensures order { IfOk result (λ tokens. InOrder 0 tokens.list (length source.now)) }
-    ensures right { IfOk result (λ tokens. (span : Span) (kind : MKind) → ¬ IsFault source.now span kind) }
+    ensures right { IfOk result (λ tokens. (span : Span) (kind : MKind)
+        → ¬ IsFault source.now span kind) }
     ensures small { OnOk result (length source.now ≤ most_bytes) }
     // A fault is one of the text, and goes before all others.
-    ensures inside { IfErr result (OnDiag (λ span _. (span.from ≤ length source.now) × (span.from ≤ most_bytes + 1))) }
+    ensures inside { IfErr result (OnDiag (λ span _. (span.from ≤ length source.now)
+        × (span.from ≤ most_bytes + 1))) }
     ensures fault { IfErr result (OnDiag (λ span kind. IsFault source.now span kind)) }
-    ensures least { IfErr result (OnDiag (λ span kind. (other : Span) (other_kind : MKind) → IsFault source.now other other_kind → GoesBefore span kind other other_kind)) }
+    ensures least { IfErr result (OnDiag (λ span kind. (other : Span) (other_kind : MKind)
+        → IsFault source.now other other_kind → GoesBefore span kind other other_kind)) }
 {
     let seen = looked_at(source);
     match text_fault(source, seen) {

@@ -49,7 +49,9 @@ fn pass(alloc: Global, nesting: &mut Nesting, token: Token, bytes: &[u8]) -> Res
     ensures behind { OnOk result (nesting.new ≡ after nesting.old (role_of token.kind)) }
     ensures place { IfErr result (OnDiag (λ span _. span ≡ token.span)) }
     ensures fault { IfErr result (OnDiag (λ _ m. IsTokenFault bytes.now nesting.old token m)) }
-    ensures least { IfErr result (OnDiag (λ _ m. (k : MKind) → IsTokenFault bytes.now nesting.old token k → module_kind_number m ≤ module_kind_number k)) }
+    ensures least { IfErr result (OnDiag (λ _ m. (k : MKind)
+        → IsTokenFault bytes.now nesting.old token k
+        → module_kind_number m ≤ module_kind_number k)) }
 {
     if let Some(kind) = own_fault(alloc, token.kind, bytes)? {
         return Err(ReadFault::Diag(token.span, kind));
@@ -73,15 +75,21 @@ impl Progress {
     ) -> Result<(), ReadFault>
         requires small { length text.now ≤ most_bytes + 1 }
         requires inside { self.old.at < length text.now }
-        requires scanned { Scanned text.now self.old.at self.old.divides self.old.nesting self.old.tokens }
-        requires stands { element_at self.old.divides (drop self.old.at text.now) ≡ Element.Token kind n }
+        requires scanned { Scanned text.now self.old.at self.old.divides self.old.nesting
+            self.old.tokens }
+        requires stands { element_at self.old.divides (drop self.old.at text.now)
+            ≡ Element.Token kind n }
         requires some { 0 < n }
         requires within { self.old.at + n ≤ length text.now }
-        ensures scanned { OnOk result (Scanned text.now self.new.at self.new.divides self.new.nesting self.new.tokens) }
+        ensures scanned { OnOk result (Scanned text.now self.new.at self.new.divides
+            self.new.nesting self.new.tokens) }
         ensures goes { OnOk result (self.new.at ≡ self.old.at + n) }
         ensures inside { IfErr result (OnDiag (λ span _. span.from ≤ length text.now)) }
-        ensures fault { IfErr result (OnDiag (λ span m. IsReadingFault text.now outermost (reading text.now) span m)) }
-        ensures least { IfErr result (OnDiag (λ span m. (other : Span) (k : MKind) → IsReadingFault text.now outermost (reading text.now) other k → GoesBefore span m other k)) }
+        ensures fault { IfErr result (OnDiag (λ span m. IsReadingFault text.now outermost
+            (reading text.now) span m)) }
+        ensures least { IfErr result (OnDiag (λ span m. (other : Span) (k : MKind)
+            → IsReadingFault text.now outermost (reading text.now) other k
+            → GoesBefore span m other k)) }
     {
         let behind = self.at + n;
         let token = Token {
@@ -99,12 +107,17 @@ impl Progress {
     fn step(&mut self, alloc: Global, text: &[u8]) -> Result<(), ReadFault>
         requires small { length text.now ≤ most_bytes + 1 }
         requires inside { self.old.at < length text.now }
-        requires scanned { Scanned text.now self.old.at self.old.divides self.old.nesting self.old.tokens }
-        ensures scanned { OnOk result (Scanned text.now self.new.at self.new.divides self.new.nesting self.new.tokens) }
+        requires scanned { Scanned text.now self.old.at self.old.divides self.old.nesting
+            self.old.tokens }
+        ensures scanned { OnOk result (Scanned text.now self.new.at self.new.divides
+            self.new.nesting self.new.tokens) }
         ensures goes { OnOk result (self.old.at < self.new.at) }
         ensures inside { IfErr result (OnDiag (λ span _. span.from ≤ length text.now)) }
-        ensures fault { IfErr result (OnDiag (λ span m. IsReadingFault text.now outermost (reading text.now) span m)) }
-        ensures least { IfErr result (OnDiag (λ span m. (other : Span) (k : MKind) → IsReadingFault text.now outermost (reading text.now) other k → GoesBefore span m other k)) }
+        ensures fault { IfErr result (OnDiag (λ span m. IsReadingFault text.now outermost
+            (reading text.now) span m)) }
+        ensures least { IfErr result (OnDiag (λ span m. (other : Span) (k : MKind)
+            → IsReadingFault text.now outermost (reading text.now) other k
+            → GoesBefore span m other k)) }
     {
         match element_at(self.divides, &text[self.at..]) {
             Element::Blank(n) => {
@@ -123,11 +136,15 @@ pub(crate) fn scan(alloc: Global, text: &[u8]) -> Result<TokenList, ReadFault>
     ensures tokens { IfOk result (λ tokens. reading text.now ≡ whole tokens) }
     ensures longest { IfOk result (λ tokens. AllByRecursion (IsLongest text.now) tokens) }
     ensures texts { IfOk result (λ tokens. AllByRecursion (HasItsText text.now) tokens) }
-    ensures right { IfOk result (λ tokens. (span : Span) (m : MKind) → ¬ IsReadingFault text.now outermost (reading text.now) span m) }
+    ensures right { IfOk result (λ tokens. (span : Span) (m : MKind)
+        → ¬ IsReadingFault text.now outermost (reading text.now) span m) }
     ensures order { IfOk result (λ tokens. InOrder 0 tokens (length text.now)) }
     ensures inside { IfErr result (OnDiag (λ span _. span.from ≤ length text.now)) }
-    ensures fault { IfErr result (OnDiag (λ span m. IsReadingFault text.now outermost (reading text.now) span m)) }
-    ensures least { IfErr result (OnDiag (λ span m. (other : Span) (k : MKind) → IsReadingFault text.now outermost (reading text.now) other k → GoesBefore span m other k)) }
+    ensures fault { IfErr result (OnDiag (λ span m. IsReadingFault text.now outermost
+        (reading text.now) span m)) }
+    ensures least { IfErr result (OnDiag (λ span m. (other : Span) (k : MKind)
+        → IsReadingFault text.now outermost (reading text.now) other k
+        → GoesBefore span m other k)) }
 {
     let mut progress = Progress {
         at: 0,

@@ -57,7 +57,8 @@ fn stands(kind: TokenKind, text: &[u8]) -> bool
 /// The longer one of a token that was found and one that may stand where the text begins.
 fn longer(text: &[u8], found: Option<TokenKind>, kind: TokenKind) -> Option<TokenKind>
     ensures value { result ≡ longer text.now found kind }
-    ensures within { IfSome found (λ old. length (spelling old) ≤ length text.now) → IfSome result (λ new. length (spelling new) ≤ length text.now) }
+    ensures within { IfSome found (λ old. length (spelling old) ≤ length text.now)
+        → IfSome result (λ new. length (spelling new) ≤ length text.now) }
 {
     if !stands(kind, text) {
         return found;

@@ -25,8 +25,11 @@ pub trait Grammar {
     fn predict(&self, nonterminal: u8, kind: u8) -> Option<&[Symbol]>
         requires nonterminal { nonterminal < length certificate.height }
         requires kind { kind ≤ END }
-        ensures none { IfNone result (length (productions_of table nonterminal) ≤ predict table nonterminal kind) }
-        ensures some { IfSome result (λ s. (predict table nonterminal kind < length (productions_of table nonterminal)) × (s.now ≡ right table nonterminal (predict table nonterminal kind))) };
+        ensures none { IfNone result (length (productions_of table nonterminal)
+            ≤ predict table nonterminal kind) }
+        ensures some { IfSome result (λ s.
+            (predict table nonterminal kind < length (productions_of table nonterminal))
+            × (s.now ≡ right table nonterminal (predict table nonterminal kind))) };
 
     ghost tested: { table_test table certificate ≡ true };
 }
@@ -101,7 +104,8 @@ fn take_token<G: Grammar>(
 ) -> Result<bool, NoMemory>
     requires ready { Ready G.certificate (reverse stack.old.items) }
     requires kind { kind < SECOND }
-    ensures taken { IfOk result (λ yes. Takes G.table G.certificate yes at (reverse stack.old.items) kind (reverse stack.new.items) events.old.items events.new.items) }
+    ensures taken { IfOk result (λ yes. Takes G.table G.certificate yes at (reverse stack.old.items)
+        kind (reverse stack.new.items) events.old.items events.new.items) }
 {
     match step(grammar, stack, events, at, kind)? {
         Step::Whole => Ok(true),

@@ -26,9 +26,12 @@ pub struct Span {
 fn choose<'a>(rows: &[Row], symbols: &'a [Symbol], kind: u8) -> Option<&'a [Symbol]>
     requires kind { kind ≤ END }
     requires fit { rows_fit symbols.now rows.now ≡ true }
-    ensures none { IfNone result (length rows.now ≤ chosen (productions_from symbols.now rows.now) kind) }
-    ensures some { IfSome result (λ s. (chosen (productions_from symbols.now rows.now) kind < length rows.now)
-        × (s.now ≡ (at_production (productions_from symbols.now rows.now) (chosen (productions_from symbols.now rows.now) kind)).symbols)) }
+    ensures none { IfNone result (length rows.now ≤ chosen (productions_from symbols.now rows.now)
+        kind) }
+    ensures some { IfSome result (λ s.
+        (chosen (productions_from symbols.now rows.now) kind < length rows.now)
+        × (s.now ≡ (at_production (productions_from symbols.now rows.now)
+        (chosen (productions_from symbols.now rows.now) kind)).symbols)) }
 {
     for row in rows {
         if (row.select >> kind) & 1 == 1 {
@@ -49,9 +52,13 @@ pub fn choose_in<'a>(
     requires kind { kind ≤ END }
     requires nonterminal { nonterminal < length spans.now }
     requires fit { table_fits spans.now rows.now symbols.now ≡ true }
-    ensures none { IfNone result (length (productions_of (table_from spans.now rows.now symbols.now) nonterminal) ≤ predict (table_from spans.now rows.now symbols.now) nonterminal kind) }
-    ensures some { IfSome result (λ s. (predict (table_from spans.now rows.now symbols.now) nonterminal kind < length (productions_of (table_from spans.now rows.now symbols.now) nonterminal))
-        × (s.now ≡ right (table_from spans.now rows.now symbols.now) nonterminal (predict (table_from spans.now rows.now symbols.now) nonterminal kind))) }
+    ensures none { IfNone result (length (productions_of (table_from spans.now rows.now symbols.now)
+        nonterminal) ≤ predict (table_from spans.now rows.now symbols.now) nonterminal kind) }
+    ensures some { IfSome result (λ s.
+        (predict (table_from spans.now rows.now symbols.now) nonterminal kind < length
+        (productions_of (table_from spans.now rows.now symbols.now) nonterminal))
+        × (s.now ≡ right (table_from spans.now rows.now symbols.now) nonterminal
+        (predict (table_from spans.now rows.now symbols.now) nonterminal kind))) }
 {
     let span = spans[nonterminal as usize];
     choose(&rows[span.from as usize..span.to as usize], symbols, kind)

@@ -38,7 +38,8 @@ fn put_pieces(
     pieces: &[Piece],
     parts: &[Tree],
 ) -> Result<(), NoMemory>
-    ensures { OnOk result (writer.new ≡ write (laid form.now pieces.now (parts_of (trees parts.now))) writer.old) }
+    ensures { OnOk result (writer.new ≡ write
+        (laid form.now pieces.now (parts_of (trees parts.now))) writer.old) }
 {
     let mut left = parts;
     for piece in pieces {
@@ -55,8 +56,10 @@ fn put_piece<'t>(
     piece: Piece,
     parts: &'t [Tree],
 ) -> Result<&'t [Tree], NoMemory>
-    ensures laid { IfOk result (λ left. IsLaid form.now piece parts.entry.now writer.old left.now writer.new) }
-    ensures less { IfOk result (λ left. trees_size (trees left.now) ≤ trees_size (trees parts.entry.now)) }
+    ensures laid { IfOk result (λ left. IsLaid form.now piece parts.entry.now writer.old left.now
+        writer.new) }
+    ensures less { IfOk result (λ left. trees_size (trees left.now) ≤ trees_size
+        (trees parts.entry.now)) }
 {
     match (piece, parts) {
         (Piece::Word(kind), _) => {
@@ -157,7 +160,8 @@ fn put_all(writer: &mut Writer, by: Separator, all: &[Tree]) -> Result<(), NoMem
 /// Puts trees, each behind what stands between them.
 #[cycle(put)]
 fn put_others(writer: &mut Writer, by: Separator, others: &[Tree]) -> Result<(), NoMemory>
-    ensures { OnOk result (writer.new ≡ write (followed by (parts_of (trees others.now))) writer.old) }
+    ensures { OnOk result (writer.new ≡ write (followed by (parts_of (trees others.now)))
+        writer.old) }
 {
     for tree in others {
         writer.put_kinds(by.kinds())?;
@@ -169,7 +173,8 @@ fn put_others(writer: &mut Writer, by: Separator, others: &[Tree]) -> Result<(),
 /// Puts a tree at a place, in parentheses where it needs them.
 #[cycle(put)]
 fn put_at(writer: &mut Writer, tight: u8, dividend: bool, tree: &Tree) -> Result<(), NoMemory>
-    ensures { OnOk result (writer.new ≡ write (at_place tight dividend tree.now (spelled tree.now)) writer.old) }
+    ensures { OnOk result (writer.new ≡ write (at_place tight dividend tree.now (spelled tree.now))
+        writer.old) }
 {
     if !needs_parentheses(tight, dividend, tree, writer.last()) {
         return put_tree(writer, tree);

@@ -45,7 +45,8 @@ impl Writer {
 
     /// Makes a space before a word of this kind where there has to be one.
     fn begin(&mut self, kind: TokenKind) -> Result<(), NoMemory>
-        ensures { OnOk result (self.new ≡ page (self.old.text ++ gap self.old.last kind) (Some kind)) }
+        ensures { OnOk result (self.new ≡ page (self.old.text ++ gap self.old.last kind)
+            (Some kind)) }
     {
         if let Some(before) = self.last
             && !is_scope(before)
@@ -200,7 +201,8 @@ fn show_char(text: &mut String, c: char) -> Result<(), NoMemory>
 
 /// Puts bytes as they stand in a literal.
 fn show_bytes(text: &mut String, x: &[u8]) -> Result<(), NoMemory>
-    ensures { OnOk result (string_bytes text.new ≡ string_bytes text.old ++ flat_map shown_byte x.now) }
+    ensures { OnOk result (string_bytes text.new ≡ string_bytes text.old
+        ++ flat_map shown_byte x.now) }
 {
     for byte in x {
         show_byte(text, *byte)?;
@@ -210,7 +212,8 @@ fn show_bytes(text: &mut String, x: &[u8]) -> Result<(), NoMemory>
 
 /// Puts characters as they stand in a literal of text.
 fn show_text(text: &mut String, x: &str) -> Result<(), NoMemory>
-    ensures { OnOk result (string_bytes text.new ≡ string_bytes text.old ++ flat_map shown_char (chars x.now)) }
+    ensures { OnOk result (string_bytes text.new ≡ string_bytes text.old ++ flat_map shown_char
+        (chars x.now)) }
 {
     for c in x.chars() {
         show_char(text, c)?;

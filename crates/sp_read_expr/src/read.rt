@@ -24,7 +24,8 @@ pub fn read_tree(
     requires { at ≤ length tokens.now.list }
     ensures read { IfOk result (λ x. IsTreeRead start tokens.now at x.0 x.1) }
     ensures inside { IfErr result (OnDiag (λ span _. span.from ≤ length tokens.now.text)) }
-    ensures refused { IfErr result (OnDiag (λ span kind. IsRefused start tokens.now.list at (length tokens.now.text) span kind)) }
+    ensures refused { IfErr result (OnDiag (λ span kind. IsRefused start tokens.now.list at
+        (length tokens.now.text) span kind)) }
 {
     every_text_is_built();
     let parsed = read_from(alloc, tokens, start, at)?;
@@ -39,7 +40,8 @@ pub fn read_expr(alloc: Global, t: &Tokens, at: u32) -> Result<(Expr, u32), Read
     requires { at ≤ length t.now.list }
     ensures read { IfOk result (λ x. IsTreeRead start.Expr t.now at x.0 x.1) }
     ensures inside { IfErr result (OnDiag (λ span _. span.from ≤ length t.now.text)) }
-    ensures refused { IfErr result (OnDiag (λ span kind. IsRefused start.Expr t.now.list at (length t.now.text) span kind)) }
+    ensures refused { IfErr result (OnDiag (λ span kind. IsRefused start.Expr t.now.list at
+        (length t.now.text) span kind)) }
 {
     let (tree, to) = read_tree(alloc, t, Start::Expr, at)?;
     Ok((Expr::new(tree), to))
@@ -50,7 +52,8 @@ pub fn read_stmt(alloc: Global, t: &Tokens, at: u32) -> Result<(Stmt, u32), Read
     requires { at ≤ length t.now.list }
     ensures read { IfOk result (λ x. IsTreeRead start.Stmt t.now at x.0 x.1) }
     ensures inside { IfErr result (OnDiag (λ span _. span.from ≤ length t.now.text)) }
-    ensures refused { IfErr result (OnDiag (λ span kind. IsRefused start.Stmt t.now.list at (length t.now.text) span kind)) }
+    ensures refused { IfErr result (OnDiag (λ span kind. IsRefused start.Stmt t.now.list at
+        (length t.now.text) span kind)) }
 {
     let (tree, to) = read_tree(alloc, t, Start::Stmt, at)?;
     Ok((Stmt::new(tree), to))
@@ -61,7 +64,8 @@ pub fn read_type(alloc: Global, t: &Tokens, at: u32) -> Result<(TypeTree, u32), 
     requires { at ≤ length t.now.list }
     ensures read { IfOk result (λ x. IsTreeRead start.Type t.now at x.0 x.1) }
     ensures inside { IfErr result (OnDiag (λ span _. span.from ≤ length t.now.text)) }
-    ensures refused { IfErr result (OnDiag (λ span kind. IsRefused start.Type t.now.list at (length t.now.text) span kind)) }
+    ensures refused { IfErr result (OnDiag (λ span kind. IsRefused start.Type t.now.list at
+        (length t.now.text) span kind)) }
 {
     let (tree, to) = read_tree(alloc, t, Start::Type, at)?;
     Ok((TypeTree::new(tree), to))

@@ -6,5 +6,6 @@ ghost use Rattle.sp_read_unit.specs.Modules.{IsModule};
 
 /// Tokens are a module's in one way at most.
 pub fn module_is_one()
-    ensures { (tokens : List Token) (first second : List Event) → IsModule tokens first → IsModule tokens second → first ≡ second }
+    ensures { (tokens : List Token) (first second : List Event) → IsModule tokens first
+        → IsModule tokens second → first ≡ second }
 {}

@@ -22,7 +22,8 @@ fn unmarked() -> [bool; 256]
 fn cover(covered: &mut [bool], range: ByteRange)
     requires room { length covered.old ≡ 256 }
     requires order { range.from ≤ range.to }
-    ensures { (k : ℕ) → k < 256 → slice_index_or covered.new k false ≡ (slice_index_or covered.old k false || is_within k range) }
+    ensures { (k : ℕ) → k < 256 → slice_index_or covered.new k false ≡
+        (slice_index_or covered.old k false || is_within k range) }
 {
     for b in range.from..=range.to {
         covered[usize::from(b)] = true;
@@ -32,7 +33,8 @@ fn cover(covered: &mut [bool], range: ByteRange)
 // Whether some byte is neither marked nor in this range.
 fn leaves_uncovered(covered: &[bool], range: ByteRange) -> bool
     requires { length covered.now ≡ 256 }
-    ensures { result ≡ some_below 256 (λ k. not (slice_index_or covered.now k false) && not (is_within k range)) }
+    ensures { result ≡ some_below 256 (λ k. not (slice_index_or covered.now k false) && not
+        (is_within k range)) }
 {
     for (i, covered) in covered.iter().enumerate() {
         if !*covered && !range.contains(i as u8) {
@@ -262,7 +264,8 @@ impl ClassReader {
 
     // The next byte of the escape that ends a range.
     fn escape_to(&mut self, from: u8, place: EscapePlace, byte: u8) -> Result<ClassStep, NoMemory>
-        ensures { IfOk result (λ s. IsClassStep s self.new (escaped_to_step self.old from (escape_step place byte))) }
+        ensures { IfOk result (λ s. IsClassStep s self.new
+            (escaped_to_step self.old from (escape_step place byte))) }
     {
         match place.step(byte) {
             EscapeStep::Goes(place) if self.can_end(from, place) => {

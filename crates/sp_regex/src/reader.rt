@@ -187,7 +187,8 @@ impl Reader {
 
     // The atom stands so many times.
     fn repeat(&mut self, atom: Regex, least: u8, most: Option<u8>) -> Result<bool, NoMemory>
-        ensures { IfOk result (λ taken. IsStep taken self.new (Some (repeated self.old atom least most))) }
+        ensures { IfOk result (λ taken. IsStep taken self.new
+            (Some (repeated self.old atom least most))) }
     {
         let piece = Regex::repeat(self.alloc, atom, Count { least, most })?;
         self.level.push(piece)?;
@@ -205,7 +206,8 @@ impl Reader {
     }
 
     fn class(&mut self, byte: u8) -> Result<bool, NoMemory>
-        ensures { IfOk result (λ taken. IsStep taken self.new (classed_step self.old (class_step self.old.class byte))) }
+        ensures { IfOk result (λ taken. IsStep taken self.new
+            (classed_step self.old (class_step self.old.class byte))) }
     {
         match self.class.step(byte)? {
             ClassStep::Goes => Ok(self.goes(Mode::Class)),

@@ -20,31 +20,42 @@ ghost use Rattle.sp_round_trip.specs.Told.{told};
 /// Two texts whose tokens tell the same are the same module, apart from the places of its parts: white space, comments,
 /// the base of numbers and the way in which literals are escaped make no difference.
 pub fn trees_are_of_words()
-    ensures { (first second : Lexed) (t : Tree) → told first ≡ told second → IsModuleTree first t → (u : Tree) × IsModuleTree second u × (bare t ≡ bare u) }
+    ensures { (first second : Lexed) (t : Tree) → told first ≡ told second → IsModuleTree first t
+        → (u : Tree) × IsModuleTree second u × (bare t ≡ bare u) }
 {}
 
 /// Each word of the canonical text of a module that was read can be read again, and has no byte 0.
 pub fn words_of_a_read_module_are_sound()
-    ensures sound { (lexed : Lexed) (m : Tree) → IsLexed lexed.text lexed.list → IsModuleTree lexed m → AllByRecursion (AllByRecursion IsSound) (module_lines m) }
-    ensures no_zero { (lexed : Lexed) (m : Tree) → IsLexed lexed.text lexed.list → IsModuleTree lexed m → HaveNoZero (module_lines m) }
+    ensures sound { (lexed : Lexed) (m : Tree) → IsLexed lexed.text lexed.list
+        → IsModuleTree lexed m → AllByRecursion (AllByRecursion IsSound) (module_lines m) }
+    ensures no_zero { (lexed : Lexed) (m : Tree) → IsLexed lexed.text lexed.list
+        → IsModuleTree lexed m → HaveNoZero (module_lines m) }
 {}
 
 /// Each word of the canonical text of a module that was read stands where it may.
 pub fn words_of_a_read_module_are_placed()
-    ensures { (lexed : Lexed) (m : Tree) → IsLexed lexed.text lexed.list → IsModuleTree lexed m → AllByRecursion (ArePlaced None) (module_lines m) }
+    ensures { (lexed : Lexed) (m : Tree) → IsLexed lexed.text lexed.list → IsModuleTree lexed m
+        → AllByRecursion (ArePlaced None) (module_lines m) }
 {}
 
 /// The canonical text of a module that was read, where it is not too large and not nested too deep, is read as the same
 /// module, apart from the places of its parts. Whatever tokens it has are those of that module; and if it is not too large,
 /// nothing can be wrong with it but that it is nested too deep.
 pub fn canonical_text_reads_back()
-    ensures reads_back { (lexed : Lexed) (m : Tree) → IsLexed lexed.text lexed.list → IsModuleTree lexed m → length (canonical m) ≤ most_bytes → ¬ IsTooDeep (canonical m) → (u : Tree) × IsReadAs (canonical m) u × (bare u ≡ bare m) }
-    ensures same { (lexed : Lexed) (m : Tree) → IsLexed lexed.text lexed.list → IsModuleTree lexed m → (tokens : List Token) → IsLexed (canonical m) tokens → (u : Tree) × IsModuleTree (record { text = canonical m; list = tokens }) u × (bare u ≡ bare m) }
-    ensures no_other_fault { (lexed : Lexed) (m : Tree) → IsLexed lexed.text lexed.list → IsModuleTree lexed m → length (canonical m) ≤ most_bytes → (span : Span) (kind : MKind) → IsFault (canonical m) span kind → kind ≡ module_kind.TooDeep }
+    ensures reads_back { (lexed : Lexed) (m : Tree) → IsLexed lexed.text lexed.list
+        → IsModuleTree lexed m → length (canonical m) ≤ most_bytes → ¬ IsTooDeep (canonical m)
+        → (u : Tree) × IsReadAs (canonical m) u × (bare u ≡ bare m) }
+    ensures same { (lexed : Lexed) (m : Tree) → IsLexed lexed.text lexed.list → IsModuleTree lexed m
+        → (tokens : List Token) → IsLexed (canonical m) tokens → (u : Tree)
+        × IsModuleTree (record { text = canonical m; list = tokens }) u × (bare u ≡ bare m) }
+    ensures no_other_fault { (lexed : Lexed) (m : Tree) → IsLexed lexed.text lexed.list
+        → IsModuleTree lexed m → length (canonical m) ≤ most_bytes → (span : Span) (kind : MKind)
+        → IsFault (canonical m) span kind → kind ≡ module_kind.TooDeep }
 {}
 
 /// No name, number or literal is lost, added or moved: those that the text of a module tells are those of its canonical
 /// text, in their order.
 pub fn names_numbers_and_literals_are_kept()
-    ensures { (lexed : Lexed) (m : Tree) → IsLexed lexed.text lexed.list → IsModuleTree lexed m → carried (words_told (told lexed)) ≡ carried (flat_map (λ ws. ws) (module_lines m)) }
+    ensures { (lexed : Lexed) (m : Tree) → IsLexed lexed.text lexed.list → IsModuleTree lexed m
+        → carried (words_told (told lexed)) ≡ carried (flat_map (λ ws. ws) (module_lines m)) }
 {}

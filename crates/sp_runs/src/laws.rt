@@ -14,10 +14,12 @@ pub fn no_production_has_other_words()
 
 /// Of all runs that begin some text only one is the longest: what is read, or where it is refused, is determined.
 pub fn longest_run_is_one()
-    ensures { (start : Start) (tokens : List Token) (m n : ℕ) → IsLongestRun start tokens m → IsLongestRun start tokens n → m ≡ n }
+    ensures { (start : Start) (tokens : List Token) (m n : ℕ) → IsLongestRun start tokens m
+        → IsLongestRun start tokens n → m ≡ n }
 {}
 
 /// A run of tokens is read in one way at most.
 pub fn derivation_is_one()
-    ensures { (start : Start) (tokens : List Token) (m : ℕ) (first second : List Event) → IsText start tokens m first → IsText start tokens m second → first ≡ second }
+    ensures { (start : Start) (tokens : List Token) (m : ℕ) (first second : List Event)
+        → IsText start tokens m first → IsText start tokens m second → first ≡ second }
 {}

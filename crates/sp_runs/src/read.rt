@@ -27,7 +27,8 @@ pub fn read_from(alloc: Global, tokens: &Tokens, start: Start, at: u32) -> Resul
     requires at { at ≤ length tokens.now.list }
     ensures read { IfOk result (λ p. IsRead start tokens.now.list at p.events.items p.to) }
     ensures inside { IfErr result (OnDiag (λ span _. span.from ≤ length tokens.now.text)) }
-    ensures refused { IfErr result (OnDiag (λ span kind. IsRefused start tokens.now.list at (length tokens.now.text) span kind)) }
+    ensures refused { IfErr result (OnDiag (λ span kind. IsRefused start tokens.now.list at
+        (length tokens.now.text) span kind)) }
 {
     tokens.are_of_their_text();
     let numbered = Numbered {

@@ -20,7 +20,8 @@ pub fn unexpected(kind: TokenKind) -> MKind
 /// The refusal at a token, or at the end of the text.
 pub(crate) fn refusal(text: &[u8], tokens: &[Token], at: usize) -> ReadFault
     requires small { length text.now ≤ most_bytes }
-    ensures { result ≡ fault_is.Diag (refused_at (length text.now) (drop at tokens.now)) (refused_with (drop at tokens.now)) }
+    ensures { result ≡ fault_is.Diag (refused_at (length text.now) (drop at tokens.now))
+        (refused_with (drop at tokens.now)) }
 {
     match tokens.get(at) {
         Some(token) => ReadFault::Diag(token.span, unexpected(token.kind)),

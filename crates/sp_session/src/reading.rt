@@ -17,7 +17,11 @@ use std::mem;
 /// The field's name and value, of its bytes.
 fn read_field(field: &Field, bytes: &[u8]) -> Result<(Text, Tree), NoMemory>
     requires { length bytes.now ≡ width_of field.now.kind }
-    ensures { IfOk result (λ read. read ≡ (field.now.name, told_value (integer_of false false bytes.now))) }
+    ensures { IfOk result (λ read. read ≡ (
+      field.now.name,
+      told_value
+          (integer_of false false bytes.now),
+    )) }
 {
     let name = field.name.copy()?;
     Ok((name, told_value(&read_int(bytes, false, false))))
@@ -27,11 +31,14 @@ fn read_field(field: &Field, bytes: &[u8]) -> Result<(Text, Tree), NoMemory>
 fn read_on(fields: &[Field], progress: &mut Progress) -> Result<(), NoMemory>
     requires bound { progress.old.place + length progress.old.window ≤ 2 ^ 62 }
     requires next { progress.old.next ≤ length fields.now }
-    ensures leads { (s : List ℕ) → Leads fields.now progress.old.next (state_of progress.old) progress.old.window s
-        → OnOk result (Leads fields.now progress.new.next (state_of progress.new) progress.new.window s) }
+    ensures leads { (s : List ℕ) → Leads fields.now progress.old.next (state_of progress.old)
+        progress.old.window s
+        → OnOk result (Leads fields.now progress.new.next (state_of progress.new)
+        progress.new.window s) }
     ensures lacks { OnOk result (Lacks (drop progress.new.next fields.now) progress.new.window) }
     ensures next { progress.new.next ≤ length fields.now }
-    ensures bound { progress.new.place + length progress.new.window ≤ progress.old.place + length progress.old.window }
+    ensures bound { progress.new.place + length progress.new.window ≤ progress.old.place
+        + length progress.old.window }
 {
     let mut next = progress.next;
     let mut used: usize = 0;
@@ -72,11 +79,13 @@ pub fn advance(
 ) -> Result<bool, NoMemory>
     requires bound { progress.old.place + length progress.old.window + length piece.now ≤ 2 ^ 62 }
     requires next { progress.old.next ≤ length fields.now }
-    ensures advanced { (s : List ℕ) → Leads fields.now progress.old.next (state_of progress.old) progress.old.window s
+    ensures advanced { (s : List ℕ) → Leads fields.now progress.old.next (state_of progress.old)
+        progress.old.window s
         → IfOk result (Advanced fields.now progress.new (s ++ piece.now) out.old out.new) }
     ensures err { OnErr result (out.new ≡ out.old) }
     ensures next { progress.new.next ≤ length fields.now }
-    ensures bound { progress.new.place + length progress.new.window ≤ progress.old.place + length progress.old.window + length piece.now }
+    ensures bound { progress.new.place + length progress.new.window ≤ progress.old.place
+        + length progress.old.window + length piece.now }
 {
     progress.window.append(piece)?;
     read_on(fields, progress)?;
@@ -116,11 +125,14 @@ pub fn close(
     out: &mut Events,
 ) -> Result<Ending, NoMemory>
     requires { progress.old.next ≤ length fields.now }
-    ensures closed { (s : List ℕ) → Leads fields.now progress.old.next (state_of progress.old) progress.old.window s
-        → Lacks (drop progress.old.next fields.now) progress.old.window → IfOk result (Closed fields.now progress.new s out.old out.new) }
+    ensures closed { (s : List ℕ) → Leads fields.now progress.old.next (state_of progress.old)
+        progress.old.window s
+        → Lacks (drop progress.old.next fields.now) progress.old.window
+        → IfOk result (Closed fields.now progress.new s out.old out.new) }
     ensures err { OnErr result (out.new ≡ out.old) }
     ensures next { progress.new.next ≤ length fields.now }
-    ensures bound { progress.new.place + length progress.new.window ≤ progress.old.place + length progress.old.window }
+    ensures bound { progress.new.place + length progress.new.window ≤ progress.old.place
+        + length progress.old.window }
 {
     progress.window.clear();
     if progress.next < fields.len() {

@@ -53,7 +53,8 @@ impl<'p> Session<'p> {
         requires fibers { 1 ≤ limits.fibers }
         ensures stands { IfOk result (λ session. StandsFor session []) }
         ensures fresh { IfOk result (λ session. IsFresh session) }
-        ensures means { IfOk result (λ session. means session ≡ mean program.now.fields.items unit limits) }
+        ensures means { IfOk result (λ session. means session
+            ≡ mean program.now.fields.items unit limits) }
     {
         let _ = unit;
         let _ = limits;
@@ -75,13 +76,18 @@ impl<'p> Session<'p> {
     /// answers that for good.
     pub fn feed(&mut self, piece: &[u8], out: &mut Events) -> Result<Stand, NoMemory>
         requires { received self.old + length piece.now ≤ 2 ^ 62 }
-        ensures stands { (s : List ℕ) → StandsFor self.old s → OnOk result (StandsFor self.new (s ++ piece.now)) }
+        ensures stands { (s : List ℕ) → StandsFor self.old s
+            → OnOk result (StandsFor self.new (s ++ piece.now)) }
         ensures fed { (s : List ℕ) → StandsFor self.old s → OnOk result (IsFed self.new) }
         ensures events { (s : List ℕ) → StandsFor self.old s → OnOk result (out.new
-            ≡ out.old ++ drop (length (told_by self.old s)) (means self.old (s ++ piece.now) held_open).events) }
-        ensures stand { (s : List ℕ) → StandsFor self.old s → IfOk result (λ stand. stand ≡ (means self.old (s ++ piece.now) held_open).stand) }
-        ensures again { (s : List ℕ) → EndedFor self.old s → OnOk result (EndedFor self.new s × (out.new ≡ out.old)) }
-        ensures same { (s : List ℕ) → EndedFor self.old s → IfOk result (λ stand. stand ≡ (means self.old s ended).stand) }
+            ≡ out.old ++ drop (length (told_by self.old s))
+            (means self.old (s ++ piece.now) held_open).events) }
+        ensures stand { (s : List ℕ) → StandsFor self.old s
+            → IfOk result (λ stand. stand ≡ (means self.old (s ++ piece.now) held_open).stand) }
+        ensures again { (s : List ℕ) → EndedFor self.old s
+            → OnOk result (EndedFor self.new s × (out.new ≡ out.old)) }
+        ensures same { (s : List ℕ) → EndedFor self.old s
+            → IfOk result (λ stand. stand ≡ (means self.old s ended).stand) }
         ensures received { OnOk result (received self.new ≡ received self.old + length piece.now) }
         ensures memory { OnErr result (IsBroken self.new × (out.new ≡ out.old)) }
         ensures broken { IsBroken self.old → IsErr result }
@@ -124,10 +130,14 @@ impl<'p> Session<'p> {
         ensures stands { (s : List ℕ) → StandsFor self.old s → OnOk result (EndedFor self.new s) }
         ensures events { (s : List ℕ) → StandsFor self.old s → OnOk result (out.new
             ≡ out.old ++ drop (length (told_by self.old s)) (means self.old s ended).events) }
-        ensures stand { (s : List ℕ) → StandsFor self.old s → IfOk result (λ stand. stand ≡ (means self.old s ended).stand) }
-        ensures decided { (s : List ℕ) → StandsFor self.old s → IfOk result (λ stand. stand ≢ Waiting) }
-        ensures again { (s : List ℕ) → EndedFor self.old s → OnOk result (EndedFor self.new s × (out.new ≡ out.old)) }
-        ensures same { (s : List ℕ) → EndedFor self.old s → IfOk result (λ stand. stand ≡ (means self.old s ended).stand) }
+        ensures stand { (s : List ℕ) → StandsFor self.old s
+            → IfOk result (λ stand. stand ≡ (means self.old s ended).stand) }
+        ensures decided { (s : List ℕ) → StandsFor self.old s
+            → IfOk result (λ stand. stand ≢ Waiting) }
+        ensures again { (s : List ℕ) → EndedFor self.old s
+            → OnOk result (EndedFor self.new s × (out.new ≡ out.old)) }
+        ensures same { (s : List ℕ) → EndedFor self.old s
+            → IfOk result (λ stand. stand ≡ (means self.old s ended).stand) }
         ensures received { received self.new ≡ received self.old }
         ensures memory { OnErr result (IsBroken self.new × (out.new ≡ out.old)) }
         ensures broken { IsBroken self.old → IsErr result }
@@ -173,9 +183,12 @@ impl<'p> Session<'p> {
 
     /// How the unit stands; `Waiting` before the first call.
     pub fn stand(&self) -> &Stand
-        ensures live { (s : List ℕ) → StandsFor self.now s → IsFed self.now → result.now ≡ (means self.now s held_open).stand }
-        ensures fresh { (s : List ℕ) → StandsFor self.now s → IsFresh self.now → result.now ≡ Waiting }
-        ensures over { (s : List ℕ) → EndedFor self.now s → result.now ≡ (means self.now s ended).stand }
+        ensures live { (s : List ℕ) → StandsFor self.now s → IsFed self.now
+            → result.now ≡ (means self.now s held_open).stand }
+        ensures fresh { (s : List ℕ) → StandsFor self.now s → IsFresh self.now
+            → result.now ≡ Waiting }
+        ensures over { (s : List ℕ) → EndedFor self.now s
+            → result.now ≡ (means self.now s ended).stand }
     {
         &self.stand
     }
@@ -191,7 +204,8 @@ impl<'p> Session<'p> {
     /// How many bytes of the input it keeps: those from the meaning's oldest mark on, and none where the unit
     /// does not wait.
     pub fn kept(&self) -> u64
-        ensures live { (s : List ℕ) → StandsFor self.now s → result ≡ length s - low (means self.now) s held_open }
+        ensures live { (s : List ℕ) → StandsFor self.now s
+            → result ≡ length s - low (means self.now) s held_open }
         ensures over { (s : List ℕ) → EndedFor self.now s → result ≡ 0 }
     {
         self.progress.window.len() as u64

@@ -19,7 +19,8 @@ const MAX_FIELDS: usize = 256;
 
 fn expect_name(tokens: &mut Tokens<'_>) -> Result<(), ReadFault>
     ensures ok { OnOk result ((name : List ℕ) × IsName name × (tokens.old ≡ name ∷ tokens.new)) }
-    ensures err { OnErr result ((name : List ℕ) (rest : List (List ℕ)) → IsName name → tokens.old ≢ name ∷ rest) }
+    ensures err { OnErr result ((name : List ℕ) (rest : List (List ℕ)) → IsName name
+        → tokens.old ≢ name ∷ rest) }
 {
     match tokens.next() {
         Some(token) if is_name(token) => Ok(()),
@@ -44,7 +45,8 @@ fn opening(tokens: &mut Tokens<'_>) -> Result<(), ReadFault>
 }
 
 fn kind_of(word: &[u8]) -> Option<IntType>
-    ensures { MatchOption result ((kind : IntType) → word.now ≢ type_word kind) (λ kind. word.now ≡ type_word kind) }
+    ensures { MatchOption result ((kind : IntType) → word.now ≢ type_word kind)
+        (λ kind. word.now ≡ type_word kind) }
 {
     if word == b"uint8".as_slice() {
         Some(IntType::Uint8)
@@ -61,8 +63,10 @@ fn kind_of(word: &[u8]) -> Option<IntType>
 
 /// The rest of the field that has this name.
 fn field(tokens: &mut Tokens<'_>, name: Text) -> Result<Field, ReadFault>
-    ensures ok { IfOk result (λ field. (field.name ≡ name) × (name ∷ tokens.old ≡ field_tokens field ++ tokens.new)) }
-    ensures err { OnErr result ((field : Field) (rest : List (List ℕ)) → name ∷ tokens.old ≢ field_tokens field ++ rest) }
+    ensures ok { IfOk result (λ field. (field.name ≡ name)
+        × (name ∷ tokens.old ≡ field_tokens field ++ tokens.new)) }
+    ensures err { OnErr result ((field : Field) (rest : List (List ℕ))
+        → name ∷ tokens.old ≢ field_tokens field ++ rest) }
 {
     tokens.expect(":")?;
     let Some(kind) = tokens.next().and_then(kind_of) else {
@@ -112,7 +116,8 @@ fn has_name(fields: &[Field], name: &str) -> bool
 /// The fields of the unit, behind which the text ends.
 fn fields(alloc: Global, tokens: &mut Tokens<'_>) -> Result<Vec<Field>, ReadFault>
     ensures ok { IfOk result (λ fields. IsUnit tokens.old fields.items) }
-    ensures err { result ≡ Err ReadFault.OutOfProfile → (fields : List Field) → ¬ IsUnit tokens.old fields }
+    ensures err { result ≡ Err ReadFault.OutOfProfile → (fields : List Field)
+        → ¬ IsUnit tokens.old fields }
 {
     let mut fields = Vec::new(alloc);
     while let Some(field) = field_or_end(alloc, tokens)? {
@@ -128,7 +133,8 @@ fn fields(alloc: Global, tokens: &mut Tokens<'_>) -> Result<Vec<Field>, ReadFaul
 /// integers is out of profile.
 pub fn read_program(alloc: Global, text: &[u8]) -> Result<Program, ReadFault>
     ensures reads { IfOk result (λ program. Reads text.now program.fields.items) }
-    ensures refuses { result ≡ Err ReadFault.OutOfProfile → (fields : List Field) → ¬ Reads text.now fields }
+    ensures refuses { result ≡ Err ReadFault.OutOfProfile → (fields : List Field)
+        → ¬ Reads text.now fields }
 {
     let mut tokens = Tokens::new(text);
     opening(&mut tokens)?;

@@ -67,8 +67,18 @@ fn report<O: Out, E: Out>(alloc: Global, exit: &Exit, out: &mut O, err: &mut E) 
     requires out_faults { O.faults out.old < 2 ^ 64 - 1 }
     requires err_faults { E.faults err.old < 2 ^ 64 - 1 }
     ensures { Reported exit.now
-        (record { out = O.held out.old; err = E.held err.old; out_faults = O.faults out.old; err_faults = E.faults err.old })
-        (record { out = O.held out.new; err = E.held err.new; out_faults = O.faults out.new; err_faults = E.faults err.new }) result }
+        (record {
+          out = O.held out.old;
+          err = E.held err.old;
+          out_faults = O.faults out.old;
+          err_faults = E.faults err.old;
+        })
+        (record {
+          out = O.held out.new;
+          err = E.held err.new;
+          out_faults = O.faults out.new;
+          err_faults = E.faults err.new;
+        }) result }
 {
     let Ok(message) = message(alloc, exit) else {
         return 7;
@@ -99,11 +109,24 @@ pub fn spicyc<M: Modules, O: Out, E: Out>(
         × Says words.now (M.files modules.old) exit
         × ExitCause (M.faults modules.old) (M.faults modules.new) exit
         × Reported exit
-        (record { out = O.held out.old; err = E.held err.old; out_faults = O.faults out.old; err_faults = E.faults err.old })
-        (record { out = O.held out.new; err = E.held err.new; out_faults = O.faults out.new; err_faults = E.faults err.new }) result }
-    ensures causes { IsCausedBy (record { modules = M.faults modules.old; out = O.faults out.old; err = E.faults err.old })
-        (record { modules = M.faults modules.new; out = O.faults out.new; err = E.faults err.new }) result }
-    ensures answer { IsAnswered words.now (M.files modules.old) (O.held out.old) (O.held out.new) (E.held err.old) (E.held err.new) result }
+        (record {
+          out = O.held out.old;
+          err = E.held err.old;
+          out_faults = O.faults out.old;
+          err_faults = E.faults err.old;
+        })
+        (record {
+          out = O.held out.new;
+          err = E.held err.new;
+          out_faults = O.faults out.new;
+          err_faults = E.faults err.new;
+        }) result }
+    ensures causes { IsCausedBy (record
+        { modules = M.faults modules.old; out = O.faults out.old; err = E.faults err.old })
+        (record { modules = M.faults modules.new; out = O.faults out.new; err = E.faults err.new })
+        result }
+    ensures answer { IsAnswered words.now (M.files modules.old) (O.held out.old) (O.held out.new)
+        (E.held err.old) (E.held err.new) result }
 {
     let exit = drive(alloc, words, modules);
     report(alloc, &exit, out, err)

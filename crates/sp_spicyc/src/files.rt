@@ -28,7 +28,8 @@ fn refused(alloc: Global, path: &str, place: Place, kind: MKind) -> Unread
 /// The module of a text. Where it is none the fault is the first of its tokens, or else that of the module.
 fn module_of(alloc: Global, text: &[u8]) -> Result<Module, ReadFault>
     ensures module { IfOk result (λ m. IsModuleOf text.now m) }
-    ensures inside { IfErr result (OnDiag (λ span _. (span.from ≤ length text.now) × (span.from ≤ most_bytes + 1))) }
+    ensures inside { IfErr result (OnDiag (λ span _. (span.from ≤ length text.now)
+        × (span.from ≤ most_bytes + 1))) }
     ensures unreadable { IfErr result (OnDiag (IsUnreadable text.now)) }
 {
     let tokens = lex(alloc, text)?;
@@ -56,7 +57,8 @@ fn read_file<M: Modules>(alloc: Global, path: &str, modules: &mut M) -> Result<M
     ensures reads { IfOk result (λ m. Reads (M.files modules.old) path.now m) }
     ensures unread { IfErr result (IsStopped (M.files modules.old) path.now) }
     ensures files { M.files modules.new ≡ M.files modules.old }
-    ensures cause { MatchResult result (λ _. M.faults modules.new ≡ M.faults modules.old) (UnreadCause (M.faults modules.old) (M.faults modules.new)) }
+    ensures cause { MatchResult result (λ _. M.faults modules.new ≡ M.faults modules.old)
+        (UnreadCause (M.faults modules.old) (M.faults modules.new)) }
 {
     match modules.read(path) {
         Ok(Some(text)) => read_text(alloc, path, text.as_slice()),
@@ -92,9 +94,11 @@ pub fn read_files<M: Modules>(
     modules: &mut M,
 ) -> Result<ByteList, Unread>
     requires { M.faults modules.old < 2 ^ 64 - 1 }
-    ensures reads { IfOk result (λ text. (trees : List Tree) × AllRead (M.files modules.old) paths.now trees × (text ≡ printed print trees)) }
+    ensures reads { IfOk result (λ text. (trees : List Tree)
+        × AllRead (M.files modules.old) paths.now trees × (text ≡ printed print trees)) }
     ensures unread { IfErr result (IsUnread (M.files modules.old) paths.now) }
-    ensures cause { MatchResult result (λ _. M.faults modules.new ≡ M.faults modules.old) (UnreadCause (M.faults modules.old) (M.faults modules.new)) }
+    ensures cause { MatchResult result (λ _. M.faults modules.new ≡ M.faults modules.old)
+        (UnreadCause (M.faults modules.old) (M.faults modules.new)) }
 {
     let mut text = ByteList::new(alloc);
     for path in paths {

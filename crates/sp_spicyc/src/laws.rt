@@ -4,5 +4,6 @@ ghost use Rattle.sp_spicyc.specs.Whole.{Answer, IsAnswer};
 
 /// To words and files there is one answer at most: one status, one output and one message.
 pub fn answer_is_one()
-    ensures { (words : List (List ℕ)) (files : List ℕ → Option (List ℕ)) (first second : Answer) → IsAnswer words files first → IsAnswer words files second → first ≡ second }
+    ensures { (words : List (List ℕ)) (files : List ℕ → Option (List ℕ)) (first second : Answer)
+        → IsAnswer words files first → IsAnswer words files second → first ≡ second }
 {}

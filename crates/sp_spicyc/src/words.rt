@@ -22,7 +22,8 @@ fn are_paths(words: &[Text]) -> bool
 
 /// These files, unless there are none or one of them can be no file.
 fn with_files(print: bool, files: &[Text]) -> Option<Wanted<'_>>
-    ensures { option_map (λ w. record { print = w.print; files = w.files.now }) result ≡ with_files print files.now }
+    ensures { option_map (λ w. record { print = w.print; files = w.files.now }) result
+        ≡ with_files print files.now }
 {
     if files.is_empty() || !are_paths(files) {
         return None;
@@ -32,7 +33,8 @@ fn with_files(print: bool, files: &[Text]) -> Option<Wanted<'_>>
 
 /// What the words want, or `None` at a usage fault.
 pub fn words_wanted(words: &[Text]) -> Option<Wanted<'_>>
-    ensures { option_map (λ w. record { print = w.print; files = w.files.now }) result ≡ words_of words.now }
+    ensures { option_map (λ w. record { print = w.print; files = w.files.now }) result
+        ≡ words_of words.now }
 {
     match words {
         [] => None,
