@@ -1,6 +1,6 @@
 -- Each reserved word and mark that belongs to an alternative stands as often among the words of a module as its tree has
 -- such alternatives. So it stands as often in a text and its canonical text.
-use Rattle.std.specs.Prelude.{filter, option_map, length, not, ◌<◌, ◌+◌, ◌&&◌, ◌||◌, if◌then◌else◌}
+use Rattle.std.specs.Prelude.{flat_map, filter, option_map, length, not, ◌<◌, ◌+◌, ◌&&◌, ◌||◌, if◌then◌else◌}
 use Rattle.std.proofs.Common.{◌≡◌, ℕ, List, [], ◌∷◌, ◌++◌, map, reverse, Bool, true, false, cond, ◌==◌, Option, Some, None, inl, inr, refl, sym, ◌∙◌, ap, arith}
 use Rattle.std.proofs.lemmas.Bool.{and_parts, cases_Bool, eqb-true, not-true, or_cases}
 use Rattle.sp_lex.specs.Lexed.{Lexed, IsLexed}
@@ -47,7 +47,7 @@ use Rattle.sp_printed_words.specs.Sound.{read_as}
 use Rattle.sp_read_unit.specs.Modules.{IsModuleTree}
 use Rattle.sp_round_trip.specs.Bare.{bare, nowhere}
 use Rattle.sp_round_trip.specs.Carried.{words_told}
-use Rattle.sp_round_trip.specs.Counted.{is_counted, times}
+use Rattle.sp_round_trip.specs.Counted.{halves, is_counted, terminals_in, times}
 use Rattle.sp_round_trip.specs.Told.{Telling, told}
 use Rattle.sp_round_trip.proofs.CarriedWords.{after_some, start_rest, top_is, words_of_tellings}
 use Rattle.sp_round_trip.proofs.Held.{Pile, After, after, started, made, top, front, start, filled, closed, form_told, does}
@@ -146,15 +146,34 @@ rule_uniform m = tt
 abbrev bit : Bool → ℕ
 bit b = cond b 1 0
 
+-- the terminals that one is, also where it closes a list of types
+abbrev parts_of : ℕ → List ℕ
+parts_of k = if k == CLOSE || k == SECOND then GREATER ∷ [] else halves k
+
 -- how often a terminal stands among others, in the trees of a pile, and among words
 module _ (e : ℕ) where
+  abbrev plainly : List ℕ → ℕ
+  plainly [] = 0
+  plainly (k ∷ ks) = bit (k == e) + plainly ks
+
+  plainly_append : (xs ys : List ℕ) → plainly (xs ++ ys) ≡ plainly xs + plainly ys
+  plainly_append [] ys = omega arith
+  plainly_append (x ∷ xs) ys = let both = plainly_append xs ys in omega (arith, both)
+
+  abbrev weight : ℕ → ℕ
+  weight k = plainly (parts_of k)
+
   abbrev count : List ℕ → ℕ
   count [] = 0
-  count (k ∷ ks) = bit (k == e) + count ks
+  count (k ∷ ks) = weight k + count ks
 
   count_append : (xs ys : List ℕ) → count (xs ++ ys) ≡ count xs + count ys
   count_append [] ys = omega arith
   count_append (x ∷ xs) ys = let both = count_append xs ys in omega (arith, both)
+
+  count_parts : (ks : List ℕ) → plainly (flat_map parts_of ks) ≡ count ks
+  count_parts [] = refl
+  count_parts (k ∷ ks) = plainly_append (parts_of k) (flat_map parts_of ks) ∙ ap (λ n. weight k + n) (count_parts ks)
 
   abbrev mutual
     tree_count : Tree → ℕ
@@ -181,7 +200,7 @@ module _ (e : ℕ) where
 
   abbrev toks_count : List Tok → ℕ
   toks_count [] = 0
-  toks_count (x ∷ w) = bit (number x == e) + toks_count w
+  toks_count (x ∷ w) = weight (number x) + toks_count w
 
   abbrev Popped : Pile → List Tree → Pile → List Tree → Type 0
   Popped rest us s ts = pile_count rest + list_count us ≡ pile_count s + list_count ts
@@ -297,13 +316,9 @@ mark_numbers [] = []
 mark_numbers (symbol.Mark n ∷ ss) = numbers_at (mark_with n) ++ mark_numbers ss
 mark_numbers (s ∷ ss) = mark_numbers ss
 
--- what closes a list of types is a > or half of a >>
-abbrev matters : ℕ → Bool
-matters k = is_counted k && not (k == CLOSE)
-
 -- Each terminal that is counted stands in a production as often as in the alternatives that it builds.
 abbrev is_even : List Symbol → Bool
-is_even ss = are_same (filter matters (symbol_numbers ss)) (filter matters (mark_numbers ss))
+is_even ss = are_same (filter is_counted (flat_map parts_of (symbol_numbers ss))) (filter is_counted (flat_map parts_of (mark_numbers ss)))
 
 -- the parts of the grammar in its own words: the module, and all of which something is claimed
 abbrev is_used : ℕ → Bool
@@ -337,8 +352,39 @@ close_halves true c h = absurd cc
 close_halves false true h = refl
 close_halves false false h = absurd cc
 
+takes_count : (e f k : ℕ) → takes f k ≡ All → weight e k ≡ weight e f
+takes_count e f k h = elim (cases_Bool (f == CLOSE)) [
+  | inl y ↦
+      let close = eqb-true f CLOSE y in
+      let either = close_takes (k == GREATER || k == SECOND) (k == SHIFT) (ap (λ c. takes c k) (sym close) ∙ h) in
+      let first : weight e k ≡ weight e CLOSE = elim (or_cases (k == GREATER) (k == SECOND) either) [
+        | inl greater ↦ ap (weight e) (eqb-true k GREATER greater)
+        | inr second ↦ ap (weight e) (eqb-true k SECOND second)
+      ] in
+      first ∙ ap (weight e) (sym close)
+  | inr n ↦ ap (weight e) (sym (by_kind f k (sym (taken_by f k n) ∙ h)))
+]
+
+halves_count : (e f k : ℕ) → takes f k ≡ First → weight e k ≡ weight e f + weight e SECOND
+halves_count e f k h = elim (cases_Bool (f == CLOSE)) [
+  | inl y ↦
+      let close = eqb-true f CLOSE y in
+      let shift = eqb-true k SHIFT (close_halves (k == GREATER || k == SECOND) (k == SHIFT) (ap (λ c. takes c k) (sym close) ∙ h)) in
+      let whole : weight e SHIFT ≡ weight e CLOSE + weight e SECOND = omega arith in
+      ap (weight e) shift ∙ whole ∙ ap (λ c. weight e c + weight e SECOND) (sym close)
+  | inr n ↦ absurd (never_first (f == k) (sym (taken_by f k n) ∙ h))
+]
+
+no_second_number : (e : Terminal) → (terminal_number e == CLOSE || terminal_number e == SECOND) ≡ false
+no_second_number terminal.Module = refl
+no_second_number e = refl
+
+no_part : (o : Option Terminal) → (number_of o == CLOSE || number_of o == SECOND) ≡ false
+no_part None = refl
+no_part (Some e) = no_second_number e
+
 -- a terminal that is counted
-module _ (e : ℕ) (counted : is_counted e ≡ true) (no_second : (SECOND == e) ≡ false) (no_close : (CLOSE == e) ≡ false) where
+module _ (e : ℕ) (counted : is_counted e ≡ true) where
   nothing_of : (b : Bool) → b ≡ false → bit b ≡ 0
   nothing_of true h = absurd cc
   nothing_of false h = refl
@@ -349,38 +395,16 @@ module _ (e : ℕ) (counted : is_counted e ≡ true) (no_second : (SECOND == e) 
     | inr n ↦ nothing_of (k == e) n
   ]
 
-  takes_count : (f k : ℕ) → takes f k ≡ All → bit (k == e) ≡ bit (f == e)
-  takes_count f k h = elim (cases_Bool (f == CLOSE)) [
-    | inl y ↦
-        let close = eqb-true f CLOSE y in
-        let either = close_takes (k == GREATER || k == SECOND) (k == SHIFT) (ap (λ c. takes c k) (sym close) ∙ h) in
-        let first : bit (k == e) ≡ 0 = elim (or_cases (k == GREATER) (k == SECOND) either) [
-          | inl greater ↦ ap (λ n. bit (n == e)) (eqb-true k GREATER greater) ∙ uncounted_not GREATER refl
-          | inr second ↦ ap (λ n. bit (n == e)) (eqb-true k SECOND second) ∙ nothing_of (SECOND == e) no_second
-        ] in
-        first ∙ sym (ap (λ n. bit (n == e)) close ∙ nothing_of (CLOSE == e) no_close)
-    | inr n ↦ ap (λ m. bit (m == e)) (sym (by_kind f k (sym (taken_by f k n) ∙ h)))
-  ]
-
-  halves_count : (f k : ℕ) → takes f k ≡ First → (bit (k == e) ≡ 0) × (bit (f == e) ≡ 0)
-  halves_count f k h = elim (cases_Bool (f == CLOSE)) [
-    | inl y ↦
-        let close = eqb-true f CLOSE y in
-        let shift = eqb-true k SHIFT (close_halves (k == GREATER || k == SECOND) (k == SHIFT) (ap (λ c. takes c k) (sym close) ∙ h)) in
-        (ap (λ n. bit (n == e)) shift ∙ uncounted_not SHIFT refl, ap (λ n. bit (n == e)) close ∙ nothing_of (CLOSE == e) no_close)
-    | inr n ↦ absurd (never_first (f == k) (sym (taken_by f k n) ∙ h))
-  ]
-
-  taken_count : (x : ℕ) (ys zs : List ℕ) → without_one x ys ≡ Some zs → count e ys ≡ bit (x == e) + count e zs
+  taken_count : (x : ℕ) (ys zs : List ℕ) → without_one x ys ≡ Some zs → plainly e ys ≡ bit (x == e) + plainly e zs
   taken_count x [] zs h = not_some h
   taken_count x (y ∷ ys) zs h = elim (cases_Bool (x == y)) [
     | inl same ↦
         let it : Some ys ≡ Some zs = ap (λ b. cond b (Some ys) (put_back y (without_one x ys))) (sym same) ∙ h in
-        ap (λ n. bit (n == e) + count e ys) (sym (eqb-true x y same)) ∙ ap (λ l. bit (x == e) + count e l) (some_equal it)
+        ap (λ n. bit (n == e) + plainly e ys) (sym (eqb-true x y same)) ∙ ap (λ l. bit (x == e) + plainly e l) (some_equal it)
     | inr other ↦
         let (ws, is, all) = was_back y (without_one x ys) zs (ap (λ b. cond b (Some ys) (put_back y (without_one x ys))) (sym other) ∙ h) in
         let deeper = taken_count x ys ws is in
-        let whole : count e zs ≡ bit (y == e) + count e ws = ap (count e) (sym all) in
+        let whole : plainly e zs ≡ bit (y == e) + plainly e ws = ap (plainly e) (sym all) in
         omega (arith, deeper, whole)
   ]
     where
@@ -388,7 +412,7 @@ module _ (e : ℕ) (counted : is_counted e ≡ true) (no_second : (SECOND == e) 
       was_back y None zs h = not_some h
       was_back y (Some ws) zs h = (ws, refl, some_equal h)
 
-  same_count : (xs ys : List ℕ) → are_same xs ys ≡ true → count e xs ≡ count e ys
+  same_count : (xs ys : List ℕ) → are_same xs ys ≡ true → plainly e xs ≡ plainly e ys
   same_count [] [] h = refl
   same_count [] (y ∷ ys) h = never h
   same_count (x ∷ xs) ys h =
@@ -401,39 +425,26 @@ module _ (e : ℕ) (counted : is_counted e ≡ true) (no_second : (SECOND == e) 
       had_rest None go h = never h
       had_rest (Some zs) go h = (zs, refl, h)
 
-  matters_not : (k : ℕ) → matters k ≡ false → bit (k == e) ≡ 0
-  matters_not k not_so = elim (cases_Bool (k == e)) [
-    | inl y ↦
-        let here : is_counted k ≡ true = ap is_counted (eqb-true k e y) ∙ counted in
-        let closes_so : (k == CLOSE) ≡ true = not-false (k == CLOSE) (ap (λ b. b && not (k == CLOSE)) (sym here) ∙ not_so) in
-        absurd (let q : true ≡ false = sym (ap (λ n. n == e) (sym (eqb-true k CLOSE closes_so)) ∙ y) ∙ no_close in cc)
-    | inr n ↦ nothing_of (k == e) n
-  ]
-    where
-      not-false : (b : Bool) → not b ≡ false → b ≡ true
-      not-false true h = refl
-      not-false false h = absurd cc
-
-  filter_count : (xs : List ℕ) → count e (filter matters xs) ≡ count e xs
+  filter_count : (xs : List ℕ) → plainly e (filter is_counted xs) ≡ plainly e xs
   filter_count [] = refl
-  filter_count (x ∷ xs) = by_test (matters x) refl (filter_count xs)
+  filter_count (x ∷ xs) = by_test (is_counted x) refl (filter_count xs)
     where
-      by_test : (b : Bool) → matters x ≡ b → count e (filter matters xs) ≡ count e xs → count e (cond b (x ∷ filter matters xs) (filter matters xs)) ≡ bit (x == e) + count e xs
+      by_test : (b : Bool) → is_counted x ≡ b → plainly e (filter is_counted xs) ≡ plainly e xs → plainly e (cond b (x ∷ filter is_counted xs) (filter is_counted xs)) ≡ bit (x == e) + plainly e xs
       by_test true is deeper = ap (λ n. bit (x == e) + n) deeper
-      by_test false is deeper = let zero = matters_not x is in omega (arith, zero, deeper)
+      by_test false is deeper = let zero = uncounted_not x is in omega (arith, zero, deeper)
 
   balanced : (ss : List Symbol) → is_even ss ≡ true → count e (symbol_numbers ss) ≡ count e (mark_numbers ss)
-  balanced ss h = sym (filter_count (symbol_numbers ss)) ∙ same_count _ _ h ∙ filter_count (mark_numbers ss)
+  balanced ss h =
+      sym (count_parts e (symbol_numbers ss)) ∙ sym (filter_count (flat_map parts_of (symbol_numbers ss))) ∙ same_count _ _ h ∙ filter_count (flat_map parts_of (mark_numbers ss)) ∙ count_parts e (mark_numbers ss)
 
   -- what a reading adds to the pile, and what its marks build beside
   even : {ss : List Symbol} {w v : List Tok} {s t : Pile} → Goes ss w s v t → are_used ss ≡ true → pile_count e s + toks_count e w + count e (mark_numbers ss) ≡ pile_count e t + toks_count e v + count e (symbol_numbers ss)
   even nothing used = refl
-  even (whole {e = f} {x = x} h g) used = let deeper = even g used in let here = takes_count f (number x) h in omega (arith, deeper, here)
+  even (whole {e = f} {x = x} h g) used = let deeper = even g used in let here = takes_count e f (number x) h in omega (arith, deeper, here)
   even (first_half {e = f} {x = x} h g) used =
       let deeper = even g used in
-      let (first, close) = halves_count f (number (entire x)) h in
-      let second = nothing_of (SECOND == e) no_second in
-      omega (arith, deeper, first, close, second)
+      let both = halves_count e f (number (entire x)) h in
+      omega (arith, deeper, both)
   even (mark {n = n} {ss = ss} {w = w} {s = s} {t = t} m is done g) used =
       let deeper = even g used in
       let here = does_counts e (rule m) (next w) s t (rule_uniform m) done in
@@ -448,34 +459,30 @@ module _ (e : ℕ) (counted : is_counted e ≡ true) (no_second : (SECOND == e) 
       let same = balanced (right own n p) fine.0 in
       omega (arith, first, rest, same)
 
-  counted_before : (ws : List Word) → toks_count e (before ws []) ≡ length (filter (λ w. number_of (terminal_of (read_as w)) == e) ws)
-  counted_before [] = refl
-  counted_before (w ∷ ws) = by_test (number_of (terminal_of (read_as w)) == e) (counted_before ws)
+  by_filter : (ks : List ℕ) → plainly e ks ≡ length (filter (λ k. k == e) ks)
+  by_filter [] = refl
+  by_filter (k ∷ ks) = by_test (k == e) (by_filter ks)
     where
-      by_test : (b : Bool) → toks_count e (before ws []) ≡ length (filter (λ v. number_of (terminal_of (read_as v)) == e) ws)
-          → bit b + toks_count e (before ws []) ≡ length (cond b (w ∷ filter (λ v. number_of (terminal_of (read_as v)) == e) ws) (filter (λ v. number_of (terminal_of (read_as v)) == e) ws))
+      by_test : (b : Bool) → plainly e ks ≡ length (filter (λ k. k == e) ks) → bit b + plainly e ks ≡ length (cond b (k ∷ filter (λ k. k == e) ks) (filter (λ k. k == e) ks))
       by_test true deeper = omega (arith, deeper)
       by_test false deeper = omega (arith, deeper)
 
-  module_counts : (ws : List Word) (m : Tree) → ReadsModule (before ws []) m → length (filter (λ w. number_of (terminal_of (read_as w)) == e) ws) ≡ tree_count e m
-  module_counts ws m g = let all = even g refl in let these = counted_before ws in omega (arith, all, these)
+  counted_before : (ws : List Word) → toks_count e (before ws []) ≡ plainly e (terminals_in ws)
+  counted_before [] = refl
+  counted_before (w ∷ ws) =
+      let n = number_of (terminal_of (read_as w)) in
+      let here : weight e n ≡ plainly e (halves n) = ap (λ b. plainly e (cond b (GREATER ∷ []) (halves n))) (no_part (terminal_of (read_as w))) in
+      ap (λ m. m + toks_count e (before ws [])) here ∙ ap (λ m. plainly e (halves n) + m) (counted_before ws) ∙ sym (plainly_append e (halves n) (terminals_in ws))
 
-no_second_number : (e : Terminal) → (SECOND == terminal_number e) ≡ false
-no_second_number terminal.Module = refl
-no_second_number e = refl
-
-no_close_number : (e : Terminal) → (CLOSE == terminal_number e) ≡ false
-no_close_number terminal.Module = refl
-no_close_number e = refl
+  module_counts : (ws : List Word) (m : Tree) → ReadsModule (before ws []) m → length (filter (λ k. k == e) (terminals_in ws)) ≡ tree_count e m
+  module_counts ws m g = let all = even g refl in let these = counted_before ws in let those = by_filter (terminals_in ws) in omega (arith, all, these, those)
 
 -- A reserved word or mark that is counted stands as often in a module's text as in its canonical text.
 pub same_times : (lexed : Lexed) (m : Tree) → IsLexed lexed.text lexed.list → IsModuleTree lexed m → (e : Terminal) → is_counted (terminal_number e) ≡ true → times e (words_told (told lexed)) ≡ times e (flat (module_lines m))
 same_times lexed m is read e counted =
     let (ws, tell) = told_words lexed is in
     let once = goes_of_tree lexed m ws tell read in
-    let second = no_second_number e in
-    let close = no_close_number e in
     ap (λ ts. times e (words_told ts)) tell ∙ ap (times e) (words_of_tellings ws)
-    ∙ module_counts (terminal_number e) counted second close ws (bare m) once
-    ∙ sym (module_counts (terminal_number e) counted second close (flat (module_lines (bare m))) (bare m) (again (before ws []) (bare m) once))
+    ∙ module_counts (terminal_number e) counted ws (bare m) once
+    ∙ sym (module_counts (terminal_number e) counted (flat (module_lines (bare m))) (bare m) (again (before ws []) (bare m) once))
     ∙ ap (λ lines. times e (flat lines)) (lines_same m)
