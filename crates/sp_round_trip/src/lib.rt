@@ -1,4 +1,6 @@
-//! What the canonical text of a module has to do with the module.
+//! What the canonical text of a module has to do with the module. There is no code here, and so no edit that must fail: what
+//! the laws speak of is computed in `sp_lex`, `sp_build`, `sp_read_unit` and `sp_print`, which have such edits. A layout that
+//! leaves out a word, in the code and its definition alike, is refused here.
 #![tactic(auto)]
 
 mod laws;
