@@ -1,4 +1,5 @@
-//! Laws of printed words: the text of words is read as the tokens that they are.
+//! Laws of printed words: the text of words is read as the tokens that they are. There is no code here, and so no edit that
+//! must fail: what the laws speak of is computed in `sp_lex` and `sp_print`, which have such edits.
 #![tactic(auto)]
 
 mod laws;

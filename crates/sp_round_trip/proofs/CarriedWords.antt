@@ -1,12 +1,11 @@
 -- No name, number or literal is lost: whatever is read as a module, those among its words are those that its tree tells, in
 -- their order. So a text and its canonical text, which are read as one tree, have the same.
-use Rattle.std.specs.Prelude.{filter, option_map, length, not, ◌<◌, ◌&&◌, ◌||◌, if◌then◌else◌}
-use Rattle.std.proofs.Common.{◌≡◌, ℕ, List, [], ◌∷◌, ◌++◌, map, reverse, Bool, true, false, cond, ◌==◌, Option, Some, None, inl, inr, refl, sym, ◌∙◌, ap, subst, append_assoc}
+use Rattle.std.specs.Prelude.{option_map, length, not, ◌<◌, ◌&&◌, ◌||◌, if◌then◌else◌}
+use Rattle.std.proofs.Common.{◌≡◌, ℕ, List, [], ◌∷◌, ◌++◌, map, reverse, Bool, true, false, cond, ◌==◌, Option, Some, None, inl, inr, refl, sym, ◌∙◌, ap, append_assoc}
 use Rattle.std.proofs.lemmas.Bool.{and_parts, cases_Bool, eqb-true, not-true}
 use Rattle.std.proofs.lemmas.List.{append-nil}
 use Rattle.sp_lex.specs.Lexed.{Lexed, IsLexed}
 use Rattle.sp_lex.specs.declared.kinds.Absent.TheVariants as absent_word
-use Rattle.sp_lex.specs.declared.kinds.Keyword.TheVariants as keyword
 use Rattle.sp_lex.specs.declared.kinds.TokenKind.{TokenKind}
 use Rattle.sp_lex.specs.declared.kinds.TokenKind.TheVariants as token
 use Rattle.sp_parser.specs.declared.symbol.Symbol.{Symbol}
@@ -21,7 +20,7 @@ use Rattle.sp_runs.specs.Kinds.{number_of, terminal_of}
 use Rattle.sp_ast.specs.declared.forms.Form.{Form}
 use Rattle.sp_ast.specs.declared.words.AttributeName.{AttributeName}
 use Rattle.sp_ast.specs.declared.words.IntWord.{IntWord}
-use Rattle.sp_ast.specs.Trees.{Tree, Trees, absent, row, node, none, more, trees, tree, in_row}
+use Rattle.sp_ast.specs.Trees.{Tree, Trees, absent, row, node, none, more, trees, tree}
 use Rattle.sp_build.specs.declared.groups.Group.TheVariants.{Expressions as expressions}
 use Rattle.sp_build.specs.declared.groups.Sort.{Sort}
 use Rattle.sp_build.specs.declared.groups.Sort.TheVariants.{One as one}
@@ -33,7 +32,7 @@ use Rattle.sp_build.specs.Tokens.{integer_of, attribute_of}
 use Rattle.sp_build.proofs.Standing.{some_equal, not_some}
 use Rattle.sp_build.proofs.Told.{never}
 use Rattle.sp_print.specs.Own.{own_words}
-use Rattle.sp_print.specs.Words.{Word, fixed, name, text, bytes, regex, number as numeral}
+use Rattle.sp_print.specs.Words.{Word, name, text, bytes, regex, number as numeral}
 use Rattle.sp_printed_words.specs.Modules.{module_lines}
 use Rattle.sp_printed_words.specs.Sound.{read_as}
 use Rattle.sp_read_unit.specs.Modules.{IsModuleTree}
@@ -98,15 +97,21 @@ top_if true t u s rest h =
     let rest_is : s ≡ rest = ap (λ x. let y : After Tree = x in y.rest) same in cc
 top_if false t u s rest h = not_some h
 
-top_is : (sort : Sort) (s : Pile) (u : Tree) (rest : Pile) → top sort s ≡ Some (after u rest) → s ≡ made u ∷ rest
+pub top_is : (sort : Sort) (s : Pile) (u : Tree) (rest : Pile) → top sort s ≡ Some (after u rest) → s ≡ made u ∷ rest
 top_is sort [] u rest h = not_some h
 top_is sort (started p ∷ s) u rest h = not_some h
 top_is sort (made t ∷ s) u rest h = top_if (fits sort t) t u s rest h
 
+pub start_rest : (s : Pile) (p : Telling) (rest : Pile) → start s ≡ Some (after p rest) → s ≡ started p ∷ rest
+start_rest [] p rest h = not_some h
+start_rest (made t ∷ s) p rest h = not_some h
+start_rest (started q ∷ s) p rest h =
+    let same = some_equal h in
+    let telling_is : q ≡ p = ap (λ x. let y : After Telling = x in y.value) same in
+    let rest_is : s ≡ rest = ap (λ x. let y : After Telling = x in y.rest) same in cc
+
 start_is : (s : Pile) (p : Telling) (rest : Pile) → start s ≡ Some (after p rest) → pile_carries s ≡ pile_carries rest
-start_is [] p rest h = not_some h
-start_is (made t ∷ s) p rest h = not_some h
-start_is (started q ∷ s) p rest h = ap pile_carries (ap (λ x. let y : After Telling = x in y.rest) (some_equal h))
+start_is s p rest h = ap pile_carries (start_rest s p rest h)
 
 front_if : (b : Bool) (x y : After (List Tree)) (s : Pile) (ts : List Tree) → Popped x.rest x.value s ts → Popped y.rest y.value s ts → Popped (if b then x else y).rest (if b then x else y).value s ts
 front_if true x y s ts p q = p
@@ -119,7 +124,7 @@ front_popped wanted (made t ∷ s) ts =
     front_if (wanted t) (front wanted s (t ∷ ts)) (after ts (made t ∷ s)) (made t ∷ s) ts (front_popped wanted s (t ∷ ts) ∙ one_popped t s ts) refl
 
 -- an answer that goes on came from one
-after_some : {A B : Type 0} (o : Option (After A)) (go : A → Pile → Option B) (y : B) → after_do o go ≡ Some y → (x : A) × (rest : Pile) × (o ≡ Some (after x rest)) × (go x rest ≡ Some y)
+pub after_some : {A B : Type 0} (o : Option (After A)) (go : A → Pile → Option B) (y : B) → after_do o go ≡ Some y → (x : A) × (rest : Pile) × (o ≡ Some (after x rest)) × (go x rest ≡ Some y)
 after_some None go y h = not_some h
 after_some (Some x) go y h = (x.value, x.rest, refl, h)
 
@@ -425,7 +430,7 @@ carried_before (w ∷ ws) = one_behind (carries (read_as w)) w ws (toks_carry (b
 module_carries : (ws : List Word) (m : Tree) → ReadsModule (before ws []) m → carried ws ≡ tree_carries m
 module_carries ws m g = sym (carried_before ws) ∙ kept g refl ∙ append-nil (tree_carries m)
 
-words_of_tellings : (ws : List Word) → words_told (map telling_of ws) ≡ ws
+pub words_of_tellings : (ws : List Word) → words_told (map telling_of ws) ≡ ws
 words_of_tellings [] = refl
 words_of_tellings (w ∷ ws) = ap (λ vs. w ∷ vs) (words_of_tellings ws)
 

@@ -47,5 +47,7 @@ pub mod ToldWords
 pub mod FormedTrees
 pub mod FormedModules
 pub mod PlacedWords
-pub mod CarriedWords
 pub mod Canonical
+-- What a text and its canonical text have in common, read as one tree.
+pub mod CarriedWords
+pub mod CountedWords

@@ -20,7 +20,7 @@ use Rattle.sp_round_trip.proofs.TextReadings.{ReadsModule}
 use Rattle.sp_round_trip.proofs.Tested.{test_again}
 use Rattle.sp_round_trip.proofs.SpecialAlternatives.{alternatives, is_among, claimed_among}
 
-abbrev is_other : Manner → Bool
+abbrev pub is_other : Manner → Bool
 is_other other = true
 is_other _ = false
 
