@@ -12,7 +12,14 @@ use Rattle.sp_grammar.specs.declared.marks.Mark.TheVariants as build
 use Rattle.sp_grammar.specs.Terminals.{terminal_number}
 use Rattle.sp_grammar.specs.Written.{Part, kind, close, mark, all_parts}
 use Rattle.sp_grammar.specs.Written as symbol_of
-use Rattle.sp_grammar.specs.Written.{Module, Decls, Decl, OptType, OptParams, Params, Param, Path, PathTail, OnPath, Hook, OptParen, OptPriority, TypeTree, Plain, Types, Label, OptValue, Labels, Ranges, Range, OptUpTo, Items, Item, ItemOn, OptSemi, UnitPart, ValueArms, ValueArm, PlainArms, Arm, Parts, Field, Base, Counts, OptExpr, Attrs, OptIf, OptSink, FieldEnd, FieldHooks, FieldHook, Block, Stmts, Stmt, Branch, OptElse, Other, Cases, OptDefault, OptText, Expr, Or, And, Membership, Equality, Order, BitOr, BitXor, BitAnd, Shift, Sum, Product, Prefix, Postfix, Member, Args, Exprs, Primary, Pairs, Pair, NewArgs}
+use Rattle.sp_grammar.specs.Written.{Module, Decls, Decl, OptType, OptParams, Params, Param, Path, PathTail}
+use Rattle.sp_grammar.specs.Written.{OnPath, Hook, OptParen, OptPriority}
+use Rattle.sp_grammar.specs.Written.{TypeTree, Plain, Types, Label, OptValue, Labels, Ranges, Range, OptUpTo}
+use Rattle.sp_grammar.specs.Written.{Items, Item, ItemOn, OptSemi, UnitPart, ValueArms, ValueArm, PlainArms, Arm, Parts}
+use Rattle.sp_grammar.specs.Written.{Field, Base, Counts, OptExpr, Attrs, OptIf, OptSink, FieldEnd, FieldHooks, FieldHook}
+use Rattle.sp_grammar.specs.Written.{Block, Stmts, Stmt, Branch, OptElse, Other, Cases, OptDefault, OptText}
+use Rattle.sp_grammar.specs.Written.{Expr, Or, And, Membership, Equality, Order, BitOr, BitXor, BitAnd, Shift, Sum, Product}
+use Rattle.sp_grammar.specs.Written.{Prefix, Postfix, Member, Args, Exprs, Primary, Pairs, Pair, NewArgs}
 
 -- What is read one after another: tokens, parts of the grammar, and marks, which read nothing.
 abbrev pub Phrase : Type 0
@@ -113,11 +120,11 @@ in_angles phrase = word token.Less then phrase then closing
 abbrev pub row_in_parens : Phrase → Phrase
 row_in_parens phrase = word token.LeftParen then at build.Begin then phrase then word token.RightParen then at build.Row
 
--- the phrase, or nothing
+-- the phrase, which may be left out
 abbrev pub optional : Phrase → List Production
 optional phrase = one phrase or one left_out
 
--- the phrase behind this token, or nothing
+-- the phrase behind this token, which may be left out
 abbrev pub optional_behind : Terminal → Phrase → List Production
 optional_behind t phrase = optional (word t then phrase)
 
