@@ -165,10 +165,10 @@ fn files(alloc: Global, text: &[u8]) -> Result<Vec<(Text, ByteList)>, NoMemory> 
     Ok(files)
 }
 
-fn answer_of(alloc: Global, run: &Run, text: &[u8]) -> Result<String, Fail> {
+fn answer_of(alloc: Global, run: &Run) -> Result<String, Fail> {
     let words = texts(alloc, run.words)?;
     let pieces = lists(alloc, run.pieces)?;
-    let files = files(alloc, text)?;
+    let files = files(alloc, run.text)?;
     let mut modules = MemModules::new(alloc, files.as_slice(), run.modules_fails)?;
     let mut input = MemSource::new(alloc, pieces.as_slice(), run.source_fails)?;
     let mut out = MemOut::new(alloc, run.out_fails)?;
@@ -190,25 +190,8 @@ fn answer_of(alloc: Global, run: &Run, text: &[u8]) -> Result<String, Fail> {
 #[test]
 fn runs(rt: HostRuntime) -> Result<(), Fail> {
     for run in &RUNS {
-        let answer = answer_of(rt.alloc(), run, run.text)?;
+        let answer = answer_of(rt.alloc(), run)?;
         assert_eq!(rt; answer.as_str(), run.answer);
-    }
-    Ok(())
-}
-
-/// The first run with a module of as many bytes as one may have, and of one more.
-#[test]
-fn runs_the_longest_module(rt: HostRuntime) -> Result<(), Fail> {
-    for (length, wanted) in [
-        (1_048_576, RUNS[0].answer),
-        (1_048_577, "3|m.spicy:1:1: M4 TooLarge\n"),
-    ] {
-        let mut text = ByteList::from_slice(rt.alloc(), PAIR)?;
-        for _ in PAIR.len()..length {
-            text.push(b' ')?;
-        }
-        let answer = answer_of(rt.alloc(), &RUNS[0], text.as_slice())?;
-        assert_eq!(rt; answer.as_str(), wanted);
     }
     Ok(())
 }
