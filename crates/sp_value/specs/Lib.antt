@@ -8,6 +8,7 @@ pub mod Ascending
 pub mod Widths
 pub mod Valid
 pub mod Levels
+pub mod Owned
 pub mod Parts
 pub mod Changes
 pub mod Places

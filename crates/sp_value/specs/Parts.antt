@@ -36,8 +36,8 @@ abbrev pub label_in : Val → Option (ℕ × ℕ)
 label_in (enum k n) = Some (k, n)
 label_in _ = None
 
--- the number of the type, and the integer of all bits
-abbrev pub bits_in : Val → Option (ℕ × ℕ)
+-- the number of the type, and the numbers of the named ranges
+abbrev pub bits_in : Val → Option (ℕ × List ℕ)
 bits_in (bits k n) = Some (k, n)
 bits_in _ = None
 

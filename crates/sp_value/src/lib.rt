@@ -1,6 +1,7 @@
 //! Values of a run: cheap to copy, since a copy shares what it holds, and changed in place where nothing is shared.
 #![tactic(auto)]
 
+mod bitfields;
 mod change;
 mod integers;
 mod keyed;
@@ -9,15 +10,18 @@ mod level;
 mod list;
 mod make;
 mod order;
+mod parts;
 mod read;
 mod swap;
 #[cfg(test)]
 mod tests;
 mod value;
 
+pub use bitfields::read_bits;
 pub use integers::read_int;
 pub use laws::{law_of_equality, law_of_keys, law_of_order};
 pub use level::Level;
 pub use list::{Values, copy_all};
 pub use order::{compare, kind};
+pub use parts::Parts;
 pub use value::Value;

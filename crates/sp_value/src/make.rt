@@ -72,13 +72,15 @@ impl Value {
         }
     }
 
-    /// The integer of all bits, of the bitfield with the number `kind`.
-    pub fn bits(kind: u32, n: u64) -> Value
-        ensures { result ≡ bits kind n }
+    /// The bitfield with the number `kind` whose named ranges hold these numbers, in the order in which its type
+    /// declares them.
+    pub fn bits(kind: u32, ranges: Vec<u64>) -> Result<Value, NoMemory>
+        ensures { IfOk result (λ value. value ≡ bits kind ranges.items) }
     {
-        Value {
-            node: Node::Bits(kind, n),
-        }
+        let ranges = Rc::new(*ranges.allocator(), ranges)?;
+        Ok(Value {
+            node: Node::Bits(kind, ranges),
+        })
     }
 
     pub fn tuple(members: Vec<Value>) -> Result<Value, NoMemory>

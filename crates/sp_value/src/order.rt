@@ -29,8 +29,8 @@ pub fn kind(value: &Value) -> u8
 }
 
 /// How two values of one type stand in their order: `false` before `true`, numbers by size, bytes and texts by the
-/// first byte that differs, labels of an enum by number, and tuples, vectors, sets and maps by their members in turn.
-/// A part stands before the whole.
+/// first byte that differs, labels of an enum by number, bitfields by their named ranges in turn, and tuples, vectors,
+/// sets and maps by their members in turn. A part stands before the whole.
 #[cycle(compare)]
 #[tactic(auto, using(crate::proofs::Members::size_within, crate::proofs::Members::entry_size_within))]
 pub fn compare(a: &Value, b: &Value) -> Ordering
@@ -43,7 +43,7 @@ pub fn compare(a: &Value, b: &Value) -> Ordering
         (Node::Bytes(a), Node::Bytes(b)) => a.as_slice().cmp(b.as_slice()),
         (Node::Str(a), Node::Str(b)) => a.as_bytes().cmp(b.as_bytes()),
         (Node::Enum(_, m), Node::Enum(_, n)) => m.cmp(n),
-        (Node::Bits(_, m), Node::Bits(_, n)) => m.cmp(n),
+        (Node::Bits(_, a), Node::Bits(_, b)) => a.as_slice().cmp(b.as_slice()),
         (Node::Tuple(a), Node::Tuple(b)) => compare_all(a, b),
         (Node::Vector(a), Node::Vector(b)) => compare_all(a, b),
         (Node::Set(a), Node::Set(b)) => compare_all(a, b),

@@ -1,5 +1,7 @@
 // The parts of a value: each answer is `None` for a value of another kind.
 ghost use Rattle.std.specs.Prelude.{◌≡◌, option_copied};
+ghost use Rattle.std.specs.Option.{option_map};
+ghost use Rattle.sp_value.specs.Ascending.{IsInOrder};
 ghost use Rattle.sp_value.specs.Parts.{bool_in, number_in, signed_in, width_in, bytes_in, text_in, label_in, bits_in, items_in, entries_in, instance_in, place_in, size_in};
 
 use crate::value::{Node, Value};
@@ -74,12 +76,12 @@ impl Value {
         }
     }
 
-    /// The number of a bitfield's type, and the integer of all its bits.
-    pub fn as_bits(&self) -> Option<(u32, u64)>
-        ensures { result ≡ bits_in self.now }
+    /// The number of a bitfield's type, and the numbers of its named ranges in the order in which the type declares them.
+    pub fn as_bits(&self) -> Option<(u32, &[u64])>
+        ensures { option_map (λ found. (found.0, found.1.now)) result ≡ bits_in self.now }
     {
         match &self.node {
-            Node::Bits(kind, n) => Some((*kind, *n)),
+            Node::Bits(kind, ranges) => Some((*kind, ranges.as_slice())),
             _ => None,
         }
     }
@@ -87,7 +89,8 @@ impl Value {
     /// The members of a tuple, a vector or a set, in order.
     #[tactic(auto, using(crate::proofs::Lists::list_of_vals_of, crate::proofs::Lists::pairs_of_entries_of))]
     pub fn as_items(&self) -> Option<&[Value]>
-        ensures { option_copied result ≡ items_in self.now }
+        ensures items { option_copied result ≡ items_in self.now }
+        ensures ascending { IsInOrder self.now }
     {
         match &self.node {
             Node::Tuple(items) => Some(items.as_slice()),
@@ -100,7 +103,8 @@ impl Value {
     /// The keys and values of a map, in the order of the keys.
     #[tactic(auto, using(crate::proofs::Lists::list_of_vals_of, crate::proofs::Lists::pairs_of_entries_of))]
     pub fn as_entries(&self) -> Option<&[(Value, Value)]>
-        ensures { option_copied result ≡ entries_in self.now }
+        ensures entries { option_copied result ≡ entries_in self.now }
+        ensures ascending { IsInOrder self.now }
     {
         match &self.node {
             Node::Map(entries) => Some(entries.as_slice()),

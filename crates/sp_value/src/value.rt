@@ -26,8 +26,8 @@ pub(crate) enum Node {
     Str(Rc<String>),
     /// the number of an enum's type, and the label's number
     Enum(u32, u64),
-    /// the number of a bitfield's type, and the integer of all its bits
-    Bits(u32, u64),
+    /// the number of a bitfield's type, and the numbers of its named ranges
+    Bits(u32, Rc<Vec<u64>>),
     Tuple(Rc<Vec<Value>>),
     Vector(Rc<Vec<Value>>),
     /// ascending, none twice
@@ -80,7 +80,7 @@ impl Value {
             Node::Bytes(bytes) => Node::Bytes(bytes.clone()?),
             Node::Str(text) => Node::Str(text.clone()?),
             Node::Enum(kind, n) => Node::Enum(*kind, *n),
-            Node::Bits(kind, n) => Node::Bits(*kind, *n),
+            Node::Bits(kind, ranges) => Node::Bits(*kind, ranges.clone()?),
             Node::Tuple(members) => Node::Tuple(members.clone()?),
             Node::Vector(items) => Node::Vector(items.clone()?),
             Node::Set(keys) => Node::Set(keys.clone()?),
