@@ -12,6 +12,7 @@ pub mod Owned
 pub mod Parts
 pub mod Changes
 pub mod Places
+pub mod Pieces
 pub mod OneKey
 pub mod Alike
 pub mod Integers

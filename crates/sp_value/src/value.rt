@@ -30,10 +30,10 @@ pub(crate) enum Node {
     Bits(u32, Rc<Vec<u64>>),
     Tuple(Rc<Vec<Value>>),
     Vector(Rc<Vec<Value>>),
-    /// ascending, none twice
-    Set(Rc<Vec<Value>>),
-    /// keys and values, the keys ascending, none twice
-    Map(Rc<Vec<(Value, Value)>>),
+    /// how many members there are, and they, ascending, none twice, in pieces none of which is empty
+    Set(u32, Rc<Vec<Rc<Vec<Value>>>>),
+    /// how many entries there are, and they, the keys ascending, none twice, in pieces none of which is empty
+    Map(u32, Rc<Vec<Rc<Vec<(Value, Value)>>>>),
     /// the number of a unit's instance
     Unit(usize),
     /// a place of an input, from 0
@@ -83,8 +83,8 @@ impl Value {
             Node::Bits(kind, ranges) => Node::Bits(*kind, ranges.clone()?),
             Node::Tuple(members) => Node::Tuple(members.clone()?),
             Node::Vector(items) => Node::Vector(items.clone()?),
-            Node::Set(keys) => Node::Set(keys.clone()?),
-            Node::Map(entries) => Node::Map(entries.clone()?),
+            Node::Set(n, keys) => Node::Set(*n, keys.clone()?),
+            Node::Map(n, entries) => Node::Map(*n, entries.clone()?),
             Node::Unit(instance) => Node::Unit(*instance),
             Node::Place(place) => Node::Place(*place),
         };
