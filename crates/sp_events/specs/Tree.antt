@@ -2,9 +2,10 @@
 use Rattle.std.specs.Prelude.{ℕ, ℤ, Bool, List, [], ◌∷◌}
 
 mutual
-  -- an enum is the name of its label, as E::A, or its number where no label has it; a bitfield is the numbers of its
+  -- void is the value of what has none; an enum is the name of its label, as E::A, or its number where no label has it; a bitfield is the numbers of its
   -- named ranges; a place is where an iterator stands
   pub data TreeData : Type 0 where
+    void : TreeData
     bool : Bool → TreeData
     uint : ℕ → TreeData
     int : ℤ → TreeData

@@ -2,7 +2,7 @@
 use Rattle.std.specs.Prelude.{◌≡◌, ℕ, List, [], ◌∷◌, refl}
 use base.Stored.{Gv, gnil, gnum, gcons, Coded, coded_bool, coded_ℤ}
 use Rattle.std.proofs.Common.{ap, arith}
-use Rattle.sp_events.specs.Tree.{TreeData, bool, uint, int, bytes, str, label, unlisted, bits, tuple, vector, set, map, unit, place, TreesData, no_trees, tree, PairsData, no_pairs, pair, FieldsData, no_fields, field}
+use Rattle.sp_events.specs.Tree.{TreeData, void, bool, uint, int, bytes, str, label, unlisted, bits, tuple, vector, set, map, unit, place, TreesData, no_trees, tree, PairsData, no_pairs, pair, FieldsData, no_fields, field}
 
 abbrev numbers_code : List ℕ → Gv
 numbers_code [] = gnil
@@ -14,6 +14,7 @@ ranges_code (r ∷ rs) = gcons (gcons (numbers_code r.0) (gnum r.1)) (ranges_cod
 
 abbrev mutual
   tree_code : TreeData → Gv
+  tree_code void = gcons (gnum 14) gnil
   tree_code (bool b) = gcons (gnum 0) (coded_bool.code b)
   tree_code (uint n) = gcons (gnum 1) (gnum n)
   tree_code (int n) = gcons (gnum 2) (coded_ℤ.code n)
@@ -68,6 +69,7 @@ ranges_code-inj xs ys p = cc
 
 mutual
   pub tree_code-inj : (x y : TreeData) → tree_code x ≡ tree_code y → x ≡ y
+  tree_code-inj void void p = refl
   tree_code-inj (bool b) (bool c) p = ap bool (coded_bool.inj b c (ap tail p))
   tree_code-inj (uint m) (uint n) p = ap (λ g. uint (number (tail g))) p
   tree_code-inj (int m) (int n) p = ap int (coded_ℤ.inj m n (ap tail p))

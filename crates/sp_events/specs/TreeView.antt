@@ -1,9 +1,10 @@
 -- The value that one level of a tree stands for.
-use Rattle.sp_events.specs.Tree.{TreeData, bool, uint, int, bytes, str, label, unlisted, bits, tuple, vector, set, map, unit, place, trees_of, pairs_of, fields_of}
+use Rattle.sp_events.specs.Tree.{TreeData, void, bool, uint, int, bytes, str, label, unlisted, bits, tuple, vector, set, map, unit, place, trees_of, pairs_of, fields_of}
 use Rattle.sp_events.specs.declared.tree.Node.{Node}
-use Rattle.sp_events.specs.declared.tree.Node.TheVariants.{Bool, Uint, Int, Bytes, Str, Label, Unlisted, Bits, Tuple, Vector, Set, Map, Unit as UnitNode, Place}
+use Rattle.sp_events.specs.declared.tree.Node.TheVariants.{Void, Bool, Uint, Int, Bytes, Str, Label, Unlisted, Bits, Tuple, Vector, Set, Map, Unit as UnitNode, Place}
 
 abbrev pub tree_of : Node → TreeData
+tree_of Void = void
 tree_of (Bool b) = bool b
 tree_of (Uint n) = uint n
 tree_of (Int n) = int n

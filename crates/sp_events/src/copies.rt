@@ -10,6 +10,7 @@ pub(crate) fn copy_tree(tree: &Tree) -> Result<Tree, NoMemory>
     ensures { IfOk result (λ copy. copy ≡ tree.now) }
 {
     let node = match &tree.node {
+        Node::Void => Node::Void,
         Node::Bool(b) => Node::Bool(*b),
         Node::Uint(n) => Node::Uint(*n),
         Node::Int(n) => Node::Int(*n),

@@ -16,6 +16,8 @@ pub struct Tree {
 #[cycle(tree)]
 #[derive(Drop)]
 pub enum Node {
+    /// what a field without a value holds
+    Void,
     Bool(bool),
     Uint(u64),
     Int(i64),

@@ -4,7 +4,7 @@ use Rattle.std.specs.Fmt.{digits}
 use Rattle.std.proofs.Common.{◌≡◌, List, ℕ, [], ◌∷◌, ◌++◌, refl}
 use Rattle.serde_json.proofs.OnLiterals.{serde_json_on_literals}
 use Rattle.sp_base.specs.declared.kinds.PKind.TheVariants.{Short, Assert}
-use Rattle.sp_events.specs.Tree.{bool, uint, int, bytes, str, label, unlisted, bits, tuple, vector, set, map, unit, place, trees_of, pairs_of, fields_of}
+use Rattle.sp_events.specs.Tree.{void, bool, uint, int, bytes, str, label, unlisted, bits, tuple, vector, set, map, unit, place, trees_of, pairs_of, fields_of}
 use Rattle.sp_events.specs.declared.event.What.{What}
 use Rattle.sp_events.specs.declared.event.What.TheVariants.{Hook, Print, Write, Forward, ForwardEod, Done, Failed}
 use Rattle.sp_json.specs.Lines.{line_of, report_of}
@@ -53,6 +53,10 @@ members = refl
 entries : line (Print (map (pairs_of ((uint 1, str (codes "x")) ∷ (uint 2, str (codes "y")) ∷ [])) ∷ bits ((codes "lo", 2) ∷ (codes "hi", 1) ∷ []) ∷ [])) ≡ codes "{\"at\":\"0\",\"print\":[[[1,\"x\"],[2,\"y\"]],{\"hi\":1,\"lo\":2}]}\n"
 unfolding digits serde_json_on_literals
 entries = refl
+
+without_value : line (Print (void ∷ [])) ≡ codes "{\"at\":\"0\",\"print\":[null]}\n"
+unfolding digits serde_json_on_literals
+without_value = refl
 
 reported : report_of (codes "0") 2 4 ≡ codes "{\"at\":\"0\",\"kept\":2,\"received\":4}\n"
 unfolding digits serde_json_on_literals

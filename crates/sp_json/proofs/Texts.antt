@@ -12,7 +12,7 @@ use Rattle.serde_json.specs.Data.{Data, number, unsigned, array, item, no_items,
 use Rattle.serde_json.specs.View.{items_of}
 use Rattle.serde_json.specs.Find.{of_integer}
 use Rattle.serde_json.specs.Written.{has_float, items_have_float, members_have_float}
-use Rattle.sp_events.specs.Tree.{TreeData, bool, uint, int, bytes, str, label, unlisted, bits, tuple, vector, set, map, unit, place, TreesData, no_trees, tree, PairsData, no_pairs, pair, FieldsData, no_fields, field, trees_of, pairs_of}
+use Rattle.sp_events.specs.Tree.{TreeData, void, bool, uint, int, bytes, str, label, unlisted, bits, tuple, vector, set, map, unit, place, TreesData, no_trees, tree, PairsData, no_pairs, pair, FieldsData, no_fields, field, trees_of, pairs_of}
 use Rattle.sp_events.specs.declared.event.What.{What}
 use Rattle.sp_events.specs.declared.event.What.TheVariants.{Hook, Print, Write, Forward, ForwardEod, Done, Failed}
 use Rattle.sp_json.specs.Values.{tree_json, trees_json, pairs_json, with_fields, with_ranges}
@@ -58,6 +58,7 @@ ranges_float (r ∷ rs) ms e = ranges_float rs (put r.0 (number (unsigned r.1)) 
 
 mutual
   tree_float : (t : TreeData) → has_float (tree_json t) ≡ false
+  tree_float void = refl
   tree_float (bool b) = refl
   tree_float (uint n) = refl
   tree_float (int n) = integer_float n

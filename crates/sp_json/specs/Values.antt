@@ -1,8 +1,8 @@
 -- A told value as JSON (RFC 8259).
 use Rattle.std.specs.Prelude.{ℕ, List, [], ◌∷◌, encode_utf8_all}
-use Rattle.serde_json.specs.Data.{Data, boolean, number, unsigned, string, array, object, Items, no_items, item, Members, no_members, put}
+use Rattle.serde_json.specs.Data.{Data, null, boolean, number, unsigned, string, array, object, Items, no_items, item, Members, no_members, put}
 use Rattle.serde_json.specs.Find.{of_integer}
-use Rattle.sp_events.specs.Tree.{TreeData, bool, uint, int, bytes, str, label, unlisted, bits, tuple, vector, set, map, unit, place, TreesData, no_trees, tree, PairsData, no_pairs, pair, FieldsData, no_fields, field}
+use Rattle.sp_events.specs.Tree.{TreeData, void, bool, uint, int, bytes, str, label, unlisted, bits, tuple, vector, set, map, unit, place, TreesData, no_trees, tree, PairsData, no_pairs, pair, FieldsData, no_fields, field}
 
 -- bytes are a string with one character from U+0000 to U+00FF for each
 abbrev pub bytes_json : List ℕ → Data
@@ -13,10 +13,11 @@ abbrev pub with_ranges : List (List ℕ × ℕ) → Members → Members
 with_ranges [] ms = ms
 with_ranges (r ∷ rs) ms = with_ranges rs (put r.0 (number (unsigned r.1)) ms)
 
--- bitfields and units are objects, tuples, vectors and sets arrays, and a map is an array of its entries; a label is
+-- void is null; bitfields and units are objects, tuples, vectors and sets arrays, and a map is an array of its entries; a label is
 -- its name, and what has none is its number
 abbrev mutual
   pub tree_json : TreeData → Data
+  tree_json void = null
   tree_json (bool b) = boolean b
   tree_json (uint n) = number (unsigned n)
   tree_json (int n) = number (of_integer n)

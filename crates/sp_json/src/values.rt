@@ -27,6 +27,7 @@ pub(crate) fn tree_value(alloc: Global, tree: &Tree) -> Result<Value, AllocError
     ensures { IfOk result (λ value. view value ≡ tree_json tree.now) }
 {
     match &tree.node {
+        Node::Void => Ok(Value::Null),
         Node::Bool(b) => Ok(Value::Bool(*b)),
         Node::Uint(n) => Ok(Value::from(*n)),
         Node::Int(n) => Ok(Value::from(*n)),

@@ -10,6 +10,7 @@ use std::io;
 /// A value of each kind without members.
 fn leaves(alloc: Global) -> Result<Vec<Tree>, NoMemory> {
     let nodes = [
+        Node::Void,
         Node::Bool(true),
         Node::Uint(18_446_744_073_709_551_615),
         Node::Int(-9_223_372_036_854_775_808),

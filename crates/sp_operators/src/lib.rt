@@ -16,4 +16,4 @@ pub use fault::ValueFault;
 pub use one_value::unary;
 pub use operands::{is_cast, takes, takes_one};
 pub use operators::{BinOp, PlainType, UnOp};
-pub use two_values::binary;
+pub use two_values::{add, binary};

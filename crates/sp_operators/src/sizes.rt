@@ -24,8 +24,8 @@ pub(crate) fn size(value: &Value) -> usize
         Level::Bytes(bytes) => bytes.len(),
         Level::Str(text) => characters(text),
         Level::Vector(items) => items.len(),
-        Level::Set(keys) => keys.len(),
-        Level::Map(entries) => entries.len(),
+        Level::Set(_) => value.size().unwrap_or(0),
+        Level::Map(_) => value.size().unwrap_or(0),
         _ => unreachable!(),
     }
 }

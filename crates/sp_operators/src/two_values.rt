@@ -1,5 +1,5 @@
 // The operators between two values.
-ghost use Rattle.std.specs.Prelude.{◌≡◌, IfOk, MatchResult, IsTrue};
+ghost use Rattle.std.specs.Prelude.{◌≡◌, IfOk, MatchResult, IsTrue, Ok};
 ghost use Rattle.sp_value.specs.Changes.{IsBytes, IsText, with_bytes, with_text};
 ghost use Rattle.sp_operators.specs.Outcomes.{Answers};
 ghost use Rattle.sp_operators.specs.Operands.{are_added, are_joined, takes, takes_memory};
@@ -54,8 +54,43 @@ fn added(a: &Value, b: &Value) -> Result<Value, ValueFault>
     }
 }
 
+fn are_joined(a: &Value, b: &Value) -> bool
+    ensures { result ≡ are_joined a.now b.now }
+{
+    match (a.level(), b.level()) {
+        (Level::Bytes(_), Level::Bytes(_)) => true,
+        (Level::Str(_), Level::Str(_)) => true,
+        _ => false,
+    }
+}
+
+fn appended(mut a: Value, b: &Value) -> Result<Value, NoMemory>
+    requires { IsTrue (are_joined a b.now) }
+    ensures { IfOk result (λ value. added a b.now ≡ Ok value) }
+{
+    match b.level() {
+        Level::Bytes(more) => a.append_bytes(more)?,
+        Level::Str(more) => a.append_str(more)?,
+        _ => unreachable!(),
+    }
+    Ok(a)
+}
+
+/// `+` of a left operand that is given away: bytes and texts are appended to it where it stands, if no copy shares it, so
+/// that a chain `b = b + x` costs what is appended. Everything else is as in `binary`.
+pub fn add(a: Value, b: &Value) -> Result<Value, ValueFault>
+    requires { IsTrue (are_added a b.now) }
+    ensures { Answers (are_joined a b.now) (added a b.now) result }
+{
+    if are_joined(&a, b) {
+        joined(appended(a, b))
+    } else {
+        added(&a, b)
+    }
+}
+
 /// What the operator makes of two values; texts are ordered by their bytes, and two bitfields are equal where all their
-/// bits are. Memory is taken by `+` of bytes and of texts alone. Errors: `Overflow`, `DivZero` and `BadShift`.
+/// named ranges are. Memory is taken by `+` of bytes and of texts alone. Errors: `Overflow`, `DivZero` and `BadShift`.
 pub fn binary(op: BinOp, a: &Value, b: &Value) -> Result<Value, ValueFault>
     requires { IsTrue (takes op a.now b.now) }
     ensures { Answers (takes_memory op a.now b.now) (binary op a.now b.now) result }

@@ -50,7 +50,7 @@ mutual
   equal_is_alike (bytes a) (bytes b) h = ap bytes (bytes_equal a b h)
   equal_is_alike (str a) (str b) h = ap str (bytes_equal a b h)
   equal_is_alike (enum j m) (enum k n) h = ap (enum 0) (number_equal m n h)
-  equal_is_alike (bits j m) (bits k n) h = ap (bits 0) (number_equal m n h)
+  equal_is_alike (bits j a) (bits k b) h = ap (bits 0) (bytes_equal a b h)
   equal_is_alike (tuple a) (tuple b) h = ap tuple (all_alike a b h)
   equal_is_alike (vector a) (vector b) h = ap vector (all_alike a b h)
   equal_is_alike (set a) (set b) h = ap set (all_alike a b h)

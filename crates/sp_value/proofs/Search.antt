@@ -20,7 +20,7 @@ module _ {X : Type 0} (key : X → Val) where
   below_at k (x ∷ xs) zero d h g = h.0
   below_at k (x ∷ xs) (suc i) d h g = below_at k xs i d h.1 (omega arith)
 
-  neighbours : (xs : List X) (i : ℕ) (d : X) → IsAscending key xs → suc i < length xs → val_cmp (key (get_or xs i d)) (key (get_or xs (suc i) d)) ≡ Less
+  pub neighbours : (xs : List X) (i : ℕ) (d : X) → IsAscending key xs → suc i < length xs → val_cmp (key (get_or xs i d)) (key (get_or xs (suc i) d)) ≡ Less
   neighbours [] i d h g = absurd (omega arith)
   neighbours (x ∷ xs) zero d h g = below_at (key x) xs 0 d h.0 (omega arith)
   neighbours (x ∷ xs) (suc i) d h g = neighbours xs i d h.1 (omega arith)
@@ -60,7 +60,7 @@ module _ {X : Type 0} (key : X → Val) where
   below_like : (a b k : Val) → val_cmp a b ≡ Less → val_cmp b k ≡ Equal → val_cmp a k ≡ Less
   below_like a b k h e = sym (alike_right val_cmp_total b k a e) ∙ h
 
-  above_like : (a b k : Val) → val_cmp a b ≡ Less → val_cmp a k ≡ Equal → val_cmp b k ≡ Greater
+  pub above_like : (a b k : Val) → val_cmp a b ≡ Less → val_cmp a k ≡ Equal → val_cmp b k ≡ Greater
   above_like a b k h e = sym (alike_right val_cmp_total a k b e) ∙ val_cmp_total.antisymm b a ∙ ap ordering_reverse h
 
   first_below : (x : X) (xs : List X) (k : Val) (i : ℕ) (d : X) → IsAscending key (x ∷ xs) → i < length xs → val_cmp (key (get_or xs i d)) k ≡ Equal → val_cmp (key x) k ≡ Less

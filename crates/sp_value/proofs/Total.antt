@@ -27,7 +27,7 @@ abbrev mutual
   key_of (bytes bs) rest = pos 4 ∷ raised bs rest
   key_of (str bs) rest = pos 5 ∷ raised bs rest
   key_of (enum k n) rest = pos 6 ∷ pos n ∷ rest
-  key_of (bits k n) rest = pos 7 ∷ pos n ∷ rest
+  key_of (bits k ns) rest = pos 7 ∷ raised ns rest
   key_of (tuple vs) rest = pos 8 ∷ keys_of vs rest
   key_of (vector vs) rest = pos 9 ∷ keys_of vs rest
   key_of (set vs) rest = pos 10 ∷ keys_of vs rest
@@ -77,7 +77,7 @@ mutual
   by_keys (bytes a) (bytes b) s t = by_bytes a b s t
   by_keys (str a) (str b) s t = by_bytes a b s t
   by_keys (enum j m) (enum k n) s t = by_numbers m n s t
-  by_keys (bits j m) (bits k n) s t = by_numbers m n s t
+  by_keys (bits j a) (bits k b) s t = by_bytes a b s t
   by_keys (tuple a) (tuple b) s t = by_all a b s t
   by_keys (vector a) (vector b) s t = by_all a b s t
   by_keys (set a) (set b) s t = by_all a b s t

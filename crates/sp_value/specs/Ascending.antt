@@ -2,7 +2,7 @@
 use Rattle.std.specs.Prelude.{◌≡◌, List, [], ◌∷◌, Option, None, Some}
 use Rattle.std.specs.declared.cmp.Ordering.TheVariants.{Less}
 use Rattle.std.specs.Ordering.{match_ordering}
-use Rattle.sp_value.specs.Val.{Val}
+use Rattle.sp_value.specs.Val.{Val, set, map, list_of, pairs_of}
 use Rattle.sp_value.specs.Order.{val_cmp}
 
 -- the key of a set's member, and of a map's entry
@@ -37,3 +37,9 @@ module _ {X : Type 0} (key : X → Val) where
   abbrev pub without : Val → List X → List X
   without k [] = []
   without k (x ∷ xs) = match_ordering (val_cmp (key x) k) (x ∷ without k xs) (without k xs) (x ∷ without k xs)
+
+-- the members of a set and the keys of a map ascend, and none comes twice
+abbrev pub IsInOrder : Val → Type 0
+IsInOrder (set vs) = IsAscending own_key (list_of vs)
+IsInOrder (map es) = IsAscending entry_key (pairs_of es)
+IsInOrder _ = Unit {0}

@@ -25,7 +25,7 @@ abbrev mutual
   val_code (bytes bs) = gcons (gnum 4) (numbers_code bs)
   val_code (str bs) = gcons (gnum 5) (numbers_code bs)
   val_code (enum k n) = gcons (gnum 6) (gcons (gnum k) (gnum n))
-  val_code (bits k n) = gcons (gnum 7) (gcons (gnum k) (gnum n))
+  val_code (bits k ns) = gcons (gnum 7) (gcons (gnum k) (numbers_code ns))
   val_code (tuple vs) = gcons (gnum 8) (vals_code vs)
   val_code (vector vs) = gcons (gnum 9) (vals_code vs)
   val_code (set vs) = gcons (gnum 10) (vals_code vs)
@@ -78,7 +78,9 @@ mutual
   val_code-inj (bytes xs) (bytes ys) p = ap bytes (numbers_code-inj xs ys (ap tail p))
   val_code-inj (str xs) (str ys) p = ap str (numbers_code-inj xs ys (ap tail p))
   val_code-inj (enum j m) (enum k n) p = ap (λ g. enum (number (head (tail g))) (number (tail (tail g)))) p
-  val_code-inj (bits j m) (bits k n) p = ap (λ g. bits (number (head (tail g))) (number (tail (tail g)))) p
+  val_code-inj (bits j xs) (bits k ys) p =
+      let same = ap (λ g. number (head (tail g))) p in
+      let h = numbers_code-inj xs ys (ap (λ g. tail (tail g)) p) in cc
   val_code-inj (tuple xs) (tuple ys) p = ap tuple (vals_code-inj xs ys (ap tail p))
   val_code-inj (vector xs) (vector ys) p = ap vector (vals_code-inj xs ys (ap tail p))
   val_code-inj (set xs) (set ys) p = ap set (vals_code-inj xs ys (ap tail p))

@@ -8,9 +8,11 @@ pub mod Ascending
 pub mod Widths
 pub mod Valid
 pub mod Levels
+pub mod Owned
 pub mod Parts
 pub mod Changes
 pub mod Places
+pub mod Pieces
 pub mod OneKey
 pub mod Alike
 pub mod Integers

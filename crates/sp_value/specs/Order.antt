@@ -25,7 +25,7 @@ kind (place _) = 13
 
 abbrev mutual
   -- false before true; numbers by size, whatever their widths; bytes and texts by the first byte that differs, and a
-  -- part before the whole; an enum's labels by number; members in turn
+  -- part before the whole; an enum's labels by number; bitfields by the first range that differs; members in turn
   pub val_cmp : Val → Val → Ordering
   val_cmp (bool a) (bool b) = bool_cmp a b
   val_cmp (uint _ m) (uint _ n) = nat_cmp m n
@@ -33,7 +33,7 @@ abbrev mutual
   val_cmp (bytes a) (bytes b) = slice_cmp nat_cmp a b
   val_cmp (str a) (str b) = slice_cmp nat_cmp a b
   val_cmp (enum _ m) (enum _ n) = nat_cmp m n
-  val_cmp (bits _ m) (bits _ n) = nat_cmp m n
+  val_cmp (bits _ a) (bits _ b) = slice_cmp nat_cmp a b
   val_cmp (tuple a) (tuple b) = vals_cmp a b
   val_cmp (vector a) (vector b) = vals_cmp a b
   val_cmp (set a) (set b) = vals_cmp a b

@@ -36,17 +36,21 @@ abbrev pub label_in : Val → Option (ℕ × ℕ)
 label_in (enum k n) = Some (k, n)
 label_in _ = None
 
--- the number of the type, and the integer of all bits
-abbrev pub bits_in : Val → Option (ℕ × ℕ)
+-- the number of the type, and the numbers of the named ranges
+abbrev pub bits_in : Val → Option (ℕ × List ℕ)
 bits_in (bits k n) = Some (k, n)
 bits_in _ = None
 
--- the members of a tuple, a vector or a set
+-- the members of a tuple, or the items of a vector
 abbrev pub items_in : Val → Option (List Val)
 items_in (tuple vs) = Some (list_of vs)
 items_in (vector vs) = Some (list_of vs)
-items_in (set vs) = Some (list_of vs)
 items_in _ = None
+
+-- the members of a set
+abbrev pub members_in : Val → Option (List Val)
+members_in (set vs) = Some (list_of vs)
+members_in _ = None
 
 -- the keys and values of a map
 abbrev pub entries_in : Val → Option (List (Val × Val))

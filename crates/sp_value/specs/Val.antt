@@ -3,7 +3,8 @@ use Rattle.std.specs.Prelude.{◌≡◌, ℕ, ℤ, Bool, List, [], ◌∷◌}
 use Rattle.sp_numbers.specs.declared.width.Width.{Width}
 
 mutual
-  -- an enum and a bitfield have the number of their type, a unit that of its instance
+  -- an enum and a bitfield have the number of their type, a unit that of its instance; behind a bitfield's are the
+  -- numbers that its named ranges hold, in the order in which they are declared
   pub data Val : Type 0 where
     void : Val
     bool : Bool → Val
@@ -12,7 +13,7 @@ mutual
     bytes : List ℕ → Val
     str : List ℕ → Val
     enum : ℕ → ℕ → Val
-    bits : ℕ → ℕ → Val
+    bits : ℕ → List ℕ → Val
     tuple : Vals → Val
     vector : Vals → Val
     set : Vals → Val

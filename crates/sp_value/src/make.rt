@@ -4,10 +4,21 @@ ghost use Rattle.sp_numbers.specs.Numbers.{width_bits, fits_signed};
 ghost use Rattle.sp_value.specs.Val.{void, bool, uint, int, bytes, str, enum, bits, tuple, vector, set, map, unit, place, vals_of, entries_of};
 ghost use Rattle.sp_value.specs.Ascending.{own_key, entry_key, IsAscending};
 
+use crate::pieces::one_piece;
 use crate::value::{Node, Value};
 use sp_base::NoMemory;
 use sp_numbers::Width;
 use std::rc::Rc;
+
+/// A count of the members of a set or a map. There is no memory for more than 2^32 - 1.
+fn count(n: usize) -> Result<u32, NoMemory>
+    ensures { IfOk result (λ count. count ≡ n) }
+{
+    if n > u32::MAX as usize {
+        return Err(NoMemory);
+    }
+    Ok(n as u32)
+}
 
 impl Value {
     /// The value of a field that has none.
@@ -72,13 +83,15 @@ impl Value {
         }
     }
 
-    /// The integer of all bits, of the bitfield with the number `kind`.
-    pub fn bits(kind: u32, n: u64) -> Value
-        ensures { result ≡ bits kind n }
+    /// The bitfield with the number `kind` whose named ranges hold these numbers, in the order in which its type
+    /// declares them.
+    pub fn bits(kind: u32, ranges: Vec<u64>) -> Result<Value, NoMemory>
+        ensures { IfOk result (λ value. value ≡ bits kind ranges.items) }
     {
-        Value {
-            node: Node::Bits(kind, n),
-        }
+        let ranges = Rc::new(*ranges.allocator(), ranges)?;
+        Ok(Value {
+            node: Node::Bits(kind, ranges),
+        })
     }
 
     pub fn tuple(members: Vec<Value>) -> Result<Value, NoMemory>
@@ -104,9 +117,11 @@ impl Value {
         requires { IsAscending own_key keys.items }
         ensures { IfOk result (λ value. value ≡ set (vals_of keys.items)) }
     {
-        let keys = Rc::new(*keys.allocator(), keys)?;
+        let alloc = *keys.allocator();
+        let n = count(keys.len())?;
+        let pieces = Rc::new(alloc, one_piece(alloc, keys)?)?;
         Ok(Value {
-            node: Node::Set(keys),
+            node: Node::Set(n, pieces),
         })
     }
 
@@ -115,9 +130,11 @@ impl Value {
         requires { IsAscending entry_key entries.items }
         ensures { IfOk result (λ value. value ≡ map (entries_of entries.items)) }
     {
-        let entries = Rc::new(*entries.allocator(), entries)?;
+        let alloc = *entries.allocator();
+        let n = count(entries.len())?;
+        let pieces = Rc::new(alloc, one_piece(alloc, entries)?)?;
         Ok(Value {
-            node: Node::Map(entries),
+            node: Node::Map(n, pieces),
         })
     }
 

@@ -1,9 +1,13 @@
 // The parts of a value: each answer is `None` for a value of another kind.
-ghost use Rattle.std.specs.Prelude.{◌≡◌, option_copied};
-ghost use Rattle.sp_value.specs.Parts.{bool_in, number_in, signed_in, width_in, bytes_in, text_in, label_in, bits_in, items_in, entries_in, instance_in, place_in, size_in};
+ghost use Rattle.std.specs.Prelude.{◌≡◌, IfSome, option_copied};
+ghost use Rattle.std.specs.Option.{option_map};
+ghost use Rattle.sp_value.specs.Ascending.{own_key, entry_key};
+ghost use Rattle.sp_value.specs.Pieces.{all_in, ArePieces};
+ghost use Rattle.sp_value.specs.Parts.{bool_in, number_in, signed_in, width_in, bytes_in, text_in, label_in, bits_in, items_in, members_in, entries_in, instance_in, place_in, size_in};
 
 use crate::value::{Node, Value};
 use sp_numbers::Width;
+use std::rc::Rc;
 
 impl Value {
     pub fn as_bool(&self) -> Option<bool>
@@ -74,36 +78,48 @@ impl Value {
         }
     }
 
-    /// The number of a bitfield's type, and the integer of all its bits.
-    pub fn as_bits(&self) -> Option<(u32, u64)>
-        ensures { result ≡ bits_in self.now }
+    /// The number of a bitfield's type, and the numbers of its named ranges in the order in which the type declares them.
+    pub fn as_bits(&self) -> Option<(u32, &[u64])>
+        ensures { option_map (λ found. (found.0, found.1.now)) result ≡ bits_in self.now }
     {
         match &self.node {
-            Node::Bits(kind, n) => Some((*kind, *n)),
+            Node::Bits(kind, ranges) => Some((*kind, ranges.as_slice())),
             _ => None,
         }
     }
 
-    /// The members of a tuple, a vector or a set, in order.
-    #[tactic(auto, using(crate::proofs::Lists::list_of_vals_of, crate::proofs::Lists::pairs_of_entries_of))]
+    /// The members of a tuple or the items of a vector, in order.
+    #[tactic(auto, using(crate::proofs::Lists::list_of_vals_of))]
     pub fn as_items(&self) -> Option<&[Value]>
         ensures { option_copied result ≡ items_in self.now }
     {
         match &self.node {
             Node::Tuple(items) => Some(items.as_slice()),
             Node::Vector(items) => Some(items.as_slice()),
-            Node::Set(items) => Some(items.as_slice()),
             _ => None,
         }
     }
 
-    /// The keys and values of a map, in the order of the keys.
-    #[tactic(auto, using(crate::proofs::Lists::list_of_vals_of, crate::proofs::Lists::pairs_of_entries_of))]
-    pub fn as_entries(&self) -> Option<&[(Value, Value)]>
-        ensures { option_copied result ≡ entries_in self.now }
+    /// The members of a set, ascending, in pieces none of which is empty.
+    #[tactic(auto, using(crate::proofs::Lists::list_of_vals_of))]
+    pub fn as_members(&self) -> Option<&[Rc<Vec<Value>>]>
+        ensures members { option_map (λ pieces. all_in pieces.now) result ≡ members_in self.now }
+        ensures pieces { IfSome result (λ pieces. ArePieces own_key pieces.now) }
     {
         match &self.node {
-            Node::Map(entries) => Some(entries.as_slice()),
+            Node::Set(_, members) => Some(members.as_slice()),
+            _ => None,
+        }
+    }
+
+    /// The keys and values of a map, in the order of the keys, in pieces none of which is empty.
+    #[tactic(auto, using(crate::proofs::Lists::pairs_of_entries_of))]
+    pub fn as_entries(&self) -> Option<&[Rc<Vec<(Value, Value)>>]>
+        ensures entries { option_map (λ pieces. all_in pieces.now) result ≡ entries_in self.now }
+        ensures pieces { IfSome result (λ pieces. ArePieces entry_key pieces.now) }
+    {
+        match &self.node {
+            Node::Map(_, entries) => Some(entries.as_slice()),
             _ => None,
         }
     }
@@ -137,8 +153,8 @@ impl Value {
             Node::Bytes(bytes) => Some(bytes.len()),
             Node::Tuple(items) => Some(items.len()),
             Node::Vector(items) => Some(items.len()),
-            Node::Set(items) => Some(items.len()),
-            Node::Map(entries) => Some(entries.len()),
+            Node::Set(n, _) => Some(*n as usize),
+            Node::Map(n, _) => Some(*n as usize),
             _ => None,
         }
     }

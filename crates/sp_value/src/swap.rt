@@ -3,9 +3,12 @@ ghost use Rattle.std.specs.Prelude.{◌≡◌, ◌<◌, true, length, slice_get,
 ghost use Rattle.std.specs.Option.{option_map};
 ghost use Rattle.sp_value.specs.Val.{Val};
 ghost use Rattle.sp_value.specs.Ascending.{entry_key, IsAscending, found};
+ghost use Rattle.sp_value.specs.Pieces.{all_in, ArePieces};
 ghost use Rattle.sp_value.specs.Changes.{IsSequence, IsMap, items_of, with_item, value_at, has_key, with_value_in, with_value};
 
 use crate::keyed::entry_place;
+use crate::maps::map_swap;
+use crate::pieces::own_pieces;
 use crate::value::{Node, Value};
 use sp_base::NoMemory;
 use std::mem;
@@ -31,6 +34,7 @@ fn swap_at(entries: &mut Rc<Vec<(Value, Value)>>, i: usize, x: &mut Value) -> Re
     ensures taken { OnOk result ((e : Val × Val) → slice_get entries.old.value.items i ≡ Some e → x.new ≡ e.1) }
     ensures err { OnErr result (entries.new.value.items ≡ entries.old.value.items) }
     ensures kept { OnErr result (x.new ≡ x.old) }
+    ensures length { length entries.new.value.items ≡ length entries.old.value.items }
 {
     let own = Rc::make_mut(entries)?;
     let entry = &mut own[i];
@@ -39,7 +43,7 @@ fn swap_at(entries: &mut Rc<Vec<(Value, Value)>>, i: usize, x: &mut Value) -> Re
 }
 
 // The list is copied only if the key is there.
-fn swap_entry(
+pub(crate) fn swap_entry(
     entries: &mut Rc<Vec<(Value, Value)>>,
     key: &Value,
     x: &mut Value,
@@ -51,10 +55,33 @@ fn swap_entry(
         (x.new ≡ unwrap_or (option_map (λ (e : Val × Val). e.1) (found entry_key key.now entries.old.value.items)) x.old) }
     ensures err { OnErr result (entries.new.value.items ≡ entries.old.value.items) }
     ensures kept { OnErr result (x.new ≡ x.old) }
+    ensures length { length entries.new.value.items ≡ length entries.old.value.items }
 {
     match entry_place(entries.as_slice(), key) {
         Ok(i) => swap_at(entries, i, x),
         Err(_) => Ok(false),
+    }
+}
+
+fn swap_in_map(
+    pieces: &mut Rc<Vec<Rc<Vec<(Value, Value)>>>>,
+    key: &Value,
+    x: &mut Value,
+) -> Result<bool, NoMemory>
+    requires { ArePieces entry_key pieces.old.value.items }
+    ensures there { IfOk result (λ there. there ≡ is_some (found entry_key key.now (all_in pieces.old.value.items))) }
+    ensures ok { OnOk result (all_in pieces.new.value.items ≡ with_value_in (all_in pieces.old.value.items) key.now x.old) }
+    ensures taken { OnOk result
+        (x.new ≡ unwrap_or (option_map (λ (e : Val × Val). e.1) (found entry_key key.now (all_in pieces.old.value.items))) x.old) }
+    ensures err { OnErr result (all_in pieces.new.value.items ≡ all_in pieces.old.value.items) }
+    ensures kept { OnErr result (x.new ≡ x.old) }
+    ensures pieces { ArePieces entry_key pieces.new.value.items }
+    ensures length { length (all_in pieces.new.value.items) ≡ length (all_in pieces.old.value.items) }
+{
+    own_pieces(pieces)?;
+    match Rc::get_mut(pieces) {
+        Some(own) => map_swap(own, key, x),
+        None => Err(NoMemory),
     }
 }
 
@@ -78,7 +105,7 @@ impl Value {
 
     /// Swaps `x` with the value that a map has at a key, and answers whether the key is there. Where it isn't, and at an
     /// error, nothing is changed.
-    #[tactic(auto, using(crate::proofs::Lists::pairs_of_entries_of, crate::proofs::Kept::ascending_with_value))]
+    #[tactic(auto, using(crate::proofs::Lists::pairs_of_entries_of))]
     pub fn swap_value(&mut self, key: &Value, x: &mut Value) -> Result<bool, NoMemory>
         requires { IsMap self.old }
         ensures there { IfOk result (λ there. there ≡ has_key self.old key.now) }
@@ -88,7 +115,7 @@ impl Value {
         ensures kept { OnErr result (x.new ≡ x.old) }
     {
         match &mut self.node {
-            Node::Map(entries) => swap_entry(entries, key, x),
+            Node::Map(_, entries) => swap_in_map(entries, key, x),
             _ => unreachable!(),
         }
     }

@@ -26,14 +26,14 @@ pub(crate) enum Node {
     Str(Rc<String>),
     /// the number of an enum's type, and the label's number
     Enum(u32, u64),
-    /// the number of a bitfield's type, and the integer of all its bits
-    Bits(u32, u64),
+    /// the number of a bitfield's type, and the numbers of its named ranges
+    Bits(u32, Rc<Vec<u64>>),
     Tuple(Rc<Vec<Value>>),
     Vector(Rc<Vec<Value>>),
-    /// ascending, none twice
-    Set(Rc<Vec<Value>>),
-    /// keys and values, the keys ascending, none twice
-    Map(Rc<Vec<(Value, Value)>>),
+    /// how many members there are, and they, ascending, none twice, in pieces none of which is empty
+    Set(u32, Rc<Vec<Rc<Vec<Value>>>>),
+    /// how many entries there are, and they, the keys ascending, none twice, in pieces none of which is empty
+    Map(u32, Rc<Vec<Rc<Vec<(Value, Value)>>>>),
     /// the number of a unit's instance
     Unit(usize),
     /// a place of an input, from 0
@@ -80,11 +80,11 @@ impl Value {
             Node::Bytes(bytes) => Node::Bytes(bytes.clone()?),
             Node::Str(text) => Node::Str(text.clone()?),
             Node::Enum(kind, n) => Node::Enum(*kind, *n),
-            Node::Bits(kind, n) => Node::Bits(*kind, *n),
+            Node::Bits(kind, ranges) => Node::Bits(*kind, ranges.clone()?),
             Node::Tuple(members) => Node::Tuple(members.clone()?),
             Node::Vector(items) => Node::Vector(items.clone()?),
-            Node::Set(keys) => Node::Set(keys.clone()?),
-            Node::Map(entries) => Node::Map(entries.clone()?),
+            Node::Set(n, keys) => Node::Set(*n, keys.clone()?),
+            Node::Map(n, entries) => Node::Map(*n, entries.clone()?),
             Node::Unit(instance) => Node::Unit(*instance),
             Node::Place(place) => Node::Place(*place),
         };
