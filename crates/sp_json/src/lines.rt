@@ -26,14 +26,16 @@ fn path_name(alloc: Global, flow: &str, numbers: &[u64]) -> Result<String, Alloc
 }
 
 fn hook_value(alloc: Global, at: String, name: &Text, args: &Trees) -> Result<Value, AllocError>
-    ensures { IfOk result (λ value. view value ≡ event_json (string_bytes at) (HookEvent name.now args.now)) }
+    ensures { IfOk result (λ value. view value ≡ event_json (string_bytes at)
+        (HookEvent name.now args.now)) }
 {
     let args = trees_value(alloc, args.as_slice())?;
     json!(in alloc; {"args": args, "at": at, "hook": name.as_str()})
 }
 
 fn print_value(alloc: Global, at: String, values: &Trees) -> Result<Value, AllocError>
-    ensures { IfOk result (λ value. view value ≡ event_json (string_bytes at) (PrintEvent values.now)) }
+    ensures { IfOk result (λ value. view value ≡ event_json (string_bytes at)
+        (PrintEvent values.now)) }
 {
     let print = trees_value(alloc, values.as_slice())?;
     json!(in alloc; {"at": at, "print": print})
@@ -46,21 +48,24 @@ fn write_value(
     seq: u64,
     bytes: &ByteList,
 ) -> Result<Value, AllocError>
-    ensures { IfOk result (λ value. view value ≡ event_json (string_bytes at) (WriteEvent sink.now seq bytes.now)) }
+    ensures { IfOk result (λ value. view value ≡ event_json (string_bytes at)
+        (WriteEvent sink.now seq bytes.now)) }
 {
     let write = bytes_text(alloc, bytes.as_slice())?;
     json!(in alloc; {"at": at, "seq": seq, "sink": sink.as_str(), "write": write})
 }
 
 fn forward_value(alloc: Global, at: String, bytes: &ByteList) -> Result<Value, AllocError>
-    ensures { IfOk result (λ value. view value ≡ event_json (string_bytes at) (ForwardEvent bytes.now)) }
+    ensures { IfOk result (λ value. view value ≡ event_json (string_bytes at)
+        (ForwardEvent bytes.now)) }
 {
     let forward = bytes_text(alloc, bytes.as_slice())?;
     json!(in alloc; {"at": at, "forward": forward})
 }
 
 fn error_value(alloc: Global, at: String, error: &ParseError) -> Result<Value, AllocError>
-    ensures { IfOk result (λ value. view value ≡ event_json (string_bytes at) (FailedEvent error.now)) }
+    ensures { IfOk result (λ value. view value ≡ event_json (string_bytes at)
+        (FailedEvent error.now)) }
 {
     let name = error.kind.name();
     let offset = error.offset;

@@ -71,7 +71,8 @@ pub(crate) fn trees_value(alloc: Global, trees: &[Tree]) -> Result<Value, AllocE
 /// An entry of a map as an array of its key and its value.
 #[cycle(tree_value)]
 fn entry_value(alloc: Global, key: &Tree, value: &Tree) -> Result<Value, AllocError>
-    ensures { IfOk result (λ entry. view entry ≡ array (item (tree_json key.now) (item (tree_json value.now) no_items))) }
+    ensures { IfOk result (λ entry. view entry ≡ array
+        (item (tree_json key.now) (item (tree_json value.now) no_items))) }
 {
     let key = tree_value(alloc, key)?;
     let value = tree_value(alloc, value)?;
@@ -93,7 +94,8 @@ fn pairs_value(alloc: Global, pairs: &[(Tree, Tree)]) -> Result<Value, AllocErro
 /// The fields of a unit as an object.
 #[cycle(tree_value)]
 fn fields_value(alloc: Global, fields: &[(Text, Tree)]) -> Result<Value, AllocError>
-    ensures { IfOk result (λ value. view value ≡ object (with_fields (fields_of fields.now) no_members)) }
+    ensures { IfOk result (λ value. view value ≡ object
+        (with_fields (fields_of fields.now) no_members)) }
 {
     let mut map = Map::new(alloc);
     for (name, child) in fields {

@@ -10,7 +10,8 @@ use sp_base::PKind;
 
 /// The whole number that an operator was found to have, where it is a signed integer of the width.
 fn kept(width: Width, found: Option<i64>) -> Result<i64, PKind>
-    ensures value { MatchOption found (result ≡ Err Overflow) (λ value. result ≡ signed_or Overflow width value) }
+    ensures value { MatchOption found (result ≡ Err Overflow)
+        (λ value. result ≡ signed_or Overflow width value) }
     ensures in_width { IfOk result (λ number. IsTrue (fits_signed width number)) }
 {
     match found {

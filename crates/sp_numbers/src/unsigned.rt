@@ -9,7 +9,8 @@ use sp_base::PKind;
 
 /// The whole number that an operator was found to have, where it is an unsigned integer of the width.
 fn kept(width: Width, found: Option<u64>, none: PKind) -> Result<u64, PKind>
-    ensures value { MatchOption found (result ≡ Err none) (λ value. result ≡ unsigned_or Overflow width (pos value)) }
+    ensures value { MatchOption found (result ≡ Err none)
+        (λ value. result ≡ unsigned_or Overflow width (pos value)) }
     ensures in_width { IfOk result (λ number. number < 2 ^ width_bits width) }
 {
     match found {
@@ -65,7 +66,8 @@ fn without_bits_past(width: Width, value: u64) -> u64
 /// Error: `BadShift` where the width has no more bits than that.
 pub fn shift(direction: Shift, width: Width, a: u64, count: u64) -> Result<u64, PKind>
     ensures value { result ≡ shifted direction width a count }
-    ensures in_width { a < 2 ^ width_bits width → IfOk result (λ number. number < 2 ^ width_bits width) }
+    ensures in_width { a < 2 ^ width_bits width
+        → IfOk result (λ number. number < 2 ^ width_bits width) }
 {
     if width.bits() as u64 <= count {
         return Err(PKind::BadShift);

@@ -20,7 +20,8 @@ fn wider(v: Width, w: Width) -> Width
 }
 
 fn of_unsigned(operator: Arithmetic, v: Width, m: u64, w: Width, n: u64) -> Result<Value, PKind>
-    ensures { result ≡ value_or_error (uint (wider v w)) (unsigned_arithmetic operator (wider v w) m n) }
+    ensures { result ≡ value_or_error (uint (wider v w))
+        (unsigned_arithmetic operator (wider v w) m n) }
 {
     let width = wider(v, w);
     match sp_numbers::unsigned_arithmetic(operator, width, m, n) {

@@ -18,7 +18,8 @@ fn range_numbers(
 ) -> Result<Vec<u64>, NoMemory>
     requires width { width ≤ 64 }
     requires ranges { All (λ r. (r.0 ≤ r.1) × (r.1 < width)) ranges.now }
-    ensures { IfOk result (λ numbers. numbers.items ≡ map (λ r. bit_range x width r.0 r.1 msb0) ranges.now) }
+    ensures { IfOk result (λ numbers. numbers.items ≡ map (λ r. bit_range x width r.0 r.1 msb0)
+        ranges.now) }
 {
     let mut numbers = Vec::with_capacity(alloc, ranges.len())?;
     for (from, to) in ranges {
@@ -40,7 +41,8 @@ pub fn read_bits(
 ) -> Result<Value, NoMemory>
     requires width { width ≤ 64 }
     requires ranges { All (λ r. (r.0 ≤ r.1) × (r.1 < width)) ranges.now }
-    ensures { IfOk result (λ value. value ≡ bits kind (map (λ r. bit_range x width r.0 r.1 msb0) ranges.now)) }
+    ensures { IfOk result (λ value. value ≡ bits kind
+        (map (λ r. bit_range x width r.0 r.1 msb0) ranges.now)) }
 {
     let numbers = range_numbers(alloc, x, width, ranges, msb0)?;
     Value::bits(kind, numbers)

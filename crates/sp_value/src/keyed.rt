@@ -43,7 +43,8 @@ pub(crate) fn has_entry(entries: &[(Value, Value)], key: &Value) -> bool
 
 pub(crate) fn value_in<'a>(entries: &'a [(Value, Value)], key: &Value) -> Option<&'a Value>
     requires { IsAscending entry_key entries.now }
-    ensures { option_copied result ≡ option_map (λ (e : Val × Val). e.1) (found entry_key key.now entries.now) }
+    ensures { option_copied result ≡ option_map (λ (e : Val × Val). e.1)
+        (found entry_key key.now entries.now) }
 {
     match entry_place(entries, key) {
         Ok(i) => Some(&entries[i].1),
@@ -54,7 +55,8 @@ pub(crate) fn value_in<'a>(entries: &'a [(Value, Value)], key: &Value) -> Option
 fn put_member(keys: &mut Vec<Value>, key: Value) -> Result<bool, NoMemory>
     requires { IsAscending own_key keys.old.items }
     ensures ok { OnOk result (keys.new.items ≡ with_key own_key key keys.old.items) }
-    ensures grows { IfOk result (λ new. length keys.new.items ≡ (if new then suc (length keys.old.items) else length keys.old.items)) }
+    ensures grows { IfOk result (λ new. length keys.new.items ≡
+        (if new then suc (length keys.old.items) else length keys.old.items)) }
     ensures err { OnErr result (keys.new.items ≡ keys.old.items) }
 {
     match member_place(keys.as_slice(), &key) {
@@ -72,7 +74,8 @@ fn put_member(keys: &mut Vec<Value>, key: Value) -> Result<bool, NoMemory>
 fn put_entry(entries: &mut Vec<(Value, Value)>, key: Value, value: Value) -> Result<bool, NoMemory>
     requires { IsAscending entry_key entries.old.items }
     ensures ok { OnOk result (entries.new.items ≡ with_key entry_key (key, value) entries.old.items) }
-    ensures grows { IfOk result (λ new. length entries.new.items ≡ (if new then suc (length entries.old.items) else length entries.old.items)) }
+    ensures grows { IfOk result (λ new. length entries.new.items ≡
+        (if new then suc (length entries.old.items) else length entries.old.items)) }
     ensures err { OnErr result (entries.new.items ≡ entries.old.items) }
 {
     match entry_place(entries.as_slice(), &key) {
@@ -91,7 +94,8 @@ fn put_entry(entries: &mut Vec<(Value, Value)>, key: Value, value: Value) -> Res
 pub(crate) fn put_member_shared(keys: &mut Rc<Vec<Value>>, key: Value) -> Result<bool, NoMemory>
     requires { IsAscending own_key keys.old.value.items }
     ensures ok { OnOk result (keys.new.value.items ≡ with_key own_key key keys.old.value.items) }
-    ensures grows { IfOk result (λ new. length keys.new.value.items ≡ (if new then suc (length keys.old.value.items) else length keys.old.value.items)) }
+    ensures grows { IfOk result (λ new. length keys.new.value.items ≡
+        (if new then suc (length keys.old.value.items) else length keys.old.value.items)) }
     ensures err { OnErr result (keys.new.value.items ≡ keys.old.value.items) }
 {
     let own = Rc::make_mut(keys)?;
@@ -105,8 +109,10 @@ pub(crate) fn put_entry_shared(
     value: Value,
 ) -> Result<bool, NoMemory>
     requires { IsAscending entry_key entries.old.value.items }
-    ensures ok { OnOk result (entries.new.value.items ≡ with_key entry_key (key, value) entries.old.value.items) }
-    ensures grows { IfOk result (λ new. length entries.new.value.items ≡ (if new then suc (length entries.old.value.items) else length entries.old.value.items)) }
+    ensures ok { OnOk result (entries.new.value.items ≡ with_key entry_key (key, value)
+        entries.old.value.items) }
+    ensures grows { IfOk result (λ new. length entries.new.value.items ≡
+        (if new then suc (length entries.old.value.items) else length entries.old.value.items)) }
     ensures err { OnErr result (entries.new.value.items ≡ entries.old.value.items) }
 {
     let own = Rc::make_mut(entries)?;
@@ -116,7 +122,8 @@ pub(crate) fn put_entry_shared(
 fn remove_member(keys: &mut Rc<Vec<Value>>, i: usize) -> Result<bool, NoMemory>
     requires { i < length keys.old.value.items }
     ensures ok { OnOk result (keys.new.value.items ≡ remove keys.old.value.items i) }
-    ensures shrinks { IfOk result (λ took. length keys.old.value.items ≡ (if took then suc (length keys.new.value.items) else length keys.new.value.items)) }
+    ensures shrinks { IfOk result (λ took. length keys.old.value.items ≡
+        (if took then suc (length keys.new.value.items) else length keys.new.value.items)) }
     ensures err { OnErr result (keys.new.value.items ≡ keys.old.value.items) }
 {
     let own = Rc::make_mut(keys)?;
@@ -127,7 +134,8 @@ fn remove_member(keys: &mut Rc<Vec<Value>>, i: usize) -> Result<bool, NoMemory>
 fn remove_entry(entries: &mut Rc<Vec<(Value, Value)>>, i: usize) -> Result<bool, NoMemory>
     requires { i < length entries.old.value.items }
     ensures ok { OnOk result (entries.new.value.items ≡ remove entries.old.value.items i) }
-    ensures shrinks { IfOk result (λ took. length entries.old.value.items ≡ (if took then suc (length entries.new.value.items) else length entries.new.value.items)) }
+    ensures shrinks { IfOk result (λ took. length entries.old.value.items ≡
+        (if took then suc (length entries.new.value.items) else length entries.new.value.items)) }
     ensures err { OnErr result (entries.new.value.items ≡ entries.old.value.items) }
 {
     let own = Rc::make_mut(entries)?;
@@ -139,7 +147,8 @@ fn remove_entry(entries: &mut Rc<Vec<(Value, Value)>>, i: usize) -> Result<bool,
 pub(crate) fn take_member(keys: &mut Rc<Vec<Value>>, key: &Value) -> Result<bool, NoMemory>
     requires { IsAscending own_key keys.old.value.items }
     ensures ok { OnOk result (keys.new.value.items ≡ without own_key key.now keys.old.value.items) }
-    ensures shrinks { IfOk result (λ took. length keys.old.value.items ≡ (if took then suc (length keys.new.value.items) else length keys.new.value.items)) }
+    ensures shrinks { IfOk result (λ took. length keys.old.value.items ≡
+        (if took then suc (length keys.new.value.items) else length keys.new.value.items)) }
     ensures err { OnErr result (keys.new.value.items ≡ keys.old.value.items) }
 {
     match member_place(keys.as_slice(), key) {
@@ -154,8 +163,10 @@ pub(crate) fn take_entry(
     key: &Value,
 ) -> Result<bool, NoMemory>
     requires { IsAscending entry_key entries.old.value.items }
-    ensures ok { OnOk result (entries.new.value.items ≡ without entry_key key.now entries.old.value.items) }
-    ensures shrinks { IfOk result (λ took. length entries.old.value.items ≡ (if took then suc (length entries.new.value.items) else length entries.new.value.items)) }
+    ensures ok { OnOk result (entries.new.value.items
+        ≡ without entry_key key.now entries.old.value.items) }
+    ensures shrinks { IfOk result (λ took. length entries.old.value.items ≡
+        (if took then suc (length entries.new.value.items) else length entries.new.value.items)) }
     ensures err { OnErr result (entries.new.value.items ≡ entries.old.value.items) }
 {
     match entry_place(entries.as_slice(), key) {

@@ -13,8 +13,11 @@ use std::rc::Rc;
 
 fn set_put_shared(pieces: &mut Rc<Vec<Rc<Vec<Value>>>>, key: Value) -> Result<bool, NoMemory>
     requires { ArePieces own_key pieces.old.value.items }
-    ensures ok { OnOk result (all_in pieces.new.value.items ≡ with_key own_key key (all_in pieces.old.value.items)) }
-    ensures grows { IfOk result (λ new. length (all_in pieces.new.value.items) ≡ (if new then suc (length (all_in pieces.old.value.items)) else length (all_in pieces.old.value.items))) }
+    ensures ok { OnOk result (all_in pieces.new.value.items ≡ with_key own_key key
+        (all_in pieces.old.value.items)) }
+    ensures grows { IfOk result (λ new. length (all_in pieces.new.value.items) ≡
+        (if new then suc (length (all_in pieces.old.value.items)) else length
+        (all_in pieces.old.value.items))) }
     ensures err { OnErr result (all_in pieces.new.value.items ≡ all_in pieces.old.value.items) }
     ensures pieces { ArePieces own_key pieces.new.value.items }
 {
@@ -27,8 +30,11 @@ fn set_put_shared(pieces: &mut Rc<Vec<Rc<Vec<Value>>>>, key: Value) -> Result<bo
 
 fn set_take_shared(pieces: &mut Rc<Vec<Rc<Vec<Value>>>>, key: &Value) -> Result<bool, NoMemory>
     requires { ArePieces own_key pieces.old.value.items }
-    ensures ok { OnOk result (all_in pieces.new.value.items ≡ without own_key key.now (all_in pieces.old.value.items)) }
-    ensures shrinks { IfOk result (λ took. length (all_in pieces.old.value.items) ≡ (if took then suc (length (all_in pieces.new.value.items)) else length (all_in pieces.new.value.items))) }
+    ensures ok { OnOk result (all_in pieces.new.value.items ≡ without own_key key.now
+        (all_in pieces.old.value.items)) }
+    ensures shrinks { IfOk result (λ took. length (all_in pieces.old.value.items) ≡
+        (if took then suc (length (all_in pieces.new.value.items)) else length
+        (all_in pieces.new.value.items))) }
     ensures err { OnErr result (all_in pieces.new.value.items ≡ all_in pieces.old.value.items) }
     ensures pieces { ArePieces own_key pieces.new.value.items }
 {
@@ -45,8 +51,11 @@ fn map_put_shared(
     value: Value,
 ) -> Result<bool, NoMemory>
     requires { ArePieces entry_key pieces.old.value.items }
-    ensures ok { OnOk result (all_in pieces.new.value.items ≡ with_key entry_key (key, value) (all_in pieces.old.value.items)) }
-    ensures grows { IfOk result (λ new. length (all_in pieces.new.value.items) ≡ (if new then suc (length (all_in pieces.old.value.items)) else length (all_in pieces.old.value.items))) }
+    ensures ok { OnOk result (all_in pieces.new.value.items ≡ with_key entry_key (key, value)
+        (all_in pieces.old.value.items)) }
+    ensures grows { IfOk result (λ new. length (all_in pieces.new.value.items) ≡
+        (if new then suc (length (all_in pieces.old.value.items)) else length
+        (all_in pieces.old.value.items))) }
     ensures err { OnErr result (all_in pieces.new.value.items ≡ all_in pieces.old.value.items) }
     ensures pieces { ArePieces entry_key pieces.new.value.items }
 {
@@ -62,8 +71,11 @@ fn map_take_shared(
     key: &Value,
 ) -> Result<bool, NoMemory>
     requires { ArePieces entry_key pieces.old.value.items }
-    ensures ok { OnOk result (all_in pieces.new.value.items ≡ without entry_key key.now (all_in pieces.old.value.items)) }
-    ensures shrinks { IfOk result (λ took. length (all_in pieces.old.value.items) ≡ (if took then suc (length (all_in pieces.new.value.items)) else length (all_in pieces.new.value.items))) }
+    ensures ok { OnOk result (all_in pieces.new.value.items ≡ without entry_key key.now
+        (all_in pieces.old.value.items)) }
+    ensures shrinks { IfOk result (λ took. length (all_in pieces.old.value.items) ≡
+        (if took then suc (length (all_in pieces.new.value.items)) else length
+        (all_in pieces.new.value.items))) }
     ensures err { OnErr result (all_in pieces.new.value.items ≡ all_in pieces.old.value.items) }
     ensures pieces { ArePieces entry_key pieces.new.value.items }
 {
@@ -77,7 +89,8 @@ fn map_take_shared(
 fn put_in_set(n: &mut u32, pieces: &mut Rc<Vec<Rc<Vec<Value>>>>, key: Value) -> Result<(), NoMemory>
     requires pieces { ArePieces own_key pieces.old.value.items }
     requires count { n.old ≡ length (all_in pieces.old.value.items) }
-    ensures ok { OnOk result (all_in pieces.new.value.items ≡ with_key own_key key (all_in pieces.old.value.items)) }
+    ensures ok { OnOk result (all_in pieces.new.value.items ≡ with_key own_key key
+        (all_in pieces.old.value.items)) }
     ensures err { OnErr result (all_in pieces.new.value.items ≡ all_in pieces.old.value.items) }
     ensures pieces { ArePieces own_key pieces.new.value.items }
     ensures count { n.new ≡ length (all_in pieces.new.value.items) }
@@ -99,7 +112,8 @@ fn put_in_map(
 ) -> Result<(), NoMemory>
     requires pieces { ArePieces entry_key pieces.old.value.items }
     requires count { n.old ≡ length (all_in pieces.old.value.items) }
-    ensures ok { OnOk result (all_in pieces.new.value.items ≡ with_key entry_key (key, value) (all_in pieces.old.value.items)) }
+    ensures ok { OnOk result (all_in pieces.new.value.items ≡ with_key entry_key (key, value)
+        (all_in pieces.old.value.items)) }
     ensures err { OnErr result (all_in pieces.new.value.items ≡ all_in pieces.old.value.items) }
     ensures pieces { ArePieces entry_key pieces.new.value.items }
     ensures count { n.new ≡ length (all_in pieces.new.value.items) }
@@ -120,7 +134,8 @@ fn take_from_set(
 ) -> Result<(), NoMemory>
     requires pieces { ArePieces own_key pieces.old.value.items }
     requires count { n.old ≡ length (all_in pieces.old.value.items) }
-    ensures ok { OnOk result (all_in pieces.new.value.items ≡ without own_key key.now (all_in pieces.old.value.items)) }
+    ensures ok { OnOk result (all_in pieces.new.value.items ≡ without own_key key.now
+        (all_in pieces.old.value.items)) }
     ensures err { OnErr result (all_in pieces.new.value.items ≡ all_in pieces.old.value.items) }
     ensures pieces { ArePieces own_key pieces.new.value.items }
     ensures count { n.new ≡ length (all_in pieces.new.value.items) }
@@ -138,7 +153,8 @@ fn take_from_map(
 ) -> Result<(), NoMemory>
     requires pieces { ArePieces entry_key pieces.old.value.items }
     requires count { n.old ≡ length (all_in pieces.old.value.items) }
-    ensures ok { OnOk result (all_in pieces.new.value.items ≡ without entry_key key.now (all_in pieces.old.value.items)) }
+    ensures ok { OnOk result (all_in pieces.new.value.items ≡ without entry_key key.now
+        (all_in pieces.old.value.items)) }
     ensures err { OnErr result (all_in pieces.new.value.items ≡ all_in pieces.old.value.items) }
     ensures pieces { ArePieces entry_key pieces.new.value.items }
     ensures count { n.new ≡ length (all_in pieces.new.value.items) }

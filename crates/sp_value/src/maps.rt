@@ -89,8 +89,10 @@ fn put_first_entry(
     value: Value,
 ) -> Result<bool, NoMemory>
     requires { length pieces.old.items ≡ 0 }
-    ensures ok { OnOk result (all_in pieces.new.items ≡ with_key entry_key (key, value) (all_in pieces.old.items)) }
-    ensures grows { IfOk result (λ new. length (all_in pieces.new.items) ≡ (if new then suc (length (all_in pieces.old.items)) else length (all_in pieces.old.items))) }
+    ensures ok { OnOk result (all_in pieces.new.items ≡ with_key entry_key (key, value)
+        (all_in pieces.old.items)) }
+    ensures grows { IfOk result (λ new. length (all_in pieces.new.items) ≡
+        (if new then suc (length (all_in pieces.old.items)) else length (all_in pieces.old.items))) }
     ensures err { OnErr result (all_in pieces.new.items ≡ all_in pieces.old.items) }
     ensures none_empty { NoneEmpty pieces.new.items }
 {
@@ -109,8 +111,10 @@ fn put_in_piece(
     requires pieces { ArePieces entry_key pieces.old.items }
     requires within { c < length pieces.old.items }
     requires place { IsIn entry_key key pieces.old.items c }
-    ensures ok { OnOk result (all_in pieces.new.items ≡ with_key entry_key (key, value) (all_in pieces.old.items)) }
-    ensures grows { IfOk result (λ new. length (all_in pieces.new.items) ≡ (if new then suc (length (all_in pieces.old.items)) else length (all_in pieces.old.items))) }
+    ensures ok { OnOk result (all_in pieces.new.items ≡ with_key entry_key (key, value)
+        (all_in pieces.old.items)) }
+    ensures grows { IfOk result (λ new. length (all_in pieces.new.items) ≡
+        (if new then suc (length (all_in pieces.old.items)) else length (all_in pieces.old.items))) }
     ensures err { OnErr result (all_in pieces.new.items ≡ all_in pieces.old.items) }
     ensures none_empty { NoneEmpty pieces.new.items }
     ensures pieces { length pieces.new.items ≡ length pieces.old.items }
@@ -124,8 +128,10 @@ pub(crate) fn map_put(
     value: Value,
 ) -> Result<bool, NoMemory>
     requires { ArePieces entry_key pieces.old.items }
-    ensures ok { OnOk result (all_in pieces.new.items ≡ with_key entry_key (key, value) (all_in pieces.old.items)) }
-    ensures grows { IfOk result (λ new. length (all_in pieces.new.items) ≡ (if new then suc (length (all_in pieces.old.items)) else length (all_in pieces.old.items))) }
+    ensures ok { OnOk result (all_in pieces.new.items ≡ with_key entry_key (key, value)
+        (all_in pieces.old.items)) }
+    ensures grows { IfOk result (λ new. length (all_in pieces.new.items) ≡
+        (if new then suc (length (all_in pieces.old.items)) else length (all_in pieces.old.items))) }
     ensures err { OnErr result (all_in pieces.new.items ≡ all_in pieces.old.items) }
     ensures none_empty { NoneEmpty pieces.new.items }
 {
@@ -146,8 +152,10 @@ fn take_in_piece(
     requires pieces { ArePieces entry_key pieces.old.items }
     requires within { c < length pieces.old.items }
     requires place { IsIn entry_key key.now pieces.old.items c }
-    ensures ok { OnOk result (all_in pieces.new.items ≡ without entry_key key.now (all_in pieces.old.items)) }
-    ensures shrinks { IfOk result (λ took. length (all_in pieces.old.items) ≡ (if took then suc (length (all_in pieces.new.items)) else length (all_in pieces.new.items))) }
+    ensures ok { OnOk result (all_in pieces.new.items ≡ without entry_key key.now
+        (all_in pieces.old.items)) }
+    ensures shrinks { IfOk result (λ took. length (all_in pieces.old.items) ≡
+        (if took then suc (length (all_in pieces.new.items)) else length (all_in pieces.new.items))) }
     ensures err { OnErr result (all_in pieces.new.items ≡ all_in pieces.old.items) }
     ensures none_empty { NoneEmptyBut c pieces.new.items }
     ensures pieces { length pieces.new.items ≡ length pieces.old.items }
@@ -160,8 +168,10 @@ pub(crate) fn map_take(
     key: &Value,
 ) -> Result<bool, NoMemory>
     requires { ArePieces entry_key pieces.old.items }
-    ensures ok { OnOk result (all_in pieces.new.items ≡ without entry_key key.now (all_in pieces.old.items)) }
-    ensures shrinks { IfOk result (λ took. length (all_in pieces.old.items) ≡ (if took then suc (length (all_in pieces.new.items)) else length (all_in pieces.new.items))) }
+    ensures ok { OnOk result (all_in pieces.new.items ≡ without entry_key key.now
+        (all_in pieces.old.items)) }
+    ensures shrinks { IfOk result (λ took. length (all_in pieces.old.items) ≡
+        (if took then suc (length (all_in pieces.new.items)) else length (all_in pieces.new.items))) }
     ensures err { OnErr result (all_in pieces.new.items ≡ all_in pieces.old.items) }
     ensures none_empty { NoneEmpty pieces.new.items }
 {
@@ -176,7 +186,8 @@ pub(crate) fn map_take(
 
 pub(crate) fn map_get<'a>(pieces: &'a [Rc<Vec<(Value, Value)>>], key: &Value) -> Option<&'a Value>
     requires { ArePieces entry_key pieces.now }
-    ensures { option_copied result ≡ option_map (λ (e : Val × Val). e.1) (found entry_key key.now (all_in pieces.now)) }
+    ensures { option_copied result ≡ option_map (λ (e : Val × Val). e.1)
+        (found entry_key key.now (all_in pieces.now)) }
 {
     if pieces.is_empty() {
         return None;
@@ -194,10 +205,13 @@ fn swap_in_piece(
     requires pieces { ArePieces entry_key pieces.old.items }
     requires within { c < length pieces.old.items }
     requires place { IsIn entry_key key.now pieces.old.items c }
-    ensures there { IfOk result (λ there. there ≡ is_some (found entry_key key.now (all_in pieces.old.items))) }
-    ensures ok { OnOk result (all_in pieces.new.items ≡ with_value_in (all_in pieces.old.items) key.now x.old) }
+    ensures there { IfOk result (λ there. there ≡ is_some
+        (found entry_key key.now (all_in pieces.old.items))) }
+    ensures ok { OnOk result (all_in pieces.new.items ≡ with_value_in (all_in pieces.old.items)
+        key.now x.old) }
     ensures taken { OnOk result
-        (x.new ≡ unwrap_or (option_map (λ (e : Val × Val). e.1) (found entry_key key.now (all_in pieces.old.items))) x.old) }
+        (x.new ≡ unwrap_or (option_map (λ (e : Val × Val). e.1)
+        (found entry_key key.now (all_in pieces.old.items))) x.old) }
     ensures err { OnErr result (all_in pieces.new.items ≡ all_in pieces.old.items) }
     ensures kept { OnErr result (x.new ≡ x.old) }
     ensures none_empty { NoneEmpty pieces.new.items }
@@ -212,10 +226,13 @@ pub(crate) fn map_swap(
     x: &mut Value,
 ) -> Result<bool, NoMemory>
     requires { ArePieces entry_key pieces.old.items }
-    ensures there { IfOk result (λ there. there ≡ is_some (found entry_key key.now (all_in pieces.old.items))) }
-    ensures ok { OnOk result (all_in pieces.new.items ≡ with_value_in (all_in pieces.old.items) key.now x.old) }
+    ensures there { IfOk result (λ there. there ≡ is_some
+        (found entry_key key.now (all_in pieces.old.items))) }
+    ensures ok { OnOk result (all_in pieces.new.items ≡ with_value_in (all_in pieces.old.items)
+        key.now x.old) }
     ensures taken { OnOk result
-        (x.new ≡ unwrap_or (option_map (λ (e : Val × Val). e.1) (found entry_key key.now (all_in pieces.old.items))) x.old) }
+        (x.new ≡ unwrap_or (option_map (λ (e : Val × Val). e.1)
+        (found entry_key key.now (all_in pieces.old.items))) x.old) }
     ensures err { OnErr result (all_in pieces.new.items ≡ all_in pieces.old.items) }
     ensures kept { OnErr result (x.new ≡ x.old) }
     ensures none_empty { NoneEmpty pieces.new.items }

@@ -33,7 +33,8 @@ pub fn next_in<'a, T>(pieces: &'a [Rc<Vec<T>>], at: &mut Cursor) -> Option<&'a T
     requires { NoneEmpty pieces.now }
     ensures { MatchOption result
         (rest_in pieces.now at.old.piece at.old.item ≡ [])
-        (λ x. rest_in pieces.now at.old.piece at.old.item ≡ x.now ∷ rest_in pieces.now at.new.piece at.new.item) }
+        (λ x. rest_in pieces.now at.old.piece at.old.item ≡ x.now
+        ∷ rest_in pieces.now at.new.piece at.new.item) }
 {
     let c = at.piece;
     if c >= pieces.len() {
@@ -61,7 +62,8 @@ pub(crate) fn put_halves<T: Drop>(
     back: Rc<Vec<T>>,
 )
     requires within { c < length pieces.old.items }
-    requires halves { HoldsAt (λ p. front.value.items ++ back.value.items ≡ p.value.items) pieces.old.items c }
+    requires halves { HoldsAt (λ p. front.value.items ++ back.value.items ≡ p.value.items)
+        pieces.old.items c }
     requires front { 0 < length front.value.items }
     requires back { 0 < length back.value.items }
     ensures all { all_in pieces.new.items ≡ all_in pieces.old.items }

@@ -82,8 +82,10 @@ fn halve_members(pieces: &mut Vec<Rc<Vec<Value>>>, c: usize)
 /// The first piece.
 fn put_first_member(pieces: &mut Vec<Rc<Vec<Value>>>, key: Value) -> Result<bool, NoMemory>
     requires { length pieces.old.items ≡ 0 }
-    ensures ok { OnOk result (all_in pieces.new.items ≡ with_key own_key key (all_in pieces.old.items)) }
-    ensures grows { IfOk result (λ new. length (all_in pieces.new.items) ≡ (if new then suc (length (all_in pieces.old.items)) else length (all_in pieces.old.items))) }
+    ensures ok { OnOk result (all_in pieces.new.items ≡ with_key own_key key
+        (all_in pieces.old.items)) }
+    ensures grows { IfOk result (λ new. length (all_in pieces.new.items) ≡
+        (if new then suc (length (all_in pieces.old.items)) else length (all_in pieces.old.items))) }
     ensures err { OnErr result (all_in pieces.new.items ≡ all_in pieces.old.items) }
     ensures none_empty { NoneEmpty pieces.new.items }
 {
@@ -97,8 +99,10 @@ fn put_in_piece(pieces: &mut Vec<Rc<Vec<Value>>>, c: usize, key: Value) -> Resul
     requires pieces { ArePieces own_key pieces.old.items }
     requires within { c < length pieces.old.items }
     requires place { IsIn own_key key pieces.old.items c }
-    ensures ok { OnOk result (all_in pieces.new.items ≡ with_key own_key key (all_in pieces.old.items)) }
-    ensures grows { IfOk result (λ new. length (all_in pieces.new.items) ≡ (if new then suc (length (all_in pieces.old.items)) else length (all_in pieces.old.items))) }
+    ensures ok { OnOk result (all_in pieces.new.items ≡ with_key own_key key
+        (all_in pieces.old.items)) }
+    ensures grows { IfOk result (λ new. length (all_in pieces.new.items) ≡
+        (if new then suc (length (all_in pieces.old.items)) else length (all_in pieces.old.items))) }
     ensures err { OnErr result (all_in pieces.new.items ≡ all_in pieces.old.items) }
     ensures none_empty { NoneEmpty pieces.new.items }
     ensures pieces { length pieces.new.items ≡ length pieces.old.items }
@@ -108,8 +112,10 @@ fn put_in_piece(pieces: &mut Vec<Rc<Vec<Value>>>, c: usize, key: Value) -> Resul
 
 pub(crate) fn set_put(pieces: &mut Vec<Rc<Vec<Value>>>, key: Value) -> Result<bool, NoMemory>
     requires { ArePieces own_key pieces.old.items }
-    ensures ok { OnOk result (all_in pieces.new.items ≡ with_key own_key key (all_in pieces.old.items)) }
-    ensures grows { IfOk result (λ new. length (all_in pieces.new.items) ≡ (if new then suc (length (all_in pieces.old.items)) else length (all_in pieces.old.items))) }
+    ensures ok { OnOk result (all_in pieces.new.items ≡ with_key own_key key
+        (all_in pieces.old.items)) }
+    ensures grows { IfOk result (λ new. length (all_in pieces.new.items) ≡
+        (if new then suc (length (all_in pieces.old.items)) else length (all_in pieces.old.items))) }
     ensures err { OnErr result (all_in pieces.new.items ≡ all_in pieces.old.items) }
     ensures none_empty { NoneEmpty pieces.new.items }
 {
@@ -126,8 +132,10 @@ fn take_in_piece(pieces: &mut Vec<Rc<Vec<Value>>>, c: usize, key: &Value) -> Res
     requires pieces { ArePieces own_key pieces.old.items }
     requires within { c < length pieces.old.items }
     requires place { IsIn own_key key.now pieces.old.items c }
-    ensures ok { OnOk result (all_in pieces.new.items ≡ without own_key key.now (all_in pieces.old.items)) }
-    ensures shrinks { IfOk result (λ took. length (all_in pieces.old.items) ≡ (if took then suc (length (all_in pieces.new.items)) else length (all_in pieces.new.items))) }
+    ensures ok { OnOk result (all_in pieces.new.items ≡ without own_key key.now
+        (all_in pieces.old.items)) }
+    ensures shrinks { IfOk result (λ took. length (all_in pieces.old.items) ≡
+        (if took then suc (length (all_in pieces.new.items)) else length (all_in pieces.new.items))) }
     ensures err { OnErr result (all_in pieces.new.items ≡ all_in pieces.old.items) }
     ensures none_empty { NoneEmptyBut c pieces.new.items }
     ensures pieces { length pieces.new.items ≡ length pieces.old.items }
@@ -137,8 +145,10 @@ fn take_in_piece(pieces: &mut Vec<Rc<Vec<Value>>>, c: usize, key: &Value) -> Res
 
 pub(crate) fn set_take(pieces: &mut Vec<Rc<Vec<Value>>>, key: &Value) -> Result<bool, NoMemory>
     requires { ArePieces own_key pieces.old.items }
-    ensures ok { OnOk result (all_in pieces.new.items ≡ without own_key key.now (all_in pieces.old.items)) }
-    ensures shrinks { IfOk result (λ took. length (all_in pieces.old.items) ≡ (if took then suc (length (all_in pieces.new.items)) else length (all_in pieces.new.items))) }
+    ensures ok { OnOk result (all_in pieces.new.items ≡ without own_key key.now
+        (all_in pieces.old.items)) }
+    ensures shrinks { IfOk result (λ took. length (all_in pieces.old.items) ≡
+        (if took then suc (length (all_in pieces.new.items)) else length (all_in pieces.new.items))) }
     ensures err { OnErr result (all_in pieces.new.items ≡ all_in pieces.old.items) }
     ensures none_empty { NoneEmpty pieces.new.items }
 {

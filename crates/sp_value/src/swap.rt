@@ -31,7 +31,8 @@ fn swap_at(entries: &mut Rc<Vec<(Value, Value)>>, i: usize, x: &mut Value) -> Re
     ensures there { IfOk result (λ there. there ≡ true) }
     ensures ok { OnOk result ((e : Val × Val) → slice_get entries.old.value.items i ≡ Some e →
         entries.new.value.items ≡ slice_set entries.old.value.items i (e.0, x.old)) }
-    ensures taken { OnOk result ((e : Val × Val) → slice_get entries.old.value.items i ≡ Some e → x.new ≡ e.1) }
+    ensures taken { OnOk result ((e : Val × Val) → slice_get entries.old.value.items i ≡ Some e
+        → x.new ≡ e.1) }
     ensures err { OnErr result (entries.new.value.items ≡ entries.old.value.items) }
     ensures kept { OnErr result (x.new ≡ x.old) }
     ensures length { length entries.new.value.items ≡ length entries.old.value.items }
@@ -49,10 +50,13 @@ pub(crate) fn swap_entry(
     x: &mut Value,
 ) -> Result<bool, NoMemory>
     requires { IsAscending entry_key entries.old.value.items }
-    ensures there { IfOk result (λ there. there ≡ is_some (found entry_key key.now entries.old.value.items)) }
-    ensures ok { OnOk result (entries.new.value.items ≡ with_value_in entries.old.value.items key.now x.old) }
+    ensures there { IfOk result (λ there. there ≡ is_some
+        (found entry_key key.now entries.old.value.items)) }
+    ensures ok { OnOk result (entries.new.value.items
+        ≡ with_value_in entries.old.value.items key.now x.old) }
     ensures taken { OnOk result
-        (x.new ≡ unwrap_or (option_map (λ (e : Val × Val). e.1) (found entry_key key.now entries.old.value.items)) x.old) }
+        (x.new ≡ unwrap_or (option_map (λ (e : Val × Val). e.1)
+        (found entry_key key.now entries.old.value.items)) x.old) }
     ensures err { OnErr result (entries.new.value.items ≡ entries.old.value.items) }
     ensures kept { OnErr result (x.new ≡ x.old) }
     ensures length { length entries.new.value.items ≡ length entries.old.value.items }
@@ -69,10 +73,13 @@ fn swap_in_map(
     x: &mut Value,
 ) -> Result<bool, NoMemory>
     requires { ArePieces entry_key pieces.old.value.items }
-    ensures there { IfOk result (λ there. there ≡ is_some (found entry_key key.now (all_in pieces.old.value.items))) }
-    ensures ok { OnOk result (all_in pieces.new.value.items ≡ with_value_in (all_in pieces.old.value.items) key.now x.old) }
+    ensures there { IfOk result (λ there. there ≡ is_some
+        (found entry_key key.now (all_in pieces.old.value.items))) }
+    ensures ok { OnOk result (all_in pieces.new.value.items ≡ with_value_in
+        (all_in pieces.old.value.items) key.now x.old) }
     ensures taken { OnOk result
-        (x.new ≡ unwrap_or (option_map (λ (e : Val × Val). e.1) (found entry_key key.now (all_in pieces.old.value.items))) x.old) }
+        (x.new ≡ unwrap_or (option_map (λ (e : Val × Val). e.1)
+        (found entry_key key.now (all_in pieces.old.value.items))) x.old) }
     ensures err { OnErr result (all_in pieces.new.value.items ≡ all_in pieces.old.value.items) }
     ensures kept { OnErr result (x.new ≡ x.old) }
     ensures pieces { ArePieces entry_key pieces.new.value.items }
