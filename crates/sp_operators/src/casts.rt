@@ -17,46 +17,36 @@ use sp_value::{Level, Value};
 fn unsigned_as_unsigned(to: Width, n: u64) -> Result<Value, PKind>
     ensures { result ≡ value_or_error (uint to) (unsigned_or CastRange to (pos n)) }
 {
-    match sp_numbers::unsigned_to_unsigned(n, to) {
-        Ok(number) => Ok(Value::uint(to, number)),
-        Err(error) => Err(error),
-    }
+    let number = sp_numbers::unsigned_to_unsigned(n, to)?;
+    Ok(Value::uint(to, number))
 }
 
 fn unsigned_as_signed(to: Width, n: u64) -> Result<Value, PKind>
     ensures { result ≡ value_or_error (int to) (signed_or CastRange to (pos n)) }
 {
-    match sp_numbers::unsigned_to_signed(n, to) {
-        Ok(number) => Ok(Value::int(to, number)),
-        Err(error) => Err(error),
-    }
+    let number = sp_numbers::unsigned_to_signed(n, to)?;
+    Ok(Value::int(to, number))
 }
 
 fn signed_as_unsigned(to: Width, n: i64) -> Result<Value, PKind>
     ensures { result ≡ value_or_error (uint to) (unsigned_or CastRange to n) }
 {
-    match sp_numbers::signed_to_unsigned(n, to) {
-        Ok(number) => Ok(Value::uint(to, number)),
-        Err(error) => Err(error),
-    }
+    let number = sp_numbers::signed_to_unsigned(n, to)?;
+    Ok(Value::uint(to, number))
 }
 
 fn signed_as_signed(to: Width, n: i64) -> Result<Value, PKind>
     ensures { result ≡ value_or_error (int to) (signed_or CastRange to n) }
 {
-    match sp_numbers::signed_to_signed(n, to) {
-        Ok(number) => Ok(Value::int(to, number)),
-        Err(error) => Err(error),
-    }
+    let number = sp_numbers::signed_to_signed(n, to)?;
+    Ok(Value::int(to, number))
 }
 
 fn signed_as_label(kind: u32, n: i64) -> Result<Value, PKind>
     ensures { result ≡ value_or_error (enum kind) (unsigned_or CastRange W64 n) }
 {
-    match sp_numbers::signed_to_unsigned(n, Width::W64) {
-        Ok(number) => Ok(Value::label(kind, number)),
-        Err(error) => Err(error),
-    }
+    let number = sp_numbers::signed_to_unsigned(n, Width::W64)?;
+    Ok(Value::label(kind, number))
 }
 
 fn found(a: &Value, to: PlainType) -> Result<Value, PKind>

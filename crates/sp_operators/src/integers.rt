@@ -24,10 +24,8 @@ fn of_unsigned(operator: Arithmetic, v: Width, m: u64, w: Width, n: u64) -> Resu
         (unsigned_arithmetic operator (wider v w) m n) }
 {
     let width = wider(v, w);
-    match sp_numbers::unsigned_arithmetic(operator, width, m, n) {
-        Ok(number) => Ok(Value::uint(width, number)),
-        Err(error) => Err(error),
-    }
+    let number = sp_numbers::unsigned_arithmetic(operator, width, m, n)?;
+    Ok(Value::uint(width, number))
 }
 
 #[tactic(auto, unfolding(crate::specs::Operators::signed_result))]
@@ -35,10 +33,8 @@ fn of_signed(operator: Arithmetic, v: Width, m: i64, w: Width, n: i64) -> Result
     ensures { result ≡ signed_result operator v m w n }
 {
     let width = wider(v, w);
-    match sp_numbers::signed_arithmetic(operator, width, m, n) {
-        Ok(number) => Ok(Value::int(width, number)),
-        Err(error) => Err(error),
-    }
+    let number = sp_numbers::signed_arithmetic(operator, width, m, n)?;
+    Ok(Value::int(width, number))
 }
 
 /// `+`, `-`, `*`, `/` or `%` of two integers of one signedness. Errors: `Overflow` and `DivZero`.
@@ -76,10 +72,8 @@ fn of_shift(direction: Shift, width: Width, m: u64, count: u64) -> Result<Value,
     requires { m < 2 ^ width_bits width }
     ensures { result ≡ value_or_error (uint width) (shifted direction width m count) }
 {
-    match sp_numbers::shift(direction, width, m, count) {
-        Ok(number) => Ok(Value::uint(width, number)),
-        Err(error) => Err(error),
-    }
+    let number = sp_numbers::shift(direction, width, m, count)?;
+    Ok(Value::uint(width, number))
 }
 
 /// `<<` or `>>` of two unsigned integers. Error: `BadShift`.

@@ -17,10 +17,8 @@ use sp_value::{Level, Value};
 fn negated(width: Width, n: i64) -> Result<Value, PKind>
     ensures { result ≡ value_or_error (int width) (signed_or Overflow width (neg_ℤ n)) }
 {
-    match sp_numbers::negate_signed(width, n) {
-        Ok(number) => Ok(Value::int(width, number)),
-        Err(error) => Err(error),
-    }
+    let number = sp_numbers::negate_signed(width, n)?;
+    Ok(Value::int(width, number))
 }
 
 fn found(op: UnOp, a: &Value) -> Result<Value, PKind>
