@@ -1,10 +1,12 @@
 // The loops of `values_bench` in plain Rust, for a look at both times side by side. The values stand behind `Rc` alike.
 #![allow(dead_code)]
 
+use std::collections::BTreeMap;
 use std::io::Read;
 use std::rc::Rc;
 
 const COUNT: u64 = 100_000;
+const KEYS: u64 = 200_000;
 
 #[derive(Clone, Copy)]
 enum Width {
@@ -71,6 +73,27 @@ fn filled(count: u64) -> Value {
     vector
 }
 
+/// `KEYS` keys in an order, in an ordered map of the standard library.
+fn ordered(key: impl Fn(u64) -> u64) -> BTreeMap<u64, Value> {
+    let mut map = BTreeMap::new();
+    for n in 0..KEYS {
+        map.insert(key(n), Value::Void);
+    }
+    map
+}
+
+fn mixed(n: u64) -> u64 {
+    n * 123_457 % KEYS
+}
+
+fn deleted() -> usize {
+    let mut map = ordered(mixed);
+    for n in 0..KEYS - COUNT {
+        map.remove(&n);
+    }
+    map.len()
+}
+
 fn main() {
     let mut word = String::new();
     std::io::stdin().read_to_string(&mut word).unwrap();
@@ -95,6 +118,10 @@ fn main() {
             }
             map.size()
         }
+        "rising" => ordered(|n| n).len(),
+        "falling" => ordered(|n| KEYS - n).len(),
+        "mixed" => ordered(mixed).len(),
+        "deleted" => deleted(),
         "deep" => {
             let mut map = Value::Map(Rc::new(Vec::new()));
             map.insert(7, Value::Vector(Rc::new(Vec::new())));

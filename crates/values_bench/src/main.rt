@@ -12,6 +12,28 @@ use std::io;
 
 const COUNT: u64 = 100_000;
 
+const KEYS: u64 = 200_000;
+
+/// In which order `KEYS` keys come.
+#[derive(Clone, Copy)]
+enum Order {
+    Rising,
+    Falling,
+    /// far from the key before
+    Mixed,
+}
+
+impl Order {
+    /// The key that comes at a place below `KEYS`.
+    fn key(self, n: u64) -> u64 {
+        match self {
+            Order::Rising => n,
+            Order::Falling => KEYS.saturating_sub(n),
+            Order::Mixed => n.wrapping_mul(123_457) % KEYS,
+        }
+    }
+}
+
 /// A vector to which so many items were appended, one by one.
 fn filled(alloc: Global, count: u64) -> Result<Value, NoMemory>
     ensures { IfOk result IsVector }
@@ -49,6 +71,26 @@ fn keys(alloc: Global) -> Result<usize, NoMemory> {
     let mut map = Value::map(Vec::new(alloc))?;
     for n in 0..COUNT {
         map.insert(Value::uint(Width::W64, n), Value::void())?;
+    }
+    Ok(map.size().unwrap_or(0))
+}
+
+/// A map that took `KEYS` keys in an order.
+fn ordered(alloc: Global, order: Order) -> Result<Value, NoMemory>
+    ensures { IfOk result IsMap }
+{
+    let mut map = Value::map(Vec::new(alloc))?;
+    for n in 0..KEYS {
+        map.insert(Value::uint(Width::W64, order.key(n)), Value::void())?;
+    }
+    Ok(map)
+}
+
+/// The number of keys of a map from which all but the greatest `COUNT` were deleted, the lesser before the greater.
+fn deleted(alloc: Global) -> Result<usize, NoMemory> {
+    let mut map = ordered(alloc, Order::Mixed)?;
+    for n in 0..KEYS - COUNT {
+        map.delete(&Value::uint(Width::W64, n))?;
     }
     Ok(map.size().unwrap_or(0))
 }
@@ -98,6 +140,10 @@ fn run(alloc: Global, word: &str) -> Result<usize, NoMemory> {
         "size" => asked(alloc),
         "held" => beside_a_copy(alloc),
         "keys" => keys(alloc),
+        "rising" => Ok(ordered(alloc, Order::Rising)?.size().unwrap_or(0)),
+        "falling" => Ok(ordered(alloc, Order::Falling)?.size().unwrap_or(0)),
+        "mixed" => Ok(ordered(alloc, Order::Mixed)?.size().unwrap_or(0)),
+        "deleted" => deleted(alloc),
         "deep" => deep(alloc),
         "copy" => copied(alloc),
         _ => Ok(0),
