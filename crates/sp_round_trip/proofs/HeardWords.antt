@@ -76,7 +76,7 @@ told_true source (t ∷ ts) (w ∷ ws) h =
     let rest : map (telling source) ts ≡ map telling_of ws = cc in
     (is_true w t.kind _ (ap (λ y. let z : Telling = y in z.word) first) (ap (λ y. let z : Telling = y in z.kind) first), told_true source ts ws rest)
 
-words_of_tellings : (ws : List Word) → words_told (map telling_of ws) ≡ ws
+pub words_of_tellings : (ws : List Word) → words_told (map telling_of ws) ≡ ws
 words_of_tellings [] = refl
 words_of_tellings (w ∷ ws) = ap (λ vs. w ∷ vs) (words_of_tellings ws)
 

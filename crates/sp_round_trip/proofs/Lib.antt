@@ -53,4 +53,6 @@ pub mod HeardWords
 pub mod Shapes
 pub mod ShapeRuns
 pub mod ClosedTrees
+pub mod HeardTokens
+pub mod StandingShapes
 pub mod KeptWords

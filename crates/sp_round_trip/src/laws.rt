@@ -43,8 +43,9 @@ pub fn canonical_text_reads_back()
     ensures no_other_fault { (lexed : Lexed) (m : Tree) → IsLexed lexed.text lexed.list → IsModuleTree lexed m → length (canonical m) ≤ most_bytes → (span : Span) (kind : MKind) → IsFault (canonical m) span kind → kind ≡ module_kind.TooDeep }
 {}
 
-/// No word is lost, added or moved: what the tokens of a module's text tell and what the words of its canonical text tell are
-/// the same, in their order, but for `(`, `)`, `;` and `,`, where a `>>` is two `>`.
+/// No word is lost, added or moved: what the tokens of a module's text tell, what the words of its canonical text tell, and
+/// what the tokens of that text tell are the same, in their order, but for `(`, `)`, `;` and `,`, where a `>>` is two `>`.
 pub fn no_word_is_lost()
-    ensures { (lexed : Lexed) (m : Tree) → IsLexed lexed.text lexed.list → IsModuleTree lexed m → kept (words_told (told lexed)) ≡ kept (flat_map (λ ws. ws) (module_lines m)) }
+    ensures words { (lexed : Lexed) (m : Tree) → IsLexed lexed.text lexed.list → IsModuleTree lexed m → kept (words_told (told lexed)) ≡ kept (flat_map (λ ws. ws) (module_lines m)) }
+    ensures tokens { (lexed : Lexed) (m : Tree) → IsLexed lexed.text lexed.list → IsModuleTree lexed m → (tokens : List Token) → IsLexed (canonical m) tokens → kept (words_told (told lexed)) ≡ kept (words_told (told (record { text = canonical m; list = tokens }))) }
 {}
