@@ -108,6 +108,7 @@ lone_says e (entire w) ok h =
     let k = number (entire w) in
     single_word e w single (sym (by_kind e k (sym (taken_by e k (not_close e entirely)) ∙ h))) ∙ sym (words_not_close e entirely)
 
+-- what closes a list of types takes a `>`, or a half of a `>>`
 close_takes : (b c : Bool) → cond b All (cond c First Nothing) ≡ All → b ≡ true
 close_takes true c h = refl
 close_takes false true h = absurd cc

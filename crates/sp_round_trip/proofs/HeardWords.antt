@@ -26,6 +26,7 @@ carries token.Bytes = true
 carries token.Regex = true
 carries _ = false
 
+-- what stays of a kind
 abbrev pub fixed_words : TokenKind → List Word
 fixed_words (token.Mark mark.LeftParen) = []
 fixed_words (token.Mark mark.RightParen) = []
@@ -34,6 +35,7 @@ fixed_words (token.Mark mark.Comma) = []
 fixed_words (token.Mark mark.ShiftRight) = fixed (token.Mark mark.Greater) ∷ fixed (token.Mark mark.Greater) ∷ []
 fixed_words kind = fixed kind ∷ []
 
+-- what stays of a word
 abbrev pub heard_of : Word → List Word
 heard_of w = if carries (read_as w) then w ∷ [] else fixed_words (read_as w)
 

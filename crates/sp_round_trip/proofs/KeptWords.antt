@@ -39,6 +39,7 @@ use Rattle.sp_round_trip.proofs.Tells.{module_tells}
 use Rattle.sp_round_trip.proofs.TextReadings.{ReadsModule, goes_of_tree}
 use Rattle.sp_round_trip.proofs.ToldWords.{told_words}
 
+-- a test that goes on had a state to go on with; of two tests, one holds
 so_some : (o : Option State) (go : State → Bool) → if_so o go ≡ true → (st : State) × (o ≡ Some st) × (go st ≡ true)
 so_some None go h = never h
 so_some (Some st) go h = (st, refl, h)
@@ -47,6 +48,7 @@ either_of : (o : Option State) (go : State → Bool) (other : Bool) → either o
 either_of None go other h = inr h
 either_of (Some st) go other h = inl (st, refl, h)
 
+-- what comes next is told by a word
 next_is : (w : List Tok) → (v : Word) × (next w ≡ telling_of v)
 next_is [] = (fixed (token.Mark sign.Semicolon), refl)
 next_is (entire w ∷ ws) = (w, refl)
@@ -62,6 +64,7 @@ half_on e w st b s o h =
     let (now, says) = stands_words (words_at e) st b s o in
     (now, λ r. ap (λ ws. text st b s o (ws ++ r)) (half_says e w h) ∙ ap (text st b s o) (append_assoc (words_at e) (tok_words (half w)) r) ∙ says (tok_words (half w) ++ r))
 
+-- a mark that no token belongs to
 mark_on : (m : Mark) (w : List Tok) (st st' : State) (b s t : Pile) (o : Stands st b s) → after (rule m) st ≡ Some st' → does (rule m) (next w) s ≡ Some t → Next st' b t (λ r. text st b s o r)
 mark_on m w st st' b s t o ok done = let (v, is) = next_is w in marked (rule m) (rule_owned m) v st st' b s t o ok (ap (λ x. does (rule m) x s) (sym is) ∙ done)
 
@@ -72,10 +75,12 @@ Ends want b t x y = (sq : Split want) × (t ≡ pushed (trees_in want sq) b) × 
 ends_after : (want : List Shape) (b t : Pile) (x y z : List Word) → x ≡ y → Ends want b t y z → Ends want b t x z
 ends_after want b t x y z same e = (e.0, e.1, same ∙ e.2)
 
+-- where no symbols are left
 ended : (st : State) (b s : Pile) (o : Stands st b s) (want : List Shape) → ends st want ≡ true → (x : List Word) → Ends want b s (text st b s o x) x
 ended (base cs) b s o want ok x = let (sq, same) = covers_on depth cs want o.0 ok in (sq, o.1 ∙ ap (λ ts. pushed ts b) same.0, same.1 x)
 ended (inner known cs st) b s o want ok x = never ok
 
+-- whatever the symbols read
 reads_on : {ss : List Symbol} {w v : List Tok} {s t : Pile} → Goes ss w s v t → (st : State) (b : Pile) (o : Stands st b s) (want : List Shape) → passes st ss want ≡ true → Ends want b t (text st b s o (toks_words w)) (toks_words v)
 reads_on (nothing {w = w} {s = s}) st b o want ok = ended st b s o want ok (toks_words w)
 reads_on (whole {e = e} {x = x} {ss = ss} {w = w} {v = v} {s = s} {t = t} h g) st b o want ok =
