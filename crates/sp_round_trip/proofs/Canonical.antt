@@ -44,12 +44,12 @@ use Rattle.sp_round_trip.proofs.Productions.{again}
 use Rattle.sp_round_trip.proofs.ToldWords.{told_words, lines_told}
 
 -- each word of a module that was read can be read again, where it stands
-lines_sound : (lexed : Lexed) (m : Tree) → IsLexed lexed.text lexed.list → IsModuleTree lexed m → AreSound (module_lines m)
+pub lines_sound : (lexed : Lexed) (m : Tree) → IsLexed lexed.text lexed.list → IsModuleTree lexed m → AreSound (module_lines m)
 lines_sound lexed m is read =
     record { words = module_holds IsSound (λ kind fixed. fixed) m (module_tells IsSound (λ kind fixed. fixed) lexed m (told_sound lexed.text lexed.list is) read); places = words_placed lexed m is read }
 
 -- the tokens of the canonical text tell the words of the module
-canonical_told : (m : Tree) → AreSound (module_lines m) → (tokens : List Token) → IsLexed (canonical m) tokens → told (record { text = canonical m; list = tokens }) ≡ map telling_of (flat (module_lines m))
+pub canonical_told : (m : Tree) → AreSound (module_lines m) → (tokens : List Token) → IsLexed (canonical m) tokens → told (record { text = canonical m; list = tokens }) ≡ map telling_of (flat (module_lines m))
 canonical_told m sound tokens lexed =
     let lines = module_lines m in
     ap (λ bytes. told (record { text = bytes; list = tokens })) (module_same m)

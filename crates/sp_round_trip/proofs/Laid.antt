@@ -132,7 +132,7 @@ frame_again : (f : Frame) → frame_with (frame_number f) ≡ f
 frame_again frame.Bare = refl
 frame_again f = refl
 
-is_frame : (f g : Frame) → same_frame f g ≡ true → g ≡ f
+pub is_frame : (f g : Frame) → same_frame f g ≡ true → g ≡ f
 is_frame f g h = sym (frame_again g) ∙ sym (ap frame_with (eqb-true (frame_number f) (frame_number g) h)) ∙ frame_again f
 
 abbrev separator_with : ℕ → Separator
@@ -142,7 +142,7 @@ separator_again : (x : Separator) → separator_with (separator_number x) ≡ x
 separator_again separator.Nothing = refl
 separator_again x = refl
 
-is_separator : (x y : Separator) → same_separator x y ≡ true → y ≡ x
+pub is_separator : (x y : Separator) → same_separator x y ≡ true → y ≡ x
 is_separator x y h = sym (separator_again y) ∙ sym (ap separator_with (eqb-true (separator_number x) (separator_number y) h)) ∙ separator_again x
 
 -- one tree with its frame round it

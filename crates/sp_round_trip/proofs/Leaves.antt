@@ -50,7 +50,7 @@ is_always (always form) = true
 is_always _ = false
 
 -- a token that tells an integer type is its word
-integer_is : (kind : TokenKind) (w : IntWord) → integer_of kind ≡ Some w → kind ≡ token.Keyword (integer_keyword w)
+pub integer_is : (kind : TokenKind) (w : IntWord) → integer_of kind ≡ Some w → kind ≡ token.Keyword (integer_keyword w)
 integer_is (token.Keyword keyword.Uint8) integer.Uint8 e = refl
 integer_is (token.Keyword keyword.Uint16) integer.Uint16 e = refl
 integer_is (token.Keyword keyword.Uint32) integer.Uint32 e = refl

@@ -49,5 +49,10 @@ pub mod FormedModules
 pub mod PlacedWords
 pub mod Canonical
 -- What a text and its canonical text have in common, read as one tree.
-pub mod CarriedWords
-pub mod CountedWords
+pub mod HeardWords
+pub mod Shapes
+pub mod ShapeRuns
+pub mod ClosedTrees
+pub mod HeardTokens
+pub mod StandingShapes
+pub mod KeptWords

@@ -1,5 +1,4 @@
 pub mod Bare
-pub mod Carried
-pub mod Counted
+pub mod Kept
 pub mod ReadAs
 pub mod Told

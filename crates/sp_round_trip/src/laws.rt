@@ -1,5 +1,5 @@
 // A module that was read, its words, and its canonical text.
-ghost use Rattle.std.specs.Prelude.{◌≡◌, ◌≤◌, List, None, flat_map, length, true};
+ghost use Rattle.std.specs.Prelude.{◌≡◌, ◌≤◌, List, None, flat_map, length};
 ghost use Rattle.std.specs.List.{AllByRecursion};
 ghost use Rattle.sp_base.specs.declared.kinds.MKind.{MKind};
 ghost use Rattle.sp_base.specs.declared.kinds.MKind.TheVariants as module_kind;
@@ -7,16 +7,13 @@ ghost use Rattle.sp_base.specs.declared.places.Span.{Span};
 ghost use Rattle.sp_lex.specs.Faults.{IsFault, most_bytes};
 ghost use Rattle.sp_lex.specs.Lexed.{Lexed, IsLexed};
 ghost use Rattle.sp_lex.specs.declared.tokens.Token.{Token};
-ghost use Rattle.sp_grammar.specs.Terminals.{terminal_number};
-ghost use Rattle.sp_grammar.specs.declared.terminals.Terminal.{Terminal};
 ghost use Rattle.sp_ast.specs.Trees.{Tree};
 ghost use Rattle.sp_read_unit.specs.Modules.{IsModuleTree};
 ghost use Rattle.sp_print.specs.Canonical.{canonical};
 ghost use Rattle.sp_printed_words.specs.Modules.{module_lines};
 ghost use Rattle.sp_printed_words.specs.Sound.{ArePlaced, HaveNoZero, IsSound};
 ghost use Rattle.sp_round_trip.specs.Bare.{bare};
-ghost use Rattle.sp_round_trip.specs.Carried.{carried, words_told};
-ghost use Rattle.sp_round_trip.specs.Counted.{is_counted, times};
+ghost use Rattle.sp_round_trip.specs.Kept.{kept, words_told};
 ghost use Rattle.sp_round_trip.specs.ReadAs.{IsReadAs, IsTooDeep};
 ghost use Rattle.sp_round_trip.specs.Told.{told};
 
@@ -56,14 +53,14 @@ pub fn canonical_text_reads_back()
         → IsFault (canonical m) span kind → kind ≡ module_kind.TooDeep }
 {}
 
-/// No name, number or literal is lost, added or moved: those that the text of a module tells are those of its canonical
-/// text, in their order.
-pub fn names_numbers_and_literals_are_kept()
-    ensures { (lexed : Lexed) (m : Tree) → IsLexed lexed.text lexed.list → IsModuleTree lexed m
-        → carried (words_told (told lexed)) ≡ carried (flat_map (λ ws. ws) (module_lines m)) }
-{}
-
-/// Each reserved word and each mark that is counted stands as often in the text of a module as in its canonical text.
-pub fn words_and_marks_stand_as_often()
-    ensures { (lexed : Lexed) (m : Tree) → IsLexed lexed.text lexed.list → IsModuleTree lexed m → (e : Terminal) → is_counted (terminal_number e) ≡ true → times e (words_told (told lexed)) ≡ times e (flat_map (λ ws. ws) (module_lines m)) }
+/// No word is lost, added or moved: what the tokens of a module's text tell, what the words of its canonical text tell, and
+/// what the tokens of that text tell are the same, in their order, but for `(`, `)`, `;` and `,`, where a `>>` is two `>`.
+pub fn no_word_is_lost()
+    ensures words { (lexed : Lexed) (m : Tree) → IsLexed lexed.text lexed.list
+        → IsModuleTree lexed m → kept (words_told (told lexed)) ≡ kept
+        (flat_map (λ ws. ws) (module_lines m)) }
+    ensures tokens { (lexed : Lexed) (m : Tree) → IsLexed lexed.text lexed.list
+        → IsModuleTree lexed m → (tokens : List Token) → IsLexed (canonical m) tokens
+        → kept (words_told (told lexed)) ≡ kept
+        (words_told (told (record { text = canonical m; list = tokens }))) }
 {}
