@@ -1,0 +1,4 @@
+pub mod Sums
+pub mod RingLemmas
+pub mod ArenaLemmas
+pub mod ViewLemmas
