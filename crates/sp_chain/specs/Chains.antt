@@ -1,5 +1,5 @@
 -- What a contract sees of `Chains`: lists of items, each item under a slot.
-use Rattle.std.specs.Prelude.{◌≡◌, ◌≢◌, ℕ, ◌+◌, ◌≤◌, suc, List, [], ◌∷◌, ◌++◌, length, Option, Some, None, IsSome, sum_by, slice_index_or, refl}
+use Rattle.std.specs.Prelude.{◌≡◌, ◌≢◌, ℕ, ◌+◌, ◌≤◌, suc, List, [], ◌∷◌, ◌++◌, length, map, Option, Some, None, IsSome, sum_by, slice_index_or, slice_set, nat_eq, if◌then◌else◌, refl}
 use Rattle.std.specs.Coded.{Coded, code_by, coded×, coded_ℕ, coded_list, coded_option}
 
 -- the items of each list in order, each with its slot, at the number of the list; and how many places the arena has
@@ -69,3 +69,19 @@ module _ {T : Type 0} where
   -- so many more places are free
   abbrev pub HasFree : Chains T → ℕ → Type 0
   HasFree chains more = sum_by places_of chains.lists + more ≤ chains.places
+
+  -- an item, or another one where it is under this slot
+  abbrev pub put_one : ℕ → T → ℕ × T → ℕ × T
+  put_one s w y = if nat_eq y.0 s then (s, w) else y
+
+  -- items of which the one under a slot is another
+  abbrev pub put_at : ℕ → T → List (ℕ × T) → List (ℕ × T)
+  put_at s w c = map (put_one s w) c
+
+  abbrev pub put_in : ℕ → T → Option (List (ℕ × T)) → Option (List (ℕ × T))
+  put_in s w None = None
+  put_in s w (Some c) = Some (put_at s w c)
+
+  -- lists of which one has another item under a slot
+  abbrev pub with_slot : Chains T → ℕ → ℕ → T → Chains T
+  with_slot chains l s w = record chains { lists = slice_set chains.lists l (put_in s w (list_of chains l)) }

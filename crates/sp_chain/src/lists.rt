@@ -3,7 +3,7 @@ ghost use Rattle.std.specs.Prelude.{◌≡◌, ◌≢◌, ◌≤◌, [], ◌∷�
 ghost use Rattle.sp_chain.specs.Chains.{list_of, IsLive, HasSlot, Holds, first_slot, Updates, Splices, EachSlotOnce, HasFree};
 
 use crate::links::{insert_behind, splice_nodes, unlink_node};
-use crate::nodes::{Content, Node, after_of, before_of, item_of};
+use crate::nodes::{Content, Node, after_of, before_of, item_of, item_of_mut};
 use slab::Slab;
 use sp_base::NoMemory;
 use std::alloc::Global;
@@ -61,6 +61,9 @@ impl<T> Model for Chains<T> {
 }
 
 impl<T> Chains<T> {
+    ghost use Rattle.std.specs.Borrow.{sem};
+    ghost use Rattle.sp_chain.specs.Lent.{lends_slot};
+
     /// An arena without lists. Takes no memory.
     pub fn new(alloc: Global) -> Chains<T>
         ensures { result.lists ≡ [] }
@@ -180,6 +183,15 @@ impl<T> Chains<T> {
         ensures { (d e : List (ℕ × T)) (y : T) → Holds self.now l d s y e → result.now ≡ y }
     {
         item_of(&self.nodes, s.index)
+    }
+
+    /// The item of a slot, for writing.
+    pub fn get_mut(&mut self, l: ListId, s: Slot) -> &mut T
+        requires { HasSlot self.old l s }
+        ensures* lends { sem 𝓛 (lends_slot T.row self.entry l s result) }
+        ensures value { (d e : List (ℕ × T)) (y : T) → Holds self.old l d s y e → result.now ≡ y }
+    {
+        item_of_mut(&mut self.nodes, s.index)
     }
 }
 

@@ -1,7 +1,9 @@
 // The nodes of the arena, and how one of them is changed.
 ghost use Rattle.std.specs.Prelude.{◌≡◌, ◌≢◌, Some, IsSome};
+ghost use Rattle.std.specs.Borrow.{Lends, sem};
 ghost use Rattle.slab.specs.Slab.{ContainsKey, get};
-ghost use Rattle.sp_chain.specs.Rings.{after_in, before_in, item_in, length_in};
+ghost use Rattle.sp_chain.specs.Rings.{after_in, before_in, item_in, item_of, length_in};
+ghost use Rattle.sp_chain.specs.Lending.{lends_node};
 ghost use Rattle.sp_chain.specs.Steps.{SetsAfter, SetsBefore, SetsLength};
 
 use slab::Slab;
@@ -20,6 +22,34 @@ pub(crate) enum Content<T> {
     /// A list of so many items: its ring begins and ends here.
     List(usize),
     Item(T),
+}
+
+impl<T> Content<T> {
+    ghost use Rattle.sp_chain.specs.contracts.nodes.Content.{the_row};
+
+    fn item_mut(&mut self) -> &mut T
+        requires { IsSome (item_of self.old) }
+        ensures* lends { sem 𝓛 (Lends (the_row T.row) T.row self.entry result Content.Item) }
+        ensures value { item_of self.old ≡ Some result.now }
+    {
+        match self {
+            Content::Item(item) => item,
+            Content::List(_) => unreachable!(),
+        }
+    }
+}
+
+impl<T> Node<T> {
+    ghost use Rattle.sp_chain.specs.Lending.{lends_item};
+
+    fn item_mut(&mut self) -> &mut T
+        requires { IsSome (item_of self.old.content) }
+        ensures* lends { sem 𝓛 (lends_item T.row self.entry result) }
+        ensures value { item_of self.old.content ≡ Some result.now }
+    {
+        let content = &mut self.content;
+        content.item_mut()
+    }
 }
 
 pub(crate) fn after_of<T>(nodes: &Slab<Node<T>>, key: usize) -> usize
@@ -54,6 +84,15 @@ pub(crate) fn item_of<T>(nodes: &Slab<Node<T>>, key: usize) -> &T
         Content::Item(item) => item,
         Content::List(_) => unreachable!(),
     }
+}
+
+pub(crate) fn item_of_mut<T>(nodes: &mut Slab<Node<T>>, key: usize) -> &mut T
+    requires { IsSome (item_in (get nodes.old key)) }
+    ensures* lends { sem 𝓛 (lends_node T.row nodes.entry key result) }
+    ensures value { item_in (get nodes.old key) ≡ Some result.now }
+{
+    let node = &mut nodes[key];
+    node.item_mut()
 }
 
 pub(crate) fn set_after<T>(nodes: &mut Slab<Node<T>>, key: usize, after: usize)
