@@ -66,7 +66,8 @@ impl<T> Chains<T> {
 
     /// An arena without lists. Takes no memory.
     pub fn new(alloc: Global) -> Chains<T>
-        ensures { result.lists ≡ [] }
+        ensures empty { result.lists ≡ [] }
+        ensures no_places { result.places ≡ 0 }
     {
         Chains {
             nodes: Slab::new(alloc),
