@@ -5,8 +5,8 @@ use Rattle.std.proofs.lemmas.Bool.{lt-leb, leb-true, eqb-true, eqb-false, cases_
 use Rattle.sp_reasm.specs.declared.notes.Note.{Note}
 use Rattle.sp_reasm.specs.declared.notes.Note.TheVariants.{Overlap, Undelivered, Skipped, Deliver, Gap as Missing, Closed}
 use Rattle.sp_reasm.specs.Owners.{Owner, Data, Lost, Op, Write, Gap, Skip, byte_at, covering, end_of, Stand, or_else, owner_after, start_of, first_without, after, nothing, after_all, stand_of}
-use Rattle.sp_reasm.specs.Notes.{before_notes, told, before_runs, runs}
-use Rattle.sp_reasm.specs.Laws.{OwnersStay, HeadStays, BelowStays, HeadIsFree, NoHole, numbered, losses, all_covered, ToldOnce, AreApart, items_of, found, RunsApart, RunsFind}
+use Rattle.sp_reasm.specs.Notes.{before_notes, told, before_runs, runs, owners_from}
+use Rattle.sp_reasm.specs.Laws.{OwnersStay, HeadStays, BelowStays, HeadIsFree, NoHole, numbered, losses, all_covered, DeliveredOnce, AreApart, items_of, found, RunsApart, RunsFind}
 
 all-append : (stand : Stand) (ops more : List Op) → after_all stand (ops ++ more) ≡ after_all (after_all stand ops) more
 all-append stand [] more = refl
@@ -174,7 +174,7 @@ told_one at (Some Lost) (Missing seq len ∷ notes) = by_test (nat_eq seq (suc a
     by_test false e = refl
     by_test true e = ap (λ k. (at, Lost) ∷ (numbered k (losses len) ++ all_covered notes)) (sym (eqb-true seq (suc at) e))
 
-pub told_once : ToldOnce
+told_once : (at : ℕ) (os : List (Option Owner)) → all_covered (told at os) ≡ found at os
 told_once at [] = refl
 told_once at (None ∷ os) = told_once (suc at) os
 told_once at (Some o ∷ os) = told_one at (Some o) (told (suc at) os) ∙ ap (λ rest. (at, o) ∷ rest) (told_once (suc at) os)
@@ -228,3 +228,24 @@ all_runs_apart at xs = (runs_apart at xs).1
 
 pub all_runs_find : RunsFind
 all_runs_find at xs = runs_find at xs
+
+all_owned : (f : ℕ → Option Owner) (q n : ℕ) → ((k : ℕ) → q ≤ k → k < q + n → IsSome (f k)) → (os : List Owner) × (owners_from f q n ≡ map Some os)
+all_owned f q zero h = ([], refl)
+all_owned f q (suc n) h =
+    by_owner (f q) refl (h q (omega arith) (omega arith)) (all_owned f (suc q) n (λ k from to. h k (omega (arith, from)) (omega (arith, to))))
+  where
+    by_owner : (o : Option Owner) → f q ≡ o → IsSome (f q) → ((os : List Owner) × (owners_from f (suc q) n ≡ map Some os)) → (os : List Owner) × (f q ∷ owners_from f (suc q) n ≡ map Some os)
+    by_owner None e some rest = absurd (let no : IsSome {T = Owner} None = subst (λ o. IsSome o) e some in cc)
+    by_owner (Some o) e some rest = (o ∷ rest.0, λ i. e i ∷ rest.1 i)
+
+found_all : (at : ℕ) (os : List Owner) → found at (map Some os) ≡ numbered at os
+found_all at [] = refl
+found_all at (o ∷ os) = ap (λ rest. (at, o) ∷ rest) (found_all (suc at) os)
+
+pub all_delivered_once : DeliveredOnce
+all_delivered_once initial ops op =
+    let start = start_of (stand_of ops) op in
+    let new = after (stand_of ops) op in
+    let past : start ≤ new.head = first_is_past (owner_after (stand_of ops) op) start (max (stand_of ops).end (end_of op)) in
+    let list = all_owned new.owner start (new.head - start) (λ k from to. no_hole ops op k from (omega (arith, to, past))) in
+    (list.0, list.1, told_once (initial + start) (owners_from new.owner start (new.head - start)) ∙ ap (λ os. found (initial + start) os) list.1 ∙ found_all (initial + start) list.0)

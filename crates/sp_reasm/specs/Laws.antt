@@ -1,9 +1,9 @@
 -- What holds of every list of operations.
-use Rattle.std.specs.Prelude.{◌≡◌, ℕ, zero, suc, ◌+◌, ◌<◌, ◌≤◌, List, [], ◌∷◌, ◌++◌, length, map, Option, Some, None, IsSome}
+use Rattle.std.specs.Prelude.{◌≡◌, ℕ, zero, suc, ◌+◌, ◌-◌, ◌<◌, ◌≤◌, List, [], ◌∷◌, ◌++◌, length, map, Option, Some, None, IsSome}
 use Rattle.sp_reasm.specs.declared.notes.Note.{Note}
 use Rattle.sp_reasm.specs.declared.notes.Note.TheVariants.{Overlap, Undelivered, Skipped, Deliver, Gap as Missing, Closed}
 use Rattle.sp_reasm.specs.Owners.{Owner, Data, Lost, Op, start_of, after, stand_of}
-use Rattle.sp_reasm.specs.Notes.{runs, told}
+use Rattle.sp_reasm.specs.Notes.{runs, owners_from, delivered}
 
 -- a position that has an owner keeps it
 abbrev pub OwnersStay : Type 0
@@ -54,13 +54,12 @@ found at [] = []
 found at (None ∷ xs) = found (suc at) xs
 found at (Some x ∷ xs) = (at, x) ∷ found (suc at) xs
 
--- the positions that have an owner, of these from one on
-abbrev pub owned : ℕ → List (Option Owner) → List (ℕ × Owner)
-owned at os = found at os
-
--- what is told while the head goes on is each position once, in order, as it is owned
-abbrev pub ToldOnce : Type 0
-ToldOnce = (at : ℕ) (os : List (Option Owner)) → all_covered (told at os) ≡ owned at os
+-- what is told while the head goes on is each position that it goes over, once and in order, as it is owned
+abbrev pub DeliveredOnce : Type 0
+DeliveredOnce = (initial : ℕ) (ops : List Op) (op : Op) →
+    (let stand = stand_of ops in let new = after stand op in let start = start_of stand op in
+    (os : List Owner) × (owners_from new.owner start (new.head - start) ≡ map Some os)
+    × (all_covered (delivered initial stand op) ≡ numbered (initial + start) os))
 
 -- each run ends before the next begins, with something between
 abbrev pub AreApart : {X : Type 0} → List (ℕ × List X) → Type 0

@@ -1,5 +1,5 @@
 // What holds of every list of operations: each law is the contract of a function that does nothing.
-ghost use Rattle.sp_reasm.specs.Laws.{OwnersStay, HeadStays, BelowStays, HeadIsFree, NoHole, ToldOnce, RunsApart, RunsFind};
+ghost use Rattle.sp_reasm.specs.Laws.{OwnersStay, HeadStays, BelowStays, HeadIsFree, NoHole, DeliveredOnce, RunsApart, RunsFind};
 
 /// A position has one owner at most and keeps it: later data never win.
 pub fn owner_is_kept()
@@ -28,7 +28,7 @@ pub fn skips_no_hole()
 
 /// What is delivered or told as a gap is each position once, in order, as it is owned.
 pub fn delivered_once()
-    ensures { ToldOnce }
+    ensures { DeliveredOnce }
 {}
 
 /// A run of data ends only where something else comes: the runs are as long as they can be.
