@@ -1,0 +1,10 @@
+//! Many doubly linked lists in one arena, linked by index.
+#![tactic(auto)]
+
+mod links;
+mod lists;
+mod nodes;
+#[cfg(test)]
+mod tests;
+
+pub use lists::{Chains, ListId, Slot};

@@ -1,0 +1,5 @@
+pub mod Owners
+pub mod Notes
+pub mod Sink
+pub mod Rows
+pub mod Laws
