@@ -132,7 +132,8 @@ impl<T> Chains<T> {
     pub fn unlink(&mut self, l: ListId, s: Slot) -> T
         requires { HasSlot self.old l s }
         ensures { (d e : List (ℕ × T)) (y : T) → Holds self.old l d s y e
-            → (result ≡ y) × Updates self.old self.new l (Some (d ++ e)) × (self.new.places ≡ self.old.places) }
+            → (result ≡ y) × Updates self.old self.new l (Some (d ++ e))
+            × (self.new.places ≡ self.old.places) }
     {
         unlink_node(&mut self.nodes, l.index, s.index)
     }
@@ -142,7 +143,8 @@ impl<T> Chains<T> {
         requires { IsLive self.old l }
         ensures empty { list_of self.old l ≡ Some [] → (result ≡ None) × (self.new ≡ self.old) }
         ensures last { (d : List (ℕ × T)) (s : ℕ) (y : T) → Holds self.old l d s y []
-            → (result ≡ Some y) × Updates self.old self.new l (Some d) × (self.new.places ≡ self.old.places) }
+            → (result ≡ Some y) × Updates self.old self.new l (Some d)
+            × (self.new.places ≡ self.old.places) }
     {
         let last = before_of(&self.nodes, l.index);
         if last == l.index {
@@ -156,7 +158,8 @@ impl<T> Chains<T> {
         requires live { IsLive self.old to }
         requires other_live { IsLive self.old from }
         requires differ { to ≢ from }
-        ensures { (c d : List (ℕ × T)) → list_of self.old to ≡ Some c → list_of self.old from ≡ Some d
+        ensures { (c d : List (ℕ × T)) → list_of self.old to ≡ Some c
+            → list_of self.old from ≡ Some d
             → Splices self.old self.new to (c ++ d) from × (self.new.places ≡ self.old.places) }
     {
         splice_nodes(&mut self.nodes, to.index, from.index);
