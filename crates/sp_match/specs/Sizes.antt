@@ -16,6 +16,10 @@ pub record IsSetOf (set : TokenSet) (tokens : List Syntax) : Type 0 where
   pub net : IsNetOf tokens set.net.items set.start.items
   pub room : length set.start.items ≡ length set.net.items
 
+-- how many bytes the matcher has read
+abbrev pub steps : Matcher → ℕ
+steps m = m.stepped
+
 -- the matcher of a set of these members has stepped over the bytes w
 pub record HasRead (m : Matcher) (tokens : List Syntax) (w : List ℕ) : Type 0 where
   pub set : IsSetOf m.set.now tokens

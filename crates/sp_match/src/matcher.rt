@@ -5,7 +5,7 @@ ghost use Rattle.sp_match.specs.Matching.{IsVerdict};
 ghost use Rattle.sp_match.specs.Sets.{has};
 ghost use Rattle.sp_match.specs.Nets.{at, is_byte};
 ghost use Rattle.sp_match.specs.Running.{newest_of};
-ghost use Rattle.sp_match.specs.Sizes.{IsSetOf, HasRead};
+ghost use Rattle.sp_match.specs.Sizes.{IsSetOf, HasRead, steps};
 
 use crate::run::{advance, close, reads_on, winner};
 use crate::sets::{copy, fitted};
@@ -27,7 +27,8 @@ pub struct Matcher<'s> {
 impl<'s> Matcher<'s> {
     /// A matcher that has read nothing.
     pub fn new(alloc: Global, set: &'s TokenSet) -> Result<Matcher<'s>, NoMemory>
-        ensures { (tokens : List Syntax) → IsSetOf set.now tokens → IfOk result (λ matcher. HasRead matcher tokens []) }
+        ensures count { IfOk result (λ matcher. steps matcher ≡ 0) }
+        ensures read { (tokens : List Syntax) → IsSetOf set.now tokens → IfOk result (λ matcher. HasRead matcher tokens []) }
     {
         let live = copy(alloc, &set.start)?;
         let next = fitted(alloc, &[], set.net.len())?;
@@ -40,10 +41,11 @@ impl<'s> Matcher<'s> {
         })
     }
 
-    /// Reads a byte. It takes no memory.
+    /// Reads a byte. It takes no memory. Fewer than 2^62 bytes were read before.
     pub fn step(&mut self, byte: u8)
-        requires { self.old.stepped < 2 ^ 62 }
-        ensures { (tokens : List Syntax) (w : List ℕ) → HasRead self.old tokens w → HasRead self.new tokens (w ++ byte ∷ []) }
+        requires { steps self.old < 2 ^ 62 }
+        ensures count { steps self.new ≡ steps self.old + 1 }
+        ensures read { (tokens : List Syntax) (w : List ℕ) → HasRead self.old tokens w → HasRead self.new tokens (w ++ byte ∷ []) }
     {
         advance(&self.set.net, &self.live, byte, &mut self.next);
         close(&self.set.net, &mut self.next);

@@ -6,8 +6,8 @@ use Rattle.sp_match.specs.Running.{Stands, IsMoved, IsClosed, best_below, newest
 use Rattle.sp_match.proofs.Whole.{whole_step}
 use Rattle.sp_match.proofs.matcher.Matcher.step.Goals as goal
 
-pub returns : goal.returns
-returns c = λ tokens w h.
+pub returns-clause-read : goal.returns-clause-read
+returns-clause-read c = λ tokens w h.
     let net = c.args.self.now.set.now.net.items in
     let live = c.args.self.now.live.items in
     let mid = c.advance.new.next in
