@@ -7,6 +7,7 @@ pub mod Language
 pub mod Levels
 pub mod Machine
 pub mod Room
+pub mod Shapes
 pub mod Syntax
 pub mod Trees
 pub mod Views

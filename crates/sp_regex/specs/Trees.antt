@@ -1,5 +1,5 @@
 -- Regular expressions as trees.
-use Rattle.std.specs.Prelude.{◌≡◌, ℕ, ◌+◌, ◌*◌, max, Bool, true, false, List, [], ◌∷◌, Option, Some, None}
+use Rattle.std.specs.Prelude.{◌≡◌, ℕ, ◌+◌, ◌*◌, max, Bool, true, false, List, [], ◌∷◌, length, Option, Some, None}
 use Rattle.std.specs.List.{fold}
 use Rattle.std.proofs.Common.{refl, ap, ◌∙◌}
 use Rattle.std.specs.Coded.{Coded}
@@ -7,8 +7,8 @@ use base.Stored.{Gv, gnil, gnum, gcons}
 use Rattle.sp_regex.specs.declared.bytes.ByteRange.{ByteRange}
 
 -- The tree of a regular expression: a byte, any byte, a byte of a class (or, if that is negated, any
--- other byte), pieces and one piece more, alternatives and one alternative more, and an atom that stands
--- so many times, with a greatest number or without one.
+-- other byte), pieces and one piece more, alternatives and one alternative more, an atom that stands so
+-- many times, with a greatest number or without one, and a literal, whose bytes stand as they are.
 pub data Syntax : Type 0 where
   byte : ℕ → Syntax
   any : Syntax
@@ -18,6 +18,7 @@ pub data Syntax : Type 0 where
   never : Syntax
   either : Syntax → Syntax → Syntax
   repeat : ℕ → Option ℕ → Syntax → Syntax
+  literal : List ℕ → Syntax
 
 -- the pieces in their order
 abbrev pub sequence : List Syntax → Syntax
@@ -35,6 +36,10 @@ abbrev pub ranges_code : List ByteRange → Gv
 ranges_code [] = gnil
 ranges_code (r ∷ rs) = gcons (gcons (gnum r.from) (gnum r.to)) (ranges_code rs)
 
+abbrev pub numbers_code : List ℕ → Gv
+numbers_code [] = gnil
+numbers_code (n ∷ ns) = gcons (gnum n) (numbers_code ns)
+
 abbrev pub option_code : Option ℕ → Gv
 option_code None = gnil
 option_code (Some n) = gnum n
@@ -48,6 +53,7 @@ syntax_code (followed a b) = gcons (gnum 4) (gcons (syntax_code a) (syntax_code 
 syntax_code never = gcons (gnum 5) gnil
 syntax_code (either a b) = gcons (gnum 6) (gcons (syntax_code a) (syntax_code b))
 syntax_code (repeat n m a) = gcons (gnum 7) (gcons (gcons (gnum n) (option_code m)) (syntax_code a))
+syntax_code (literal bytes) = gcons (gnum 8) (numbers_code bytes)
 
 -- how deep a tree is
 abbrev pub syntax_size : Syntax → ℕ
@@ -73,6 +79,12 @@ ranges_inj (r ∷ rs) (s ∷ ss) p =
     let i : r ≡ s = ap (λ n. range_of n r.to) e ∙ ap (λ n. range_of s.from n) f in cc
 ranges_inj x y p = cc
 
+numbers_inj : (x y : List ℕ) → numbers_code x ≡ numbers_code y → x ≡ y
+numbers_inj [] [] p = refl
+numbers_inj (m ∷ ms) (n ∷ ns) p =
+    let e : m ≡ n = cc in let f : numbers_code ms ≡ numbers_code ns = cc in let g = numbers_inj ms ns f in cc
+numbers_inj x y p = cc
+
 option_inj : (x y : Option ℕ) → option_code x ≡ option_code y → x ≡ y
 option_inj None None p = refl
 option_inj (Some n) (Some m) p = let e : n ≡ m = cc in ap Some e
@@ -95,6 +107,7 @@ syntax_inj (either a b) (either c d) p =
 syntax_inj (repeat n m a) (repeat k l b) p =
     let e : n ≡ k = cc in let f : option_code m ≡ option_code l = cc in let g : syntax_code a ≡ syntax_code b = cc in
     let h = option_inj m l f in let i = syntax_inj a b g in cc
+syntax_inj (literal v) (literal w) p = let e : numbers_code v ≡ numbers_code w = cc in let f = numbers_inj v w e in cc
 syntax_inj x y p = cc
 
 abbrev pub coded_syntax : Coded Syntax
@@ -106,7 +119,7 @@ abbrev pub times_of : ℕ → Option ℕ → ℕ
 times_of least (Some most) = most
 times_of least None = max least 1
 
--- the count of byte positions: bytes, escapes, . and classes count one each
+-- the count of byte positions: bytes, escapes, . and classes count one each, and so do the bytes of a literal
 abbrev pub positions_of : Syntax → ℕ
 positions_of (byte b) = 1
 positions_of any = 1
@@ -116,3 +129,4 @@ positions_of (followed a b) = positions_of a + positions_of b
 positions_of never = 0
 positions_of (either a b) = positions_of a + positions_of b
 positions_of (repeat n m a) = times_of n m * positions_of a
+positions_of (literal bytes) = length bytes

@@ -7,11 +7,13 @@ mod class;
 mod escape;
 mod level;
 mod reader;
+mod shape;
 #[cfg(test)]
 mod tests;
 mod text;
 mod tree;
 
 pub use bytes::ByteRange;
+pub use shape::Shape;
 pub use text::{RegexFault, parse};
 pub use tree::{Count, Regex};

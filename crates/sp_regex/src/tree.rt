@@ -1,6 +1,6 @@
 // Regular expressions as trees.
 ghost use Rattle.std.specs.Prelude.{◌≡◌, ◌-◌, ◌^◌, min, IfOk};
-ghost use Rattle.sp_regex.specs.Trees.{byte, any, class, repeat, sequence, alternatives, times_of, positions_of};
+ghost use Rattle.sp_regex.specs.Trees.{byte, any, class, repeat, sequence, alternatives, literal, times_of, positions_of};
 
 use crate::bytes::ByteRange;
 use sp_base::NoMemory;
@@ -27,30 +27,31 @@ impl Count {
     }
 }
 
-/// A regular expression. One that was read from a text is at most 64 groups deep, so that to count its
+/// A regular expression, or the bytes of a literal. One that was read from a text is at most 64 groups deep, so that to count its
 /// positions or to drop it takes little of the stack.
 #[derive(Drop)]
 #[cycle(tree)]
 pub struct Regex {
-    node: Node,
+    pub(crate) node: Node,
 }
 
 #[derive(Drop)]
 #[cycle(tree)]
-enum Node {
+pub(crate) enum Node {
     Byte(u8),
     Any,
     Class(Class),
     Sequence(Vec<Regex>),
     Alternatives(Vec<Regex>),
     Repeat(Box<Regex>, Count),
+    Literal(Vec<u8>),
 }
 
 // The bytes of a class: those of its ranges, or all others.
 #[derive(Drop)]
-struct Class {
-    negated: bool,
-    ranges: Vec<ByteRange>,
+pub(crate) struct Class {
+    pub(crate) negated: bool,
+    pub(crate) ranges: Vec<ByteRange>,
 }
 
 impl Model for Regex {
@@ -119,7 +120,18 @@ impl Regex {
         })
     }
 
-    /// The count of byte positions: bytes, escapes, `.` and classes, one each; those of an atom count as
+    /// The literal of these bytes: its language is these bytes alone, and where a match is as long as that
+    /// of another member of a token set, a literal wins over what was read from a text.
+    pub fn literal(alloc: Global, bytes: &[u8]) -> Result<Regex, NoMemory>
+        ensures { IfOk result (λ r. r ≡ literal bytes.now) }
+    {
+        let bytes = bytes.to_vec(alloc)?;
+        Ok(Regex {
+            node: Node::Literal(bytes),
+        })
+    }
+
+    /// The count of byte positions: bytes, escapes, `.`, classes and the bytes of a literal, one each; those of an atom count as
     /// often as its bounds allow at most, and once or, where that is more, the least number of times
     /// without such a bound. A count past 2^64 - 1 is given as 2^64 - 1.
     pub fn positions(&self) -> u64
@@ -134,6 +146,7 @@ impl Regex {
                 }
                 total
             }
+            Node::Literal(bytes) => bytes.len() as u64,
             Node::Repeat(atom, count) => count.times().saturating_mul(atom.positions()),
         }
     }

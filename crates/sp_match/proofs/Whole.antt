@@ -1,0 +1,86 @@
+-- What each call of a token set and a matcher does to the facts about it.
+use Rattle.std.proofs.Common.{◌≡◌, ℕ, zero, suc, ◌+◌, ◌<◌, ◌≤◌, ◌++◌, ◌⊎◌, min, Bool, true, false, List, [], ◌∷◌, Option, length, take, get_or, refl, ap, sym, subst, ◌∙◌, inl, inr, arith, fold}
+use Rattle.std.proofs.lemmas.List.{take_more}
+use Rattle.sp_regex.specs.Trees.{Syntax, empty, never, followed, either, sequence, alternatives, positions_of}
+use Rattle.sp_match.specs.declared.spot.Spot.{Spot}
+use Rattle.sp_match.specs.Sets.{has}
+use Rattle.sp_match.specs.Nets.{at, is_byte}
+use Rattle.sp_match.specs.Matching.{is_literal, Settled, BestSoFar, NoneEmpty}
+use Rattle.sp_match.specs.Running.{Begins, Stands, IsNetOf, IsMoved, IsClosed, best_below, newest_of}
+use Rattle.sp_match.specs.Sizes.{positions_together}
+use Rattle.sp_match.proofs.Compiling.{not_both}
+use Rattle.sp_match.proofs.Running.{stands_next}
+use Rattle.sp_match.proofs.Turns.{has_within}
+use Rattle.sp_match.proofs.Deciding.{is_winner, best_next, grows_live}
+
+followed_no_literal : (xs : List Syntax) (a : Syntax) → is_literal a ≡ false → is_literal (fold followed a xs) ≡ false
+followed_no_literal [] a e = e
+followed_no_literal (x ∷ xs) a e = followed_no_literal xs (followed a x) refl
+
+either_no_literal : (xs : List Syntax) (a : Syntax) → is_literal a ≡ false → is_literal (fold either a xs) ≡ false
+either_no_literal [] a e = e
+either_no_literal (x ∷ xs) a e = either_no_literal xs (either a x) refl
+
+pub sequence_no_literal : (xs : List Syntax) → is_literal (sequence xs) ≡ false
+sequence_no_literal xs = followed_no_literal xs empty refl
+
+pub alternatives_no_literal : (xs : List Syntax) → is_literal (alternatives xs) ≡ false
+alternatives_no_literal xs = either_no_literal xs never refl
+
+together_more : (xs : List Syntax) (x : Syntax) → positions_together (xs ++ x ∷ []) ≡ positions_together xs + positions_of x
+together_more [] x = omega arith
+together_more (y ∷ ys) x = omega (arith, together_more ys x)
+
+pub item_is : (xs : List Syntax) (i : ℕ) (x d : Syntax) → i < length xs → x ≡ get_or xs i x → get_or xs i d ≡ x
+item_is [] i x d lt e = absurd (omega arith)
+item_is (y ∷ ys) zero x d lt e = sym e
+item_is (y ∷ ys) (suc i) x d lt e = item_is ys i x d (omega arith) e
+
+take_item : (xs : List Syntax) (i : ℕ) (x : Syntax) → i < length xs → x ≡ get_or xs i x → take (i + 1) xs ≡ take i xs ++ x ∷ []
+take_item xs i x lt e = take_more xs i x lt ∙ ap (λ z. take i xs ++ z ∷ []) (sym e)
+
+pub positions_next : (xs : List Syntax) (i total p limit : ℕ) (x : Syntax) → i < length xs → x ≡ get_or xs i x → total ≡ min (positions_together (take i xs)) limit → p ≡ min (positions_of x) limit → min (total + p) limit ≡ min (positions_together (take (i + 1) xs)) limit
+positions_next xs i total p limit x lt e f g =
+    let more : positions_together (take (i + 1) xs) ≡ positions_together (take i xs) + positions_of x = ap positions_together (take_item xs i x lt e) ∙ together_more (take i xs) x in
+    omega arith
+
+pub begins_more : (tokens : List Syntax) (i : ℕ) (x : Syntax) (net : List Spot) (start : List Bool) → i < length tokens → x ≡ get_or tokens i x → Begins (take i tokens ++ x ∷ []) net start → Begins (take (i + 1) tokens) net start
+begins_more tokens i x net start lt e b = subst (λ z. Begins z net start) (sym (take_item tokens i x lt e)) b
+
+pub take_long : (tokens : List Syntax) (i : ℕ) → i ≤ length tokens → i ≡ length (take i tokens)
+take_long tokens zero le = refl
+take_long [] (suc i) le = absurd (omega arith)
+take_long (t ∷ ts) (suc i) le = let k = take_long ts i (omega arith) in ap suc k
+
+pub whole_net : (tokens : List Syntax) (net : List Spot) (first fit set : List Bool) → Begins tokens net first → ((p : ℕ) → p < length net → has fit p ≡ has first p) → length fit ≡ length net → IsClosed net fit set → NoneEmpty tokens → IsNetOf tokens net set
+whole_net tokens net first fit set b spots len c none =
+    let came : (q : ℕ) → has fit q ≡ true → has first q ≡ true = λ q h. sym (spots q (let k = has_within fit q h in omega arith)) ∙ h in
+    let goes : (q : ℕ) → has first q ≡ true → has fit q ≡ true = λ q h. spots q (b.below q h) ∙ h in
+    record {
+      begins = record {
+        orderly = b.orderly;
+        below = λ p h. let k = has_within set p h in let l = c.len in omega arith;
+        alive = c.alive b.lively (λ q h. b.alive q (came q h));
+        lively = b.lively;
+        goals = b.goals;
+        goal_of = b.goal_of;
+        reads = λ g w is x. let y = c.sound x.0 x.1 g w x.2 in b.reads g w is (y.0, came y.0 y.1, y.2);
+        is_read = λ g w is x. let y = b.is_read g w is x in (y.0, c.keeps y.0 (goes y.0 y.1), y.2);
+      };
+      closed = c.closed;
+      none_empty = none;
+    }
+
+pub whole_step : (tokens : List Syntax) (net : List Spot) (start live mid after : List Bool) (w : List ℕ) (b n : ℕ) (best : Option (ℕ × ℕ)) → IsNetOf tokens net start → Stands tokens net w live → BestSoFar tokens w best → IsMoved net live mid b → IsClosed net mid after → n ≡ length w + 1 → Stands tokens net (w ++ b ∷ []) after × BestSoFar tokens (w ++ b ∷ []) (newest_of (best_below net after (length net)) n best)
+whole_step tokens net start live mid after w b n best is s old moved closed e =
+    let next = stands_next tokens net start live mid after w b is s moved closed in (
+      next,
+      subst (λ k. BestSoFar tokens (w ++ b ∷ []) (newest_of (best_below net after (length net)) k best)) (sym e)
+          (best_next is w b after best (length net) next old (omega arith) (best_below net after (length net)) (is_winner net after (length net))),
+    )
+
+pub settled : (tokens : List Syntax) (net : List Spot) (start live : List Bool) (w : List ℕ) (ended : Bool) → IsNetOf tokens net start → Stands tokens net w live → ((ended ≡ true) ⊎ ((p : ℕ) → has live p ≡ true → is_byte (at net p) ≡ false)) → Settled tokens w ended
+settled tokens net start live w ended is s x = elim x [
+  | inl e ↦ inl e
+  | inr none ↦ inr (λ grows. let y = grows_live is w live s grows in not_both y.2 (none y.0 y.1))
+]

@@ -1,0 +1,6 @@
+pub mod Matching
+pub mod Nets
+pub mod Parts
+pub mod Running
+pub mod Sets
+pub mod Sizes

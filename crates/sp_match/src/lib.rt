@@ -1,0 +1,17 @@
+//! Tokens against their languages: which member of a token set the bytes so far match.
+#![tactic(auto)]
+
+mod classes;
+mod compile;
+mod empties;
+mod matcher;
+mod run;
+mod sets;
+mod spot;
+mod token_set;
+mod verdict;
+
+pub use matcher::Matcher;
+pub use sp_regex::{ByteRange, Count, Regex, RegexFault, Shape, parse};
+pub use token_set::{POSITIONS, SetFault, TokenSet};
+pub use verdict::Verdict;
