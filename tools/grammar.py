@@ -1,6 +1,6 @@
 """Reads the written grammar of tools/grammar.txt, and finds what a predictive parser has to know of it.
 
-The file has a part on each line, `Part = alternative | alternative`. The words of an alternative are parts, marks (`@name`)
+The file has a part on each line, `Part = alternative | alternative`. The words of an alternative are parts, actions (`@name`)
 and tokens. `~` is the alternative of no words; behind it `!k` names a token before which the alternative isn't taken. `~~`
 is the token `~`, `BAR` the token `|`, and `CLOSE` what closes a list of types.
 """
@@ -24,7 +24,7 @@ class Part:
 
 
 @dataclass(frozen=True)
-class Mark:
+class Action:
     name: str
 
 
@@ -36,7 +36,7 @@ class Production:
 
 
 class Grammar:
-    """The parts, in the order of their numbers, the productions, and the numbers of tokens and marks."""
+    """The parts, in the order of their numbers, the productions, and the numbers of tokens and actions."""
 
     def __init__(self, path):
         lines = [line.rstrip("\n").split(" = ", 1) for line in open(path) if line.strip()]
@@ -47,7 +47,7 @@ class Grammar:
             for alternative in alternatives.split(" | ")
         ]
         self.tokens = self.token_numbers()
-        self.marks = in_order(s.name for p in self.productions for s in p.symbols if isinstance(s, Mark))
+        self.actions = in_order(s.name for p in self.productions for s in p.symbols if isinstance(s, Action))
 
     def production(self, part, words):
         is_empty = words[0] == "~"
@@ -57,7 +57,7 @@ class Grammar:
 
     def symbol(self, word):
         if word.startswith("@"):
-            return Mark(word[1:])
+            return Action(word[1:])
         return Part(word) if word in self.parts else Token("~" if word == "~~" else word)
 
     def token_numbers(self):
@@ -114,7 +114,7 @@ class Facts:
         return kinds
 
     def can_be_empty(self, symbols):
-        return all(isinstance(s, Mark) or (isinstance(s, Part) and self.empty[s.name]) for s in symbols)
+        return all(isinstance(s, Action) or (isinstance(s, Part) and self.empty[s.name]) for s in symbols)
 
     def steps(self, symbols):
         """How many steps the symbols can take before a token."""
@@ -122,7 +122,7 @@ class Facts:
         for s in reversed(symbols):
             if isinstance(s, Token):
                 steps = 1
-            elif isinstance(s, Mark):
+            elif isinstance(s, Action):
                 steps += 1
             else:
                 steps = self.weight[s.name] + (steps if self.empty[s.name] else 0)

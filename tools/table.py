@@ -9,9 +9,9 @@ import re
 import sys
 from pathlib import Path
 
-from grammar import CLOSE, SECOND, Facts, Grammar, Mark, Part, Token
+from grammar import CLOSE, SECOND, Facts, Grammar, Action, Part, Token
 
-MARKS_NAMES = {
+PUNCTUATION = {
     "::": "ColonColon", ":": "Colon", ";": "Semicolon", ",": "Comma", ".": "Dot", "?.": "QuestionDot", "?": "Question",
     "(": "LeftParen", ")": "RightParen", "[": "LeftBracket", "]": "RightBracket", "{": "LeftBrace", "}": "RightBrace",
     "->": "Arrow", "..": "DotDot", "$$": "DollarDollar", "=": "Equal", "+=": "PlusEqual", "-=": "MinusEqual",
@@ -20,33 +20,120 @@ MARKS_NAMES = {
     "&": "Ampersand", "|": "Bar", "^": "Caret", "~": "Tilde", "!": "Bang", "&&": "AndAnd", "||": "OrOr", "!in": "NotIn",
 }
 
-# the kinds of tokens that aren't one word or mark: their names, and what is said of them
+# the kinds of tokens that aren't one reserved word, punctuation or property: their names, and what is said of them
 KINDS = {
     "ID": ("Id", "A name."),
     "NUM": ("Number", "A number."),
-    "STRING": ("Text", "A text in quotes."),
-    "BYTES": ("ByteText", "Bytes in quotes."),
+    "STRING": ("String", "A string literal."),
+    "BYTES": ("Bytes", "A bytes literal."),
     "REGEX": ("Regex", "A regular expression."),
     "INT": ("IntWord", "The word of an integer type."),
     "ATTR": ("Attribute", "An attribute other than `&priority`."),
-    "HOOK": ("Event", "The event of a hook."),
+    "HOOK": ("Hook", "The name of a hook, as `%init`."),
+    "&priority": ("Priority", "`&priority`"),
+    "skip": ("Skip", "`skip`, a word out of profile that names a member."),
 }
+
+# what is said of the kinds of tokens that are one reserved word, punctuation or property
+WORDS = {"Keyword": "A reserved word.", "Punctuation": "Punctuation, a bracket or an operator.", "Property": "A property."}
+
+# the actions that build an operation: the variant of the action, the enum of its operators, and the operator
+OPERATIONS = {
+    "or": ("Binary", "BinaryOp", "Or"),
+    "and": ("Binary", "BinaryOp", "And"),
+    "in": ("Binary", "BinaryOp", "In"),
+    "not_in": ("Binary", "BinaryOp", "NotIn"),
+    "equal": ("Binary", "BinaryOp", "Equal"),
+    "not_equal": ("Binary", "BinaryOp", "NotEqual"),
+    "less": ("Binary", "BinaryOp", "Less"),
+    "less_equal": ("Binary", "BinaryOp", "LessEqual"),
+    "greater": ("Binary", "BinaryOp", "Greater"),
+    "greater_equal": ("Binary", "BinaryOp", "GreaterEqual"),
+    "bit_or": ("Binary", "BinaryOp", "BitOr"),
+    "bit_xor": ("Binary", "BinaryOp", "BitXor"),
+    "bit_and": ("Binary", "BinaryOp", "BitAnd"),
+    "shift_left": ("Binary", "BinaryOp", "ShiftLeft"),
+    "shift_right": ("Binary", "BinaryOp", "ShiftRight"),
+    "add": ("Binary", "BinaryOp", "Add"),
+    "subtract": ("Binary", "BinaryOp", "Subtract"),
+    "multiply": ("Binary", "BinaryOp", "Multiply"),
+    "divide": ("Binary", "BinaryOp", "Divide"),
+    "remainder": ("Binary", "BinaryOp", "Remainder"),
+    "not": ("Unary", "UnaryOp", "Not"),
+    "negate": ("Unary", "UnaryOp", "Negate"),
+    "complement": ("Unary", "UnaryOp", "Complement"),
+    "set_stmt": ("Assign", "AssignOp", "Set"),
+    "add_to_stmt": ("Assign", "AssignOp", "Add"),
+    "subtract_from_stmt": ("Assign", "AssignOp", "Subtract"),
+}
+
+# how contracts call the operators of each enum
+OPERATOR_IMPORTS = "".join(
+    f"use Rattle.sp_words.specs.declared.operators.{enum}.TheVariants as {variant.lower()}\n"
+    for variant, enum in (("Binary", "BinaryOp"), ("Unary", "UnaryOp"), ("Assign", "AssignOp"))
+)
+
+# how contracts call the reserved words, punctuation and properties
+WORD_IMPORTS = """\
+use Rattle.sp_words.specs.declared.keywords.Keyword.TheVariants as keyword
+use Rattle.sp_words.specs.declared.punctuation.Punctuation.TheVariants as punctuation
+use Rattle.sp_words.specs.declared.words.Property.TheVariants as property
+"""
 
 
 def camel(words):
-    """`set_stmt` as `SetStmt`."""
+    """`local_stmt` as `LocalStmt`."""
     return "".join(word[:1].upper() + word[1:] for word in re.split("[-_]", words))
 
 
-def terminal_name(token):
-    """The name of a kind of token in the code."""
+def action_variant(action):
+    """The variant of the action, with the enum of its operators."""
+    if action in OPERATIONS:
+        variant, enum, _ = OPERATIONS[action]
+        return f"{variant}({enum})"
+    return camel(action)
+
+
+def action_in_code(action):
+    if action in OPERATIONS:
+        variant, enum, operator = OPERATIONS[action]
+        return f"Action::{variant}({enum}::{operator})"
+    return f"Action::{camel(action)}"
+
+
+def action_in_contracts(action):
+    if action in OPERATIONS:
+        variant, _, operator = OPERATIONS[action]
+        return f"(build.{variant} {variant.lower()}.{operator})"
+    return f"build.{camel(action)}"
+
+
+def terminal_parts(token):
+    """The variant of a kind of token, and the reserved word, punctuation or property that it is, if it is one."""
     if token in KINDS:
-        return KINDS[token][0]
-    if token in MARKS_NAMES:
-        return MARKS_NAMES[token]
-    if token == "self":
-        return "Itself"
-    return camel(token.lstrip("%&")) + ("Property" if token.startswith("%") else "")
+        return KINDS[token][0], None
+    if token in PUNCTUATION:
+        return "Punctuation", PUNCTUATION[token]
+    if token.startswith("%"):
+        return "Property", camel(token[1:])
+    return "Keyword", "Itself" if token == "self" else camel(token)
+
+
+def terminal_in_code(token):
+    variant, word = terminal_parts(token)
+    return f"Terminal::{variant}({variant}::{word})" if word else f"Terminal::{variant}"
+
+
+def terminal_in_contracts(token):
+    variant, word = terminal_parts(token)
+    return f"(kind.{variant} {variant.lower()}.{word})" if word else f"kind.{variant}"
+
+
+def terminal_variants(g):
+    """The variants of the kinds of tokens, each with what is said of it."""
+    for _, token in terminals(g):
+        variant, word = terminal_parts(token)
+        yield (f"{variant}({variant})", WORDS[variant]) if word else (variant, KINDS[token][1])
 
 
 def antt_list(items):
@@ -65,15 +152,13 @@ def lines_of(items, on_a_line, start):
 
 
 def terminals(g):
-    """The kinds of tokens by their numbers: number, token and name."""
-    named = sorted((number, token, terminal_name(token)) for token, number in g.tokens.items())
-    assert len({name for _, _, name in named}) == len(named), "two kinds of tokens have one name"
-    return named
+    """The kinds of tokens by their numbers: number and token."""
+    return sorted((number, token) for token, number in g.tokens.items())
 
 
 TABLES = """\
 // The table of the grammar, which a script writes from tools/grammar.txt.
-use sp_parser::Symbol::{Mark, Nonterminal, Terminal};
+use sp_parser::Symbol::{Action, Nonterminal, Terminal};
 use sp_parser::{Row, Span, Symbol};
 
 /// The right sides of the productions, one after another.
@@ -98,7 +183,7 @@ def table_symbol(g, s):
         return f"Terminal({CLOSE if s.name == 'CLOSE' else g.tokens[s.name]})"
     if isinstance(s, Part):
         return f"Nonterminal({g.parts.index(s.name)})"
-    return f"Mark({g.marks.index(s.name)})"
+    return f"Action({g.actions.index(s.name)})"
 
 
 def tables(g, facts):
@@ -108,7 +193,7 @@ def tables(g, facts):
     for part in g.parts:
         first = count
         for p in g.of(part):
-            words = " ".join(("@" if isinstance(s, Mark) else "") + s.name for s in p.symbols) or "nothing"
+            words = " ".join(("@" if isinstance(s, Action) else "") + s.name for s in p.symbols) or "nothing"
             select, avoid = hex(bits(facts.select(p))), hex(bits(g.avoided(p)))
             end = len(symbols) + len(p.symbols)
             rows += f"    Row {{ select: {select}, avoid: {avoid}, from: {len(symbols)}, to: {end} }}, // {part} = {words}\n"
@@ -148,6 +233,8 @@ ghost use Rattle.std.specs.Prelude.{◌≡◌, ◌<◌};
 ghost use Rattle.sp_grammar.specs.Terminals.{terminal_number};
 ghost use Rattle.sp_parser.specs.Grammar.{SECOND};
 
+use sp_words::{Keyword, Property, Punctuation};
+
 /// A kind of token.
 #[derive(Clone, Copy)]
 pub enum Terminal {
@@ -168,17 +255,15 @@ impl Terminal {
 
 def terminal_enum(g, _):
     """The kinds of tokens in the code."""
-    variants = "".join(
-        f"    /// {KINDS[token][1] if token in KINDS else '`' + token + '`'}\n    {name},\n" for _, token, name in terminals(g)
-    )
-    arms = "".join(f"            Terminal::{name} => {number},\n" for number, _, name in terminals(g))
+    variants = "".join(f"    /// {said}\n    {variant},\n" for variant, said in dict(terminal_variants(g)).items())
+    arms = "".join(f"            {terminal_in_code(token)} => {number},\n" for number, token in terminals(g))
     return TERMINALS % (variants, arms)
 
 
 TERMINAL_NUMBERS = """\
 -- The numbers of the kinds of tokens in the table.
 use Rattle.std.specs.Prelude.{ℕ}
-use Rattle.sp_grammar.specs.declared.terminals.Terminal.{Terminal}
+%suse Rattle.sp_grammar.specs.declared.terminals.Terminal.{Terminal}
 use Rattle.sp_grammar.specs.declared.terminals.Terminal.TheVariants as kind
 
 abbrev pub terminal_number : Terminal → ℕ
@@ -187,7 +272,10 @@ abbrev pub terminal_number : Terminal → ℕ
 
 def terminal_numbers(g, _):
     """Their numbers in contracts."""
-    return TERMINAL_NUMBERS % "".join(f"terminal_number kind.{name} = {number}\n" for number, _, name in terminals(g))
+    return TERMINAL_NUMBERS % (
+        WORD_IMPORTS,
+        "".join(f"terminal_number {terminal_in_contracts(token)} = {number}\n" for number, token in terminals(g)),
+    )
 
 
 TERMINAL_KINDS = """\
@@ -195,7 +283,7 @@ TERMINAL_KINDS = """\
 use Rattle.std.specs.Prelude.{map}
 use Rattle.std.proofs.Common.{◌<◌, List, [], ◌∷◌, lit<}
 use Rattle.sp_parser.specs.Grammar.{AreKinds, SECOND}
-use Rattle.sp_grammar.specs.declared.terminals.Terminal.{Terminal}
+%suse Rattle.sp_grammar.specs.declared.terminals.Terminal.{Terminal}
 use Rattle.sp_grammar.specs.declared.terminals.Terminal.TheVariants as kind
 use Rattle.sp_grammar.specs.Terminals.{terminal_number}
 
@@ -209,45 +297,50 @@ terminals_are_kinds (t ∷ terminals) = (is_kind t, terminals_are_kinds terminal
 
 def terminal_kinds(g, _):
     """That their numbers are below those with a meaning of their own."""
-    return TERMINAL_KINDS % "".join(f"is_kind kind.{name} = lit< tt\n" for _, _, name in terminals(g))
+    return TERMINAL_KINDS % (
+        WORD_IMPORTS,
+        "".join(f"is_kind {terminal_in_contracts(token)} = lit< tt\n" for _, token in terminals(g)),
+    )
 
 
-MARKS = """\
-// The marks of the grammar, which a script writes from tools/grammar.txt.
+ACTIONS = """\
+// The actions of the grammar, which a script writes from tools/grammar.txt.
 ghost use Rattle.std.specs.Prelude.{◌≡◌, IfSome, IfNone};
-ghost use Rattle.sp_grammar.specs.Marks.{mark_number, mark_with};
-ghost use Rattle.sp_grammar.specs.declared.marks.Mark.{Mark};
+ghost use Rattle.sp_grammar.specs.Actions.{action_number, action_with};
+ghost use Rattle.sp_grammar.specs.declared.actions.Action.{Action};
 
-/// What is built where a derivation passes a mark. `Begin` opens a tree. A mark with the name of an alternative closes it, or
-/// makes it of one token or of the trees before it.
+use sp_words::{AssignOp, BinaryOp, UnaryOp};
+
+/// What is built where a derivation passes an action. `Begin` opens a tree. An action with the name of an alternative closes
+/// it, or makes it of one token or of the trees before it; `Binary`, `Unary` and `Assign` make an operation by this operator.
 #[derive(Clone, Copy, Debug)]
-pub enum Mark {
+pub enum Action {
 %s}
 
-impl Mark {
+impl Action {
     /// Its number in the table.
     pub fn number(self) -> u8
-        ensures { result ≡ mark_number self }
+        ensures { result ≡ action_number self }
     {
         match self {
 %s        }
     }
 }
 
-/// The marks in the order of their numbers.
+/// The actions in the order of their numbers.
 #[rattlefmt::skip]
-static MARKS: [Mark; %d] = [
+static ACTIONS: [Action; %d] = [
 %s];
 
-/// The mark with a number in the table, if there is one.
-pub fn mark_of(number: u8) -> Option<Mark>
-    ensures named { result ≡ mark_with number }
-    ensures some { IfSome result (λ m. mark_number m ≡ number) }
-    ensures none { IfNone result ((m : Mark) → ¬ (mark_number m ≡ number)) }
+/// The action with a number in the table, if there is one.
+pub fn action_of(number: u8) -> Option<Action>
+    ensures named { result ≡ action_with number }
+    ensures some { IfSome result (λ m. action_number m ≡ number) }
+    ensures none { IfNone result ((m : Action) → ¬ (action_number m ≡ number)) }
 {
     let place = number as usize;
-    if place < MARKS.len() {
-        Some(MARKS[place])
+    if place < ACTIONS.len() {
+        Some(ACTIONS[place])
     } else {
         None
     }
@@ -255,57 +348,59 @@ pub fn mark_of(number: u8) -> Option<Mark>
 """
 
 
-def mark_enum(g, _):
-    """The marks in the code."""
-    names = [camel(mark) for mark in g.marks]
-    return MARKS % (
-        "".join(f"    {name},\n" for name in names),
-        "".join(f"            Mark::{name} => {number},\n" for number, name in enumerate(names)),
+def action_enum(g, _):
+    """The actions in the code."""
+    variants = dict.fromkeys(action_variant(action) for action in g.actions)
+    names = [action_in_code(action) for action in g.actions]
+    return ACTIONS % (
+        "".join(f"    {variant},\n" for variant in variants),
+        "".join(f"            {name} => {number},\n" for number, name in enumerate(names)),
         len(names),
-        lines_of([f"Mark::{name}" for name in names], 5, "    "),
+        lines_of(names, 3, "    "),
     )
 
 
-MARK_NUMBERS = """\
--- The numbers of the marks in the table.
+ACTION_NUMBERS = """\
+-- The numbers of the actions in the table.
 use Rattle.std.specs.Prelude.{ℕ, List, [], ◌∷◌, Option, Some, None}
 use Rattle.std.proofs.Common.{get_or}
 use Rattle.std.specs.Prelude.{map}
-use Rattle.sp_grammar.specs.declared.marks.Mark.{Mark}
-use Rattle.sp_grammar.specs.declared.marks.Mark.TheVariants as build
+%suse Rattle.sp_grammar.specs.declared.actions.Action.{Action}
+use Rattle.sp_grammar.specs.declared.actions.Action.TheVariants as build
 
-abbrev pub mark_number : Mark → ℕ
+abbrev pub action_number : Action → ℕ
 %s
--- the marks in the order of their numbers
-abbrev pub all_marks : List Mark
-all_marks = %s
+-- the actions in the order of their numbers
+abbrev pub all_actions : List Action
+all_actions = %s
 
--- the mark with a number, if there is one
-abbrev pub mark_with : ℕ → Option Mark
-mark_with n = get_or (map Some all_marks) n None
+-- the action with a number, if there is one
+abbrev pub action_with : ℕ → Option Action
+action_with n = get_or (map Some all_actions) n None
 """
 
 
-def mark_numbers(g, _):
+def action_numbers(g, _):
     """Their numbers in contracts."""
-    names = [camel(mark) for mark in g.marks]
-    return MARK_NUMBERS % (
-        "".join(f"mark_number build.{name} = {number}\n" for number, name in enumerate(names)),
-        antt_list(f"build.{name}" for name in names),
+    names = [action_in_contracts(action) for action in g.actions]
+    return ACTION_NUMBERS % (
+        OPERATOR_IMPORTS,
+        "".join(f"action_number {name} = {number}\n" for number, name in enumerate(names)),
+        antt_list(names),
     )
 
 
 PARTS = """\
--- The parts of the grammar by their numbers, and tokens, parts and marks as symbols, which a script writes from
+-- The parts of the grammar by their numbers, and tokens, parts and actions as symbols, which a script writes from
 -- tools/grammar.txt.
 use Rattle.std.specs.Prelude.{ℕ, List, [], ◌∷◌}
 use Rattle.sp_parser.specs.declared.symbol.Symbol.{Symbol}
 use Rattle.sp_parser.specs.declared.symbol.Symbol.TheVariants as symbol
 use Rattle.sp_parser.specs.Grammar.{CLOSE}
 use Rattle.sp_grammar.specs.declared.terminals.Terminal.{Terminal}
-use Rattle.sp_grammar.specs.declared.marks.Mark.{Mark}
+use Rattle.sp_grammar.specs.declared.actions.Action.{Action}
 use Rattle.sp_grammar.specs.Terminals.{terminal_number}
-use Rattle.sp_grammar.specs.Marks.{mark_number}
+use Rattle.sp_grammar.specs.Actions.{action_number}
 
 -- a part of the grammar
 pub data Part : Type 0 where
@@ -328,8 +423,8 @@ abbrev pub part : Part → Symbol
 part p = symbol.Nonterminal (part_number p)
 
 -- the place at which this is built
-abbrev pub mark : Mark → Symbol
-mark m = symbol.Mark (mark_number m)
+abbrev pub action : Action → Symbol
+action m = symbol.Action (action_number m)
 """
 
 
@@ -344,203 +439,16 @@ def parts(g, _):
 
 
 NUMBERS = """\
--- The numbers of the kinds of tokens in the table.
-use Rattle.std.specs.Prelude.{ℕ}
-use Rattle.sp_grammar.specs.declared.terminals.Terminal.{Terminal}
-use Rattle.sp_grammar.specs.declared.terminals.Terminal.TheVariants as kind
-
-abbrev pub terminal_number : Terminal → ℕ
-%s"""
-
-
-def terminal_numbers(g, _):
-    """Their numbers in contracts."""
-    return TERMINAL_NUMBERS % "".join(f"terminal_number kind.{name} = {number}\n" for number, _, name in terminals(g))
-
-
-TERMINAL_KINDS = """\
--- The numbers of terminals are kinds of tokens, by their cases, which a script writes from tools/grammar.txt.
-use Rattle.std.specs.Prelude.{map}
-use Rattle.std.proofs.Common.{◌<◌, List, [], ◌∷◌, lit<}
-use Rattle.sp_parser.specs.Grammar.{AreKinds, SECOND}
-use Rattle.sp_grammar.specs.declared.terminals.Terminal.{Terminal}
-use Rattle.sp_grammar.specs.declared.terminals.Terminal.TheVariants as kind
-use Rattle.sp_grammar.specs.Terminals.{terminal_number}
-
-pub is_kind : (t : Terminal) → terminal_number t < SECOND
-%s
-pub terminals_are_kinds : (terminals : List Terminal) → AreKinds (map terminal_number terminals)
-terminals_are_kinds [] = tt
-terminals_are_kinds (t ∷ terminals) = (is_kind t, terminals_are_kinds terminals)
-"""
-
-
-def terminal_kinds(g, _):
-    """That their numbers are below those with a meaning of their own."""
-    return TERMINAL_KINDS % "".join(f"is_kind kind.{name} = lit< tt\n" for _, _, name in terminals(g))
-
-
-MARKS = """\
-// The marks of the grammar, which a script writes from tools/grammar.txt.
-ghost use Rattle.std.specs.Prelude.{◌≡◌, IfSome, IfNone};
-ghost use Rattle.sp_grammar.specs.Marks.{mark_number, mark_with};
-ghost use Rattle.sp_grammar.specs.declared.marks.Mark.{Mark};
-
-/// What is built where a derivation passes a mark. `Begin` opens a tree. A mark with the name of an alternative closes it, or
-/// makes it of one token or of the trees before it.
-#[derive(Clone, Copy, Debug)]
-pub enum Mark {
-%s}
-
-impl Mark {
-    /// Its number in the table.
-    pub fn number(self) -> u8
-        ensures { result ≡ mark_number self }
-    {
-        match self {
-%s        }
-    }
-}
-
-/// The marks in the order of their numbers.
-#[rattlefmt::skip]
-static MARKS: [Mark; %d] = [
-%s];
-
-/// The mark with a number in the table, if there is one.
-pub fn mark_of(number: u8) -> Option<Mark>
-    ensures named { result ≡ mark_with number }
-    ensures some { IfSome result (λ m. mark_number m ≡ number) }
-    ensures none { IfNone result ((m : Mark) → ¬ (mark_number m ≡ number)) }
-{
-    let place = number as usize;
-    if place < MARKS.len() {
-        Some(MARKS[place])
-    } else {
-        None
-    }
-}
-"""
-
-
-def mark_enum(g, _):
-    """The marks in the code."""
-    names = [camel(mark) for mark in g.marks]
-    return MARKS % (
-        "".join(f"    {name},\n" for name in names),
-        "".join(f"            Mark::{name} => {number},\n" for number, name in enumerate(names)),
-        len(names),
-        lines_of([f"Mark::{name}" for name in names], 5, "    "),
-    )
-
-
-MARK_NUMBERS = """\
--- The numbers of the marks in the table.
-use Rattle.std.specs.Prelude.{ℕ, List, [], ◌∷◌, Option, Some, None}
-use Rattle.std.proofs.Common.{get_or}
-use Rattle.std.specs.Prelude.{map}
-use Rattle.sp_grammar.specs.declared.marks.Mark.{Mark}
-use Rattle.sp_grammar.specs.declared.marks.Mark.TheVariants as build
-
-abbrev pub mark_number : Mark → ℕ
-%s
--- the marks in the order of their numbers
-abbrev pub all_marks : List Mark
-all_marks = %s
-
--- the mark with a number, if there is one
-abbrev pub mark_with : ℕ → Option Mark
-mark_with n = get_or (map Some all_marks) n None
-"""
-
-
-def mark_numbers(g, _):
-    """Their numbers in contracts."""
-    names = [camel(mark) for mark in g.marks]
-    return MARK_NUMBERS % (
-        "".join(f"mark_number build.{name} = {number}\n" for number, name in enumerate(names)),
-        antt_list(f"build.{name}" for name in names),
-    )
-
-
-WRITTEN = """\
--- The written grammar: the productions of each part, with the marks at which trees are built. A script writes it from
--- tools/grammar.txt.
-use Rattle.std.specs.Prelude.{ℕ, List, [], ◌∷◌, map}
-use Rattle.sp_parser.specs.declared.symbol.Symbol.{Symbol}
-use Rattle.sp_parser.specs.declared.symbol.Symbol.TheVariants as symbol
-use Rattle.sp_parser.specs.Grammar.{Production, CLOSE}
-use Rattle.sp_grammar.specs.declared.terminals.Terminal.{Terminal}
-use Rattle.sp_grammar.specs.declared.terminals.Terminal.TheVariants as token
-use Rattle.sp_grammar.specs.declared.marks.Mark.{Mark}
-use Rattle.sp_grammar.specs.declared.marks.Mark.TheVariants as build
-use Rattle.sp_grammar.specs.Terminals.{terminal_number}
-use Rattle.sp_grammar.specs.Marks.{mark_number}
-
--- a part of the grammar
-pub data Part : Type 0 where
-%s
-abbrev pub part_number : Part → ℕ
-%s
--- a token of this kind
-abbrev pub kind : Terminal → Symbol
-kind t = symbol.Terminal (terminal_number t)
-
--- what closes a list of types: a `>`, or a half of a `>>`
-abbrev pub close : Symbol
-close = symbol.Terminal CLOSE
-
-abbrev pub part : Part → Symbol
-part p = symbol.Nonterminal (part_number p)
-
--- the place at which this is built
-abbrev pub mark : Mark → Symbol
-mark m = symbol.Mark (mark_number m)
-
--- The right sides of each part's productions.
-abbrev pub written : Part → List (List Symbol)
-%s
--- the parts in the order of the table
-abbrev pub all_parts : List Part
-all_parts = %s
-
-abbrev pub right_sides : List Production → List (List Symbol)
-right_sides ps = map (λ p. p.symbols) ps
-"""
-
-
-def written_symbol(s):
-    if isinstance(s, Token):
-        return "close" if s.name == "CLOSE" else f"kind token.{terminal_name(s.name)}"
-    return f"part Part.{s.name}" if isinstance(s, Part) else f"mark build.{camel(s.name)}"
-
-
-def written_alternative(p):
-    return f"({antt_list(map(written_symbol, p.symbols))})" if p.symbols else "[]"
-
-
-def written(g, _):
-    """The parts and their numbers in contracts, and what the table's numbers stand for."""
-    rows = [g.parts[i : i + 8] for i in range(0, len(g.parts), 8)]
-    return WRITTEN % (
-        "".join(f"  {' '.join(row)} : Part\n" for row in rows),
-        "".join(f"part_number Part.{part} = {number}\n" for number, part in enumerate(g.parts)),
-        "".join(f"written Part.{part} = {antt_list(map(written_alternative, g.of(part)))}\n" for part in g.parts),
-        antt_list(f"Part.{part}" for part in g.parts),
-    )
-
-
-NUMBERS = """\
--- Each kind of token, each part and each mark has a number of its own, by their cases, which a script writes from
+-- Each kind of token, each part and each action has a number of its own, by their cases, which a script writes from
 -- tools/grammar.txt.
 use Rattle.std.proofs.Common.{◌≡◌, List, [], ◌∷◌, get_or, refl, sym, ap, ◌∙◌}
 use Rattle.sp_parser.specs.Grammar.{productions_of}
-use Rattle.sp_grammar.specs.declared.terminals.Terminal.{Terminal}
+%suse Rattle.sp_grammar.specs.declared.terminals.Terminal.{Terminal}
 use Rattle.sp_grammar.specs.declared.terminals.Terminal.TheVariants as kind
-use Rattle.sp_grammar.specs.declared.marks.Mark.{Mark}
-use Rattle.sp_grammar.specs.declared.marks.Mark.TheVariants as build
+%suse Rattle.sp_grammar.specs.declared.actions.Action.{Action}
+use Rattle.sp_grammar.specs.declared.actions.Action.TheVariants as build
 use Rattle.sp_grammar.specs.Terminals.{terminal_number}
-use Rattle.sp_grammar.specs.Marks.{mark_number, all_marks}
+use Rattle.sp_grammar.specs.Actions.{action_number, all_actions}
 use Rattle.sp_grammar.specs.Written.{Part, part_number, all_parts}
 use Rattle.sp_grammar.specs.Own.{own, alternatives}
 
@@ -548,16 +456,16 @@ use Rattle.sp_grammar.specs.Own.{own, alternatives}
 by_number : List Terminal
 by_number = %s
 
-terminal_there : (t : Terminal) → get_or by_number (terminal_number t) kind.%s ≡ t
+terminal_there : (t : Terminal) → get_or by_number (terminal_number t) %s ≡ t
 unfolding by_number
 %s
 pub terminals_apart : (a b : Terminal) → terminal_number a ≡ terminal_number b → a ≡ b
-terminals_apart a b e = sym (terminal_there a) ∙ ap (λ n. get_or by_number n kind.%s) e ∙ terminal_there b
+terminals_apart a b e = sym (terminal_there a) ∙ ap (λ n. get_or by_number n %s) e ∙ terminal_there b
 
-mark_there : (m : Mark) → get_or all_marks (mark_number m) build.%s ≡ m
+action_there : (m : Action) → get_or all_actions (action_number m) %s ≡ m
 %s
-pub marks_apart : (a b : Mark) → mark_number a ≡ mark_number b → a ≡ b
-marks_apart a b e = sym (mark_there a) ∙ ap (λ n. get_or all_marks n build.%s) e ∙ mark_there b
+pub actions_apart : (a b : Action) → action_number a ≡ action_number b → a ≡ b
+actions_apart a b e = sym (action_there a) ∙ ap (λ n. get_or all_actions n %s) e ∙ action_there b
 
 part_there : (p : Part) → get_or all_parts (part_number p) Part.%s ≡ p
 %s
@@ -571,16 +479,18 @@ unfolding own
 
 def number_proofs(g, _):
     """That no two of them have one number, and that the grammar has the alternatives of each part at its number."""
-    kinds = {number: name for number, _, name in terminals(g)}
-    marks = [camel(mark) for mark in g.marks]
+    kinds = {number: terminal_in_contracts(token) for number, token in terminals(g)}
+    actions = [action_in_contracts(action) for action in g.actions]
     return NUMBERS % (
-        antt_list(f"kind.{kinds.get(number, kinds[0])}" for number in range(SECOND)),
+        WORD_IMPORTS,
+        OPERATOR_IMPORTS,
+        antt_list(kinds.get(number, kinds[0]) for number in range(SECOND)),
         kinds[0],
-        "".join(f"terminal_there kind.{name} = refl\n" for name in kinds.values()),
+        "".join(f"terminal_there {name} = refl\n" for name in kinds.values()),
         kinds[0],
-        marks[0],
-        "".join(f"mark_there build.{name} = refl\n" for name in marks),
-        marks[0],
+        actions[0],
+        "".join(f"action_there {name} = refl\n" for name in actions),
+        actions[0],
         g.parts[0],
         "".join(f"part_there Part.{part} = refl\n" for part in g.parts),
         g.parts[0],
@@ -591,11 +501,11 @@ def number_proofs(g, _):
 FILES = {
     "src/tables.rt": tables,
     "src/terminals.rt": terminal_enum,
-    "src/marks.rt": mark_enum,
+    "src/actions.rt": action_enum,
     "specs/Sets.antt": sets,
     "specs/Terminals.antt": terminal_numbers,
     "specs/TerminalKinds.antt": terminal_kinds,
-    "specs/Marks.antt": mark_numbers,
+    "specs/Actions.antt": action_numbers,
     "specs/Written.antt": parts,
     "proofs/Numbers.antt": number_proofs,
 }

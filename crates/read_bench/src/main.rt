@@ -1,5 +1,5 @@
 //! Reads the statements of the text on standard input one behind the other, and counts them, for measurements. With the
-//! word `trees` it makes their trees, and without it no more than their marks, which it counts too.
+//! word `trees` it makes their trees, and without it no more than their actions, which it counts too.
 #![tactic(auto)]
 
 use sp_grammar::Start;
@@ -13,18 +13,18 @@ use std::{env, io};
 /// More bytes than a module may have, so that a longer one is seen to be too large.
 const LONGEST: u64 = 1_048_577;
 
-/// How many tokens, statements and marks there are.
+/// How many tokens, statements and actions there are.
 #[derive(Drop)]
 struct Counts {
     tokens: usize,
     statements: u64,
-    marks: u64,
+    actions: u64,
 }
 
-/// Counts the statements and their marks.
-fn count_marks(alloc: Global, tokens: &Tokens) -> Result<Counts, ReadFault> {
+/// Counts the statements and their actions.
+fn count_actions(alloc: Global, tokens: &Tokens) -> Result<Counts, ReadFault> {
     let mut statements: u64 = 0;
-    let mut marks: u64 = 0;
+    let mut actions: u64 = 0;
     let mut at: u32 = 0;
     for _ in 0..tokens.len() {
         if at as usize >= tokens.len() {
@@ -32,13 +32,13 @@ fn count_marks(alloc: Global, tokens: &Tokens) -> Result<Counts, ReadFault> {
         }
         let parsed = read_from(alloc, tokens, Start::Stmt, at)?;
         statements = statements.saturating_add(1);
-        marks = marks.saturating_add(parsed.events.len() as u64);
+        actions = actions.saturating_add(parsed.actions.len() as u64);
         at = parsed.to;
     }
     Ok(Counts {
         tokens: tokens.len(),
         statements,
-        marks,
+        actions,
     })
 }
 
@@ -57,7 +57,7 @@ fn count_trees(alloc: Global, tokens: &Tokens) -> Result<Counts, ReadFault> {
     Ok(Counts {
         tokens: tokens.len(),
         statements,
-        marks: 0,
+        actions: 0,
     })
 }
 
@@ -66,7 +66,7 @@ fn count(alloc: Global, source: &[u8], trees: bool) -> Result<Counts, ReadFault>
     if trees {
         count_trees(alloc, &tokens)
     } else {
-        count_marks(alloc, &tokens)
+        count_actions(alloc, &tokens)
     }
 }
 
@@ -77,8 +77,8 @@ fn main(rt: HostRuntime) -> io::Result<()> {
     match count(rt.alloc(), source.as_slice(), trees) {
         Ok(counts) => {
             println!(rt;
-                "{} tokens, {} statements, {} marks",
-                counts.tokens, counts.statements, counts.marks
+                "{} tokens, {} statements, {} actions",
+                counts.tokens, counts.statements, counts.actions
             )
         }
         Err(ReadFault::Diag(span, kind)) => {

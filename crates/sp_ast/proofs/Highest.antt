@@ -1,6 +1,6 @@
 -- The height of trees in a list: that of one more, and in the other order.
-use Rattle.std.proofs.Common.{◌≡◌, ◌≤◌, ℕ, List, [], ◌∷◌, ◌++◌, max, refl, ap, sym, ◌∙◌, arith, reverse}
-use Rattle.std.proofs.Math.Nat.{max_comm, max-zero}
+use Rattle.std.proofs.Common.{◌≡◌, List, [], ◌∷◌, ◌++◌, max, refl, ap, ◌∙◌, arith, reverse}
+use Rattle.std.proofs.Math.Nat.{max_comm}
 use Rattle.std.proofs.lemmas.List.{reverse-append}
 use Rattle.sp_ast.specs.Trees.{Tree}
 use Rattle.sp_ast.specs.Heights.{height, list_height}

@@ -1,9 +1,15 @@
--- The tree that one level of the code's trees is.
-use Rattle.sp_ast.specs.Trees.{Tree, absent, in_row, tree}
-use Rattle.sp_ast.specs.declared.tree.Node.{Node}
-use Rattle.sp_ast.specs.declared.tree.Node.TheVariants.{Absent, Row, Of}
+-- The trees of which views are.
+use Rattle.std.specs.Prelude.{Bool, false, List, [], ◌∷◌, Option, Some, None}
+use Rattle.sp_ast.specs.Trees.{Tree, absent}
+use Rattle.sp_ast.specs.Groups.{fits}
+use Rattle.sp_ast.specs.declared.groups.Sort.{Sort}
 
-abbrev pub tree_of : Node → Tree
-tree_of Absent = absent
-tree_of (Row ts) = in_row ts.items
-tree_of (Of form span parts) = tree form span parts.items
+-- a part that can be left out
+abbrev pub optional_tree : Option Tree → Tree
+optional_tree None = absent
+optional_tree (Some t) = t
+
+-- whether there is a first part, and it may stand there
+abbrev pub first_fits : Sort → List Tree → Bool
+first_fits sort [] = false
+first_fits sort (t ∷ ts) = fits sort t

@@ -1,20 +1,19 @@
 // The alternatives of the grammar of which trees are, with what their own tokens tell: a text, a number, an operator, a
 // word.
-use crate::operators::{AssignOp, BinaryOp, UnaryOp};
-use crate::words::{AttributeName, HookName, IntWord};
 use sp_base::{ByteList, Text};
+use sp_words::{AssignOp, AttributeName, BinaryOp, HookName, IntWord, UnaryOp};
 
 /// What a tree is of. The parts that are listed are those of its tree, in the order of the text.
 #[derive(Drop)]
 pub enum Form {
     /// A name.
     Name(Text),
-    /// A text in quotes where no expression stands, its escapes decoded.
-    Text(Text),
+    /// A string literal where no expression stands, its escapes decoded.
+    String(Text),
     /// A number where no expression stands.
     Number(u64),
-    /// The name of an event, `%init` and the like.
-    Event(HookName),
+    /// The name of a hook, `%init` and the like.
+    HookName(HookName),
     /// Names joined by `::`, one or more.
     Path,
     /// An expression.
@@ -229,8 +228,8 @@ pub enum ItemForm {
 pub enum TargetForm {
     /// A field, variable or sink by its name.
     Name(Text),
-    /// An event of the unit.
-    Event(HookName),
+    /// A hook of the unit itself, as `%init`.
+    Hook(HookName),
 }
 
 /// What a part of a unit can be.
@@ -290,7 +289,7 @@ pub enum DeclForm {
     ByteOrder,
     /// `%spicy-version = "text";`: the text.
     Version,
-    /// `on U::field { .. }`, `on M::U::%init { .. }`: the path, the event, if there is one, and the hook.
+    /// `on U::field { .. }`, `on M::U::%init { .. }`: the path, the name of the hook, if there is one, and the hook.
     On,
     /// `type T = ..;`: the name and the type.
     Type { public: bool },

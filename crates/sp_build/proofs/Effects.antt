@@ -3,8 +3,8 @@ use Rattle.std.specs.Prelude.{ℕ, ◌≡◌, List, [], ◌∷◌, reverse, true
 use Rattle.std.proofs.Common.{◌∙◌, ap, sym, subst, eq-eqb, eqb-true}
 use Rattle.std.proofs.lemmas.Bool.{and_from}
 use Rattle.sp_base.specs.declared.places.Span.{Span}
-use Rattle.sp_ast.specs.declared.words.IntWord.TheVariants as integer
-use Rattle.sp_ast.specs.declared.words.AttributeName.TheVariants as attribute_name
+use Rattle.sp_words.specs.declared.words.IntWord.TheVariants as integer
+use Rattle.sp_words.specs.declared.words.AttributeName.TheVariants as attribute_name
 use Rattle.sp_lex.specs.Readings.{bytes_of}
 use Rattle.sp_lex.specs.declared.tokens.Token.{Token}
 use Rattle.sp_grammar.specs.declared.terminals.Terminal.TheVariants as terminal
@@ -13,17 +13,16 @@ use Rattle.sp_lex.specs.declared.kinds.TokenKind.{TokenKind}
 use Rattle.sp_runs.specs.Kinds.{token_number, number_of, terminal_of}
 use Rattle.sp_ast.specs.declared.forms.Form.{Form}
 use Rattle.sp_ast.specs.Trees.{Tree, absent, row, node, tree, trees, in_row, respan, span_of}
-use Rattle.sp_build.specs.declared.groups.Group.{Group}
-use Rattle.sp_build.specs.declared.groups.Sort.{Sort}
-use Rattle.sp_build.specs.declared.groups.Group.TheVariants.{Expressions as expressions}
-use Rattle.sp_build.specs.declared.groups.Sort.TheVariants.{One as one, Rows as rows}
-use Rattle.sp_build.specs.Groups.{is_node, group_number, same_group, group, is_of, are_of, fits}
-use Rattle.sp_build.specs.declared.groups.Slot.{Slot}
-use Rattle.sp_build.specs.declared.groups.Slot.TheVariants.{Part as part, Several as several}
+use Rattle.sp_ast.specs.declared.groups.Group.{Group}
+use Rattle.sp_ast.specs.declared.groups.Sort.{Sort}
+use Rattle.sp_ast.specs.declared.groups.Group.TheVariants.{Expressions as expressions}
+use Rattle.sp_ast.specs.declared.groups.Sort.TheVariants.{One as one, Rows as rows}
+use Rattle.sp_ast.specs.Groups.{is_node, group_number, same_group, group, is_of, are_of, fits}
+use Rattle.sp_ast.specs.declared.groups.Slot.{Slot}
+use Rattle.sp_ast.specs.declared.groups.Slot.TheVariants.{Part as part, Several as several}
 use Rattle.sp_build.specs.Rules.{Rule, begins, leaves_out, takes, gathers, closes, closes_integer, closes_attribute, encloses, joins, wraps}
 use Rattle.sp_build.specs.Tokens.{integer_of, attribute_of}
-use Rattle.sp_build.specs.declared.stack.Item.{Item}
-use Rattle.sp_build.specs.declared.stack.Item.TheVariants.{Begun as begun, Built as built}
+use Rattle.sp_build.specs.Items.{Item, begun, built}
 use Rattle.sp_build.specs.Building.{Stack, Left, left, then_do, popped, gathered, opened, parts_of, popped_parts, token_of, stretch, stretch_from, push, push_if, close_with, worded, done_by}
 use Rattle.sp_build.proofs.Shapes.{Shape, opens, opens_at, stands, no_row, and_then, under, under_one, under_opening, under_opening_at, is_opening, under_part, under_parts, closed_under, one_of, put, opening, leaf_group, is_told, group_in, rowed, effect}
 use Rattle.sp_build.proofs.Told.{never, an_integer, an_attribute, IsEvenRule, IsKind, told}

@@ -1,18 +1,18 @@
--- What is known of a stack before any tree is built, and what the marks of a production make of it.
+-- What is known of a stack before any tree is built, and what the actions of a production make of it.
 use Rattle.std.specs.Prelude.{ℕ, List, [], ◌∷◌, Bool, true, false, ◌||◌, ◌==◌, reverse, if◌then◌else◌, Option, Some, None}
-use Rattle.sp_ast.specs.declared.words.IntWord.TheVariants as integer
-use Rattle.sp_ast.specs.declared.words.AttributeName.TheVariants as attribute_name
-use Rattle.sp_ast.specs.declared.words.HookName.TheVariants as hook_name
+use Rattle.sp_words.specs.declared.words.IntWord.TheVariants as integer
+use Rattle.sp_words.specs.declared.words.AttributeName.TheVariants as attribute_name
+use Rattle.sp_words.specs.declared.words.HookName.TheVariants as hook_name
 use Rattle.sp_grammar.specs.declared.terminals.Terminal.TheVariants as terminal
 use Rattle.sp_grammar.specs.Terminals.{terminal_number}
-use Rattle.sp_build.specs.declared.groups.Group.{Group}
-use Rattle.sp_build.specs.declared.groups.Sort.{Sort}
-use Rattle.sp_build.specs.declared.groups.Group.TheVariants.{Expressions as expressions}
-use Rattle.sp_build.specs.declared.groups.Sort.TheVariants.{One as one, Optional as optional, Rows as rows}
-use Rattle.sp_build.specs.Groups.{same_group, group}
-use Rattle.sp_build.specs.declared.groups.Slot.{Slot}
-use Rattle.sp_build.specs.declared.groups.Slot.TheVariants.{Part as part, Several as several}
-use Rattle.sp_build.specs.Rules.{Leaf, always, by_name, by_string, by_bytes, by_regex, by_number, by_integer, by_event, Rule, begins, leaves_out, takes, gathers, closes, closes_integer, closes_attribute, encloses, joins, wraps}
+use Rattle.sp_ast.specs.declared.groups.Group.{Group}
+use Rattle.sp_ast.specs.declared.groups.Sort.{Sort}
+use Rattle.sp_ast.specs.declared.groups.Group.TheVariants.{Expressions as expressions}
+use Rattle.sp_ast.specs.declared.groups.Sort.TheVariants.{One as one, Optional as optional, Rows as rows}
+use Rattle.sp_ast.specs.Groups.{same_group, group}
+use Rattle.sp_ast.specs.declared.groups.Slot.{Slot}
+use Rattle.sp_ast.specs.declared.groups.Slot.TheVariants.{Part as part, Several as several}
+use Rattle.sp_build.specs.Rules.{Leaf, always, by_name, by_string, by_bytes, by_regex, by_number, by_integer, by_hook_name, Rule, begins, leaves_out, takes, gathers, closes, closes_integer, closes_attribute, encloses, joins, wraps}
 
 -- what stands at a place of the stack
 pub data Shape : Type 0 where
@@ -121,19 +121,19 @@ leaf_group (by_bytes form) = group (form [])
 leaf_group (by_regex form) = group (form [])
 leaf_group (by_number form) = group (form 0)
 leaf_group (by_integer form) = group (form integer.Uint8)
-leaf_group (by_event form) = group (form hook_name.Init)
+leaf_group (by_hook_name form) = group (form hook_name.Init)
 
 -- whether a token of this kind tells what the leaf needs
 abbrev pub is_told : Leaf → Option ℕ → Bool
 is_told (always form) next = true
 is_told leaf None = false
 is_told (by_name form) (Some k) = k == terminal_number terminal.Id || k == terminal_number terminal.Skip
-is_told (by_string form) (Some k) = k == terminal_number terminal.Text
-is_told (by_bytes form) (Some k) = k == terminal_number terminal.ByteText
+is_told (by_string form) (Some k) = k == terminal_number terminal.String
+is_told (by_bytes form) (Some k) = k == terminal_number terminal.Bytes
 is_told (by_regex form) (Some k) = k == terminal_number terminal.Regex
 is_told (by_number form) (Some k) = k == terminal_number terminal.Number
 is_told (by_integer form) (Some k) = k == terminal_number terminal.IntWord
-is_told (by_event form) (Some k) = k == terminal_number terminal.Event
+is_told (by_hook_name form) (Some k) = k == terminal_number terminal.Hook
 
 -- the group of which trees stand last
 abbrev pub group_in : Shape → Option Group

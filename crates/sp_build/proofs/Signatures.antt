@@ -2,18 +2,18 @@
 use Rattle.std.specs.Prelude.{◌≡◌, ℕ, List, [], ◌∷◌, ◌++◌, Bool, true, false, nat_lt, if◌then◌else◌, Option, Some, None, map, refl}
 use Rattle.std.proofs.Common.{get_or}
 use Rattle.sp_parser.specs.declared.symbol.Symbol.{Symbol}
-use Rattle.sp_parser.specs.declared.symbol.Symbol.TheVariants.{Terminal, Nonterminal, Mark}
+use Rattle.sp_parser.specs.declared.symbol.Symbol.TheVariants.{Terminal, Nonterminal, Action}
 use Rattle.sp_parser.specs.Grammar.{SECOND}
-use Rattle.sp_grammar.specs.declared.marks.Mark as marks
+use Rattle.sp_grammar.specs.declared.actions.Action as grammar_action
 use Rattle.sp_grammar.specs.declared.terminals.Terminal.TheVariants as terminal
 use Rattle.sp_grammar.specs.Terminals.{terminal_number}
-use Rattle.sp_grammar.specs.Marks.{mark_with}
+use Rattle.sp_grammar.specs.Actions.{action_with}
 use Rattle.sp_grammar.specs.Written.{Part, all_parts}
 use Rattle.sp_grammar.specs.Language.{language}
 use Rattle.sp_grammar.proofs.Spans.{every_production}
-use Rattle.sp_build.specs.declared.groups.Group.{Group}
-use Rattle.sp_build.specs.declared.groups.Group.TheVariants.{Names as names, Texts as texts, Numbers as numbers, Events as events, Paths as paths, Expressions as expressions, Pairs as pairs, Types as types, Labels as labels, Ranges as ranges, Parameters as parameters, Statements as statements, Blocks as blocks, Branches as branches, Cases as cases, Items as items, Targets as targets, Parts as parts, Arms as arms, Bodies as bodies, Bases as bases, Counts as counts, Attributes as attributes, Hooks as hooks, HookBodies as hook_bodies, Declarations as declarations, Modules as modules}
-use Rattle.sp_build.specs.declared.groups.Sort.TheVariants.{One as one, Optional as optional, Rows as rows}
+use Rattle.sp_ast.specs.declared.groups.Group.{Group}
+use Rattle.sp_ast.specs.declared.groups.Group.TheVariants.{Names as names, Strings as strings, Numbers as numbers, HookNames as hook_names, Paths as paths, Expressions as expressions, Pairs as pairs, Types as types, Labels as labels, Ranges as ranges, Parameters as parameters, Statements as statements, Blocks as blocks, Branches as branches, Cases as cases, Items as items, Targets as targets, Parts as parts, Arms as arms, Bodies as bodies, Bases as bases, Counts as counts, Attributes as attributes, Hooks as hooks, HookBodies as hook_bodies, Declarations as declarations, Modules as modules}
+use Rattle.sp_ast.specs.declared.groups.Sort.TheVariants.{One as one, Optional as optional, Rows as rows}
 use Rattle.sp_build.specs.Rules.{rule}
 use Rattle.sp_build.proofs.Shapes.{Shape, opens, opens_at, stands, many, and_then, strip, effect}
 
@@ -51,8 +51,8 @@ signature Part.Module = leaves (a modules)
 signature Part.Decls = leaves (many declarations)
 signature Part.Decl = leaves (a declarations)
 signature Part.Public = turns (opens ∷ []) (a declarations)
-signature Part.OnPath = record { finds = many names ∷ opens ∷ []; leaves = perhaps events ∷ a paths ∷ [] }
-signature Part.OnName = record { finds = many names ∷ opens ∷ []; leaves = perhaps events ∷ a paths ∷ [] }
+signature Part.OnPath = record { finds = many names ∷ opens ∷ []; leaves = perhaps hook_names ∷ a paths ∷ [] }
+signature Part.OnName = record { finds = many names ∷ opens ∷ []; leaves = perhaps hook_names ∷ a paths ∷ [] }
 signature Part.OptType = leaves (perhaps types)
 signature Part.Hook = leaves (a hooks)
 signature Part.HookTail = leaves (a hook_bodies)
@@ -109,7 +109,7 @@ signature Part.Other = leaves (a statements)
 signature Part.Local = record { finds = []; leaves = perhaps expressions ∷ perhaps types ∷ [] }
 signature Part.Cases = leaves (many cases)
 signature Part.OptDefault = leaves (perhaps statements)
-signature Part.OptText = leaves (perhaps texts)
+signature Part.OptText = leaves (perhaps strings)
 signature Part.OptAssign = turns (a expressions ∷ opens ∷ []) (a statements)
 signature Part.Expr = leaves (a expressions)
 signature Part.OptChoice = operation
@@ -155,15 +155,15 @@ abbrev pub next_kind : List Symbol → Option ℕ
 next_kind (Terminal e ∷ ss) = if nat_lt e SECOND then Some e else None
 next_kind _ = None
 
-abbrev pub passed : Option marks.Mark → Option ℕ → List Shape → Option (List Shape)
+abbrev pub passed : Option grammar_action.Action → Option ℕ → List Shape → Option (List Shape)
 passed None next xs = None
 passed (Some m) next xs = effect (rule m) next xs
 
--- What symbols make of a stack: marks by their rules, and parts by their signatures.
+-- What symbols make of a stack: actions by their rules, and parts by their signatures.
 abbrev pub run : List Symbol → List Shape → Option (List Shape)
 run [] xs = Some xs
 run (Terminal e ∷ ss) xs = run ss xs
-run (Mark m ∷ ss) xs = and_then (passed (mark_with m) (next_kind ss) xs) (λ next. run ss next)
+run (Action m ∷ ss) xs = and_then (passed (action_with m) (next_kind ss) xs) (λ next. run ss next)
 run (Nonterminal n ∷ ss) xs = and_then (strip (signature_at n).finds xs) (λ rest. run ss ((signature_at n).leaves ++ rest))
 
 abbrev pub is_used_up : Option (List Shape) → Bool

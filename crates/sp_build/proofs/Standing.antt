@@ -5,12 +5,11 @@ use Rattle.std.proofs.lemmas.Bool.{and_parts, and_from, cases_Bool}
 use Rattle.sp_lex.specs.declared.tokens.Token.{Token}
 use Rattle.sp_runs.specs.Kinds.{token_number}
 use Rattle.sp_ast.specs.Trees.{Tree, Trees, absent, row, node, none, more}
-use Rattle.sp_build.specs.declared.groups.Group.{Group}
-use Rattle.sp_build.specs.declared.groups.Sort.{Sort}
-use Rattle.sp_build.specs.declared.groups.Sort.TheVariants.{One as one, Optional as optional, Rows as rows}
-use Rattle.sp_build.specs.Groups.{group_number, same_group, group, is_of, are_of, fits}
-use Rattle.sp_build.specs.declared.stack.Item.{Item}
-use Rattle.sp_build.specs.declared.stack.Item.TheVariants.{Begun as begun, Built as built}
+use Rattle.sp_ast.specs.declared.groups.Group.{Group}
+use Rattle.sp_ast.specs.declared.groups.Sort.{Sort}
+use Rattle.sp_ast.specs.declared.groups.Sort.TheVariants.{One as one, Optional as optional, Rows as rows}
+use Rattle.sp_ast.specs.Groups.{group_number, same_group, group, is_of, are_of, fits}
+use Rattle.sp_build.specs.Items.{Item, begun, built}
 use Rattle.sp_build.specs.Building.{Stack, token_of}
 use Rattle.sp_build.proofs.Shapes.{Shape, opens, opens_at, stands, left_out, no_row, many, and_then, is_all_of, under, suits, covers, under_one, under_wanted, strip}
 use Rattle.sp_build.proofs.Told.{never}

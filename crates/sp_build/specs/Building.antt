@@ -1,24 +1,23 @@
--- The tree of a text: what the marks of its derivation build, one after another, on a stack of trees.
-use Rattle.sp_build.specs.declared.stack.Item.{Item}
-use Rattle.sp_build.specs.declared.stack.Item.TheVariants.{Begun as begun, Built as built}
+-- The tree of a text: what the actions of its derivation build, one after another, on a stack of trees.
+use Rattle.sp_build.specs.Items.{Item, begun, built}
 use Rattle.sp_ast.specs.declared.forms.Form.{Form}
 use Rattle.std.specs.Prelude.{ℕ, ◌≡◌, zero, suc, List, [], ◌∷◌, reverse, if◌then◌else◌, Bool, Option, Some, None, option_map}
 use Rattle.std.proofs.Common.{get_or}
 use Rattle.sp_base.specs.declared.places.Span.{Span}
-use Rattle.sp_lex.specs.declared.kinds.Mark.TheVariants as mark
+use Rattle.sp_words.specs.declared.punctuation.Punctuation.TheVariants as punctuation
 use Rattle.sp_lex.specs.declared.kinds.TokenKind.TheVariants as kind
 use Rattle.sp_lex.specs.declared.tokens.Token.{Token}
 use Rattle.sp_lex.specs.Readings.{bytes_of}
-use Rattle.sp_parser.specs.declared.symbol.Event.{Event}
-use Rattle.sp_grammar.specs.declared.marks.Mark.{Mark}
-use Rattle.sp_grammar.specs.Marks.{mark_with}
+use Rattle.sp_parser.specs.declared.symbol.ActionAt.{ActionAt}
+use Rattle.sp_grammar.specs.declared.actions.Action.{Action}
+use Rattle.sp_grammar.specs.Actions.{action_with}
 use Rattle.sp_ast.specs.Trees.{Tree, absent, tree, in_row, respan, span_of}
-use Rattle.sp_build.specs.declared.groups.Sort.{Sort}
-use Rattle.sp_build.specs.declared.groups.Group.TheVariants.{Expressions as expressions}
-use Rattle.sp_build.specs.declared.groups.Sort.TheVariants.{One as one}
-use Rattle.sp_build.specs.Groups.{is_node, is_of, fits}
-use Rattle.sp_build.specs.declared.groups.Slot.{Slot}
-use Rattle.sp_build.specs.declared.groups.Slot.TheVariants.{Part as part, Several as several}
+use Rattle.sp_ast.specs.declared.groups.Sort.{Sort}
+use Rattle.sp_ast.specs.declared.groups.Group.TheVariants.{Expressions as expressions}
+use Rattle.sp_ast.specs.declared.groups.Sort.TheVariants.{One as one}
+use Rattle.sp_ast.specs.Groups.{is_node, is_of, fits}
+use Rattle.sp_ast.specs.declared.groups.Slot.{Slot}
+use Rattle.sp_ast.specs.declared.groups.Slot.TheVariants.{Part as part, Several as several}
 use Rattle.sp_build.specs.Rules.{Leaf, Rule, begins, leaves_out, takes, gathers, closes, closes_integer, closes_attribute, encloses, joins, wraps, rule}
 use Rattle.sp_build.specs.Tokens.{form_of, integer_of, attribute_of}
 
@@ -69,7 +68,7 @@ abbrev pub popped_parts : List Slot → Stack → Option (Left (List Tree))
 popped_parts slots s = parts_of (reverse slots) [] s
 
 abbrev pub no_token : Token
-no_token = record { kind = kind.Mark mark.Semicolon; span = record { from = 0; to = 0 } }
+no_token = record { kind = kind.Punctuation punctuation.Semicolon; span = record { from = 0; to = 0 } }
 
 -- the token before which so many stand
 abbrev pub token_of : List Token → ℕ → Token
@@ -122,24 +121,24 @@ done_by encloses text tokens n s = then_do (popped (one expressions) s) (λ t re
 done_by (joins slots form) text tokens n s = then_do (popped_parts slots s) (λ ts rest. push (tree form (stretch_from tokens ts n) ts) rest)
 done_by (wraps g form) text tokens n s = then_do (popped (one g) s) (λ t rest. push (tree form (span_of t) (t ∷ [])) rest)
 
--- what a mark does where it is passed
-abbrev pub marked : Mark → List ℕ → List Token → ℕ → Stack → Option Stack
-marked m text tokens n s = done_by (rule m) text tokens n s
+-- what an action does where it is passed
+abbrev pub acted : Action → List ℕ → List Token → ℕ → Stack → Option Stack
+acted m text tokens n s = done_by (rule m) text tokens n s
 
-abbrev pub with_mark : Option Mark → (Mark → Option Stack) → Option Stack
-with_mark None go = None
-with_mark (Some m) go = go m
+abbrev pub with_action : Option Action → (Action → Option Stack) → Option Stack
+with_action None go = None
+with_action (Some m) go = go m
 
 abbrev pub go_on : Option Stack → (Stack → Option Stack) → Option Stack
 go_on None go = None
 go_on (Some next) go = go next
 
--- What the marks of a derivation do, one after another. The tokens are those from the text's first on.
-abbrev pub all_done : List ℕ → List Token → List Event → Stack → Option Stack
+-- What the actions of a derivation do, one after another. The tokens are those from the text's first on.
+abbrev pub all_done : List ℕ → List Token → List ActionAt → Stack → Option Stack
 all_done text tokens [] s = Some s
-all_done text tokens (e ∷ events) s =
-    go_on (with_mark (mark_with e.mark) (λ m. marked m text tokens e.at s)) (λ next. all_done text tokens events next)
+all_done text tokens (e ∷ actions) s =
+    go_on (with_action (action_with e.action) (λ m. acted m text tokens e.at s)) (λ next. all_done text tokens actions next)
 
--- the marks build this tree, and nothing else
-abbrev pub IsBuilt : List ℕ → List Token → List Event → Tree → Type 0
-IsBuilt text tokens events t = all_done text tokens events [] ≡ Some (built t ∷ [])
+-- the actions build this tree, and nothing else
+abbrev pub IsBuilt : List ℕ → List Token → List ActionAt → Tree → Type 0
+IsBuilt text tokens actions t = all_done text tokens actions [] ≡ Some (built t ∷ [])

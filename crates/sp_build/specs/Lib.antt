@@ -1,7 +1,9 @@
-pub mod Groups
 pub mod Rules
 pub mod Tokens
+pub mod Items
 pub mod Building
 pub mod Starting
+pub mod RuleParts
 pub mod RuleViews
 pub mod Popping
+pub mod Stacks

@@ -1,7 +1,7 @@
-//! The trees of texts, built at the marks that their derivations pass.
+//! The trees of texts, built at the actions that their derivations pass.
 #![tactic(auto)]
 
-mod groups;
+mod finding;
 mod laws;
 mod rules;
 mod run;
@@ -9,6 +9,5 @@ mod stack;
 mod steps;
 mod tokens;
 
-pub use groups::{Group, Slot, Sort};
-pub use laws::{every_text_is_built, tree_is_one};
+pub use laws::{every_phrase_is_built, tree_is_one};
 pub use run::build;

@@ -1,101 +1,110 @@
-// What the rules of the marks do on the stack.
-ghost use Rattle.std.specs.Prelude.{◌≡◌, ◌≤◌, [], reverse, length, drop, option_map, IfOk};
-ghost use Rattle.sp_build.specs.Building.{popped_parts, token_of, stretch_from, leaf, done_by, marked};
-ghost use Rattle.sp_build.specs.Popping.{IsTaken, IsStep, IsFilled, IsClosed};
-ghost use Rattle.sp_build.specs.RuleViews.{leaf_view, rule_view, worded_form};
-ghost use Rattle.sp_build.specs.Rules.{gathers, closes, closes_integer, closes_attribute, encloses, joins, wraps};
+// What the rules of the actions do on the stack.
+ghost use Rattle.std.specs.Prelude.{◌≡◌, ◌≤◌, ◌∷◌, [], ℕ, List, Option, None, drop, suc, true, length, IfOk, IfSome, IfNone, OnOk};
+ghost use Rattle.sp_ast.specs.Trees.{Tree, tree, trees};
+ghost use Rattle.sp_ast.specs.Slots.{slots, fill, an};
 ghost use Rattle.sp_ast.specs.declared.forms.Form.TheVariants as form_is;
+ghost use Rattle.sp_build.specs.Items.{built};
+ghost use Rattle.sp_build.specs.Building.{Stack, stretch_from, close_with, done_by, acted};
+ghost use Rattle.sp_build.specs.Popping.{IsStep};
+ghost use Rattle.sp_build.specs.RuleParts.{HasNoParts, HasParts};
+ghost use Rattle.sp_build.specs.RuleViews.{leaf_view, rule_view, worded_form};
+ghost use Rattle.sp_build.specs.Rules.{gathers, closing, closing_integer, closing_attribute, encloses, joining, wraps, takes};
+ghost use Rattle.sp_build.specs.Stacks.{last_trees, AreTrees, AreClosed, IsOpen};
 
-use crate::groups::{Group, Slot, Sort};
+use crate::finding::{first_span, fits_on_top, nodes, parts};
 use crate::rules::{Leaf, Rule, Worded, rule_of};
-use crate::stack::{Item, Wanted, gather, opened, popped, put};
+use crate::stack::TreeStack;
 use crate::tokens::{attribute_of, end_before, form_of, integer_of, stretch, token_at};
-use sp_ast::{BaseForm, BoundedTree, ExprForm, Form, IntWord, Parts, Tree, TypeForm};
+use sp_ast::{BaseForm, ExprForm, Form, Group, Slot, Sort, TypeForm, slots};
 use sp_base::{NoMemory, Span};
-use sp_grammar::Mark;
+use sp_grammar::Action;
 use sp_lex::{Token, Tokens};
+use sp_words::{AttributeName, IntWord};
 use std::alloc::Global;
 
-/// Takes what a slot wants, behind the parts that are found, or answers false.
-fn fill(stack: &mut Vec<Item>, slot: Slot, found: &mut Parts) -> Result<bool, NoMemory>
-    ensures { IfOk result (λ yes. IsFilled yes slot (reverse found.old) (reverse stack.old.items)
-        (reverse found.new) (reverse stack.new.items)) }
+/// How many of the last trees are the parts since a tree began, and the place where it began.
+fn closed(stack: &TreeStack, slots: &[Slot]) -> Option<(usize, u32)>
+    ensures found { IfSome result (λ x. AreClosed x.0 x.1 slots.now stack.now) }
+    ensures last { IfSome result (λ x. AreTrees x.0 stack.now) }
+    ensures none { IfNone result ((go : ℕ → List Tree → Stack → Option Stack)
+        → close_with slots.now stack.now go ≡ None) }
 {
-    match slot {
-        Slot::Part(sort) => {
-            let Some(tree) = popped(stack, sort) else {
-                return Ok(false);
-            };
-            found.push(tree)?;
-        }
-        Slot::Several(group) => gather(stack, Wanted::Of(group), found)?,
-    }
-    Ok(true)
+    let count = parts(stack, slots)?;
+    let place = stack.begun_under(count)?;
+    Some((count, place))
 }
 
-/// Takes the parts that the slots want, the last ones on the stack.
-fn parts(alloc: Global, slots: &[Slot], stack: &mut Vec<Item>) -> Result<Option<Parts>, NoMemory>
-    ensures { IfOk result (λ o. IsTaken o (popped_parts slots.now (reverse stack.old.items))
-        (reverse stack.new.items)) }
+/// A tree in place of its parts, the last trees, and of the place where it began.
+fn close(stack: &mut TreeStack, count: usize, form: Form, span: Span) -> Result<(), NoMemory>
+    requires last { AreTrees count stack.old }
+    requires opens { IsOpen (drop count stack.old) }
+    requires fill { fill (slots form) (trees (last_trees count stack.old)) ≡ true }
+    ensures { OnOk result (stack.new
+        ≡ built (tree form span (last_trees count stack.old)) ∷ drop (suc count) stack.old) }
 {
-    let mut found = Parts::with_capacity(alloc, slots.len())?;
-    let mut left = slots.len();
-    while left > 0 {
-        left -= 1;
-        if !fill(stack, slots[left], &mut found)? {
-            return Ok(None);
-        }
-    }
-    found.reverse();
-    Ok(Some(found))
-}
-
-/// Takes the parts since a tree began, and the place where it began.
-fn closed(
-    alloc: Global,
-    slots: &[Slot],
-    stack: &mut Vec<Item>,
-) -> Result<Option<(usize, Parts)>, NoMemory>
-    ensures { IfOk result (λ o. IsClosed (option_map (λ x. (x.0, x.1)) o) slots.now
-        (reverse stack.old.items) (reverse stack.new.items)) }
-{
-    let Some(parts) = parts(alloc, slots, stack)? else {
-        return Ok(None);
-    };
-    let Some(place) = opened(stack) else {
-        return Ok(None);
-    };
-    Ok(Some((place, parts)))
+    stack.join(count, form, span)?;
+    stack.end();
+    Ok(())
 }
 
 /// The token as a tree.
-fn leaf_tree(
+fn takes(
     alloc: Global,
     tokens: &Tokens,
     from: usize,
-    at: usize,
+    at: u32,
     what: Leaf,
-) -> Result<Option<BoundedTree>, NoMemory>
-    requires { from ≤ length tokens.now.list }
-    ensures { IfOk result (λ o. o ≡ leaf tokens.now.text (leaf_view what)
-        (token_of (drop from tokens.now.list) at)) }
+    stack: &mut TreeStack,
+) -> Result<bool, NoMemory>
+    requires from { from ≤ length tokens.now.list }
+    requires parts { HasNoParts (leaf_view what) }
+    ensures { IfOk result (λ yes. IsStep yes (done_by (takes (leaf_view what)) tokens.now.text
+        (drop from tokens.now.list) at stack.old) stack.new) }
 {
     let rest = &tokens.as_slice()[from..];
-    if at < rest.len() {
-        let span = rest[at].span;
-        match form_of(alloc, tokens, from + at, what)? {
-            Some(form) => Ok(Some(BoundedTree::of(form, span, Parts::new(alloc))?)),
-            None => Ok(None),
-        }
+    let place = at as usize;
+    if place < rest.len() {
+        let span = rest[place].span;
+        let Some(form) = form_of(alloc, tokens, from + place, what)? else {
+            return Ok(false);
+        };
+        stack.join(0, form, span)?;
+        Ok(true)
     } else {
-        match what {
-            Leaf::Always(form) => {
-                let span = Span { from: 0, to: 0 };
-                Ok(Some(BoundedTree::of(form, span, Parts::new(alloc))?))
-            }
-            _ => Ok(None),
-        }
+        let Leaf::Always(form) = what else {
+            return Ok(false);
+        };
+        stack.join(0, form, Span { from: 0, to: 0 })?;
+        Ok(true)
     }
+}
+
+fn gathers(stack: &mut TreeStack) -> Result<bool, NoMemory>
+    ensures { IfOk result (λ yes. IsStep yes (done_by gathers [] [] 0 stack.old) stack.new) }
+{
+    let count = nodes(stack);
+    let Some(_) = stack.begun_under(count) else {
+        return Ok(false);
+    };
+    stack.join_row(count)?;
+    stack.end();
+    Ok(true)
+}
+
+fn closes(rest: &[Token], at: u32, form: Form, stack: &mut TreeStack) -> Result<bool, NoMemory>
+    ensures { IfOk result (λ yes. IsStep yes (done_by (closing form) [] rest.now at stack.old)
+        stack.new) }
+{
+    let Some((count, place)) = closed(stack, slots(&form)) else {
+        return Ok(false);
+    };
+    close(
+        stack,
+        count,
+        form,
+        stretch(rest, place as usize, at as usize),
+    )?;
+    Ok(true)
 }
 
 /// The alternative that is built by an integer type.
@@ -109,164 +118,99 @@ fn worded_form(worded: Worded, word: IntWord) -> Form
     }
 }
 
-fn gathers(alloc: Global, stack: &mut Vec<Item>) -> Result<bool, NoMemory>
-    ensures { IfOk result (λ yes. IsStep yes (done_by gathers [] [] 0 (reverse stack.old.items))
-        (reverse stack.new.items)) }
-{
-    let mut row = Parts::new(alloc);
-    gather(stack, Wanted::Nodes, &mut row)?;
-    row.reverse();
-    let Some(_) = opened(stack) else {
-        return Ok(false);
-    };
-    put(stack, Item::Built(BoundedTree::row(row)))?;
-    Ok(true)
-}
-
-fn closes(
-    alloc: Global,
-    tokens: &Tokens,
-    from: usize,
-    at: usize,
-    slots: &[Slot],
-    form: Form,
-    stack: &mut Vec<Item>,
-) -> Result<bool, NoMemory>
-    requires { from ≤ length tokens.now.list }
-    ensures { IfOk result (λ yes. IsStep yes
-        (done_by (closes slots.now form) tokens.now.text (drop from tokens.now.list) at
-        (reverse stack.old.items)) (reverse stack.new.items)) }
-{
-    let rest = &tokens.as_slice()[from..];
-    let Some((place, parts)) = closed(alloc, slots, stack)? else {
-        return Ok(false);
-    };
-    let tree = BoundedTree::of(form, stretch(rest, place, at), parts)?;
-    put(stack, Item::Built(tree))?;
-    Ok(true)
-}
-
 fn closes_integer(
-    alloc: Global,
-    tokens: &Tokens,
-    from: usize,
-    at: usize,
-    slots: &[Slot],
+    rest: &[Token],
+    at: u32,
     worded: Worded,
-    stack: &mut Vec<Item>,
+    stack: &mut TreeStack,
 ) -> Result<bool, NoMemory>
-    requires { from ≤ length tokens.now.list }
-    ensures { IfOk result (λ yes. IsStep yes
-        (done_by (closes_integer slots.now (worded_form worded)) tokens.now.text
-        (drop from tokens.now.list) at (reverse stack.old.items)) (reverse stack.new.items)) }
+    ensures { IfOk result (λ yes. IsStep yes (done_by (closing_integer (worded_form worded)) []
+        rest.now at stack.old) stack.new) }
 {
-    let rest = &tokens.as_slice()[from..];
-    let Some((place, parts)) = closed(alloc, slots, stack)? else {
+    let Some((count, place)) = closed(stack, slots(&worded_form(worded, IntWord::Uint8))) else {
         return Ok(false);
     };
-    let Some(word) = integer_of(token_at(rest, place).kind) else {
+    let Some(word) = integer_of(token_at(rest, place as usize).kind) else {
         return Ok(false);
     };
-    let tree = BoundedTree::of(worded_form(worded, word), stretch(rest, place, at), parts)?;
-    put(stack, Item::Built(tree))?;
+    let form = worded_form(worded, word);
+    close(
+        stack,
+        count,
+        form,
+        stretch(rest, place as usize, at as usize),
+    )?;
     Ok(true)
 }
 
-fn closes_attribute(
-    alloc: Global,
-    tokens: &Tokens,
-    from: usize,
-    at: usize,
-    slots: &[Slot],
-    stack: &mut Vec<Item>,
-) -> Result<bool, NoMemory>
-    requires { from ≤ length tokens.now.list }
-    ensures { IfOk result (λ yes. IsStep yes
-        (done_by (closes_attribute slots.now (λ name. form_is.Attribute name)) tokens.now.text
-        (drop from tokens.now.list) at (reverse stack.old.items)) (reverse stack.new.items)) }
+fn closes_attribute(rest: &[Token], at: u32, stack: &mut TreeStack) -> Result<bool, NoMemory>
+    ensures { IfOk result (λ yes. IsStep yes (done_by
+        (closing_attribute (λ name. form_is.Attribute name)) [] rest.now at stack.old) stack.new) }
 {
-    let rest = &tokens.as_slice()[from..];
-    let Some((place, parts)) = closed(alloc, slots, stack)? else {
+    let Some((count, place)) = closed(stack, slots(&Form::Attribute(AttributeName::Size))) else {
         return Ok(false);
     };
-    let Some(name) = attribute_of(token_at(rest, place).kind) else {
+    let Some(name) = attribute_of(token_at(rest, place as usize).kind) else {
         return Ok(false);
     };
-    let tree = BoundedTree::of(Form::Attribute(name), stretch(rest, place, at), parts)?;
-    put(stack, Item::Built(tree))?;
+    let form = Form::Attribute(name);
+    close(
+        stack,
+        count,
+        form,
+        stretch(rest, place as usize, at as usize),
+    )?;
     Ok(true)
 }
 
-fn encloses(
-    tokens: &Tokens,
-    from: usize,
-    at: usize,
-    stack: &mut Vec<Item>,
-) -> Result<bool, NoMemory>
-    requires { from ≤ length tokens.now.list }
-    ensures { IfOk result (λ yes. IsStep yes
-        (done_by encloses tokens.now.text (drop from tokens.now.list) at
-        (reverse stack.old.items)) (reverse stack.new.items)) }
+fn encloses(rest: &[Token], at: u32, stack: &mut TreeStack) -> Result<bool, NoMemory>
+    ensures { IfOk result (λ yes. IsStep yes (done_by encloses [] rest.now at stack.old)
+        stack.new) }
 {
-    let rest = &tokens.as_slice()[from..];
-    let Some(tree) = popped(stack, Sort::One(Group::Expressions)) else {
+    if !fits_on_top(stack, Sort::One(Group::Expressions)) {
+        return Ok(false);
+    }
+    let Some(place) = stack.begun_under(1) else {
         return Ok(false);
     };
-    let Some(place) = opened(stack) else {
-        return Ok(false);
-    };
-    put(stack, Item::Built(tree.with_span(stretch(rest, place, at))))?;
+    stack.respan(stretch(rest, place as usize, at as usize));
+    stack.end();
     Ok(true)
 }
 
-/// The text from where these trees begin, up to a place.
-fn stretch_from(rest: &[Token], parts: &[Tree], at: usize) -> Span
-    ensures { result ≡ stretch_from rest.now parts.now at }
+/// The text from where the last trees, so many, begin, up to a place.
+fn stretch_from(rest: &[Token], stack: &TreeStack, count: usize, at: u32) -> Span
+    requires { AreTrees count stack.now }
+    ensures { result ≡ stretch_from rest.now (last_trees count stack.now) at }
 {
-    let from = match parts.first() {
-        Some(tree) => tree.span().from,
-        None => 0,
-    };
     Span {
-        from,
-        to: end_before(rest, at),
+        from: first_span(stack, count).from,
+        to: end_before(rest, at as usize),
     }
 }
 
-fn joins(
-    alloc: Global,
-    tokens: &Tokens,
-    from: usize,
-    at: usize,
-    slots: &[Slot],
-    form: Form,
-    stack: &mut Vec<Item>,
-) -> Result<bool, NoMemory>
-    requires { from ≤ length tokens.now.list }
-    ensures { IfOk result (λ yes. IsStep yes
-        (done_by (joins slots.now form) tokens.now.text (drop from tokens.now.list) at
-        (reverse stack.old.items)) (reverse stack.new.items)) }
+fn joins(rest: &[Token], at: u32, form: Form, stack: &mut TreeStack) -> Result<bool, NoMemory>
+    ensures { IfOk result (λ yes. IsStep yes (done_by (joining form) [] rest.now at stack.old)
+        stack.new) }
 {
-    let rest = &tokens.as_slice()[from..];
-    let Some(parts) = parts(alloc, slots, stack)? else {
+    let Some(count) = parts(stack, slots(&form)) else {
         return Ok(false);
     };
-    let span = stretch_from(rest, parts.as_slice(), at);
-    put(stack, Item::Built(BoundedTree::of(form, span, parts)?))?;
+    let span = stretch_from(rest, stack, count, at);
+    stack.join(count, form, span)?;
     Ok(true)
 }
 
-fn wraps(alloc: Global, group: Group, form: Form, stack: &mut Vec<Item>) -> Result<bool, NoMemory>
-    ensures { IfOk result (λ yes. IsStep yes
-        (done_by (wraps group form) [] [] 0 (reverse stack.old.items)) (reverse stack.new.items)) }
+fn wraps(group: Group, form: Form, stack: &mut TreeStack) -> Result<bool, NoMemory>
+    requires parts { slots form ≡ an group ∷ [] }
+    ensures { IfOk result (λ yes. IsStep yes (done_by (wraps group form) [] [] 0 stack.old)
+        stack.new) }
 {
-    let Some(tree) = popped(stack, Sort::One(group)) else {
+    if !fits_on_top(stack, Sort::One(group)) {
         return Ok(false);
-    };
-    let span = tree.as_tree().span();
-    let mut parts = Parts::with_capacity(alloc, 1)?;
-    parts.push(tree)?;
-    put(stack, Item::Built(BoundedTree::of(form, span, parts)?))?;
+    }
+    let span = first_span(stack, 1);
+    stack.join(1, form, span)?;
     Ok(true)
 }
 
@@ -275,57 +219,50 @@ fn step_by(
     alloc: Global,
     tokens: &Tokens,
     from: usize,
-    at: usize,
+    at: u32,
     rule: Rule,
-    stack: &mut Vec<Item>,
+    stack: &mut TreeStack,
 ) -> Result<bool, NoMemory>
-    requires { from ≤ length tokens.now.list }
+    requires from { from ≤ length tokens.now.list }
+    requires parts { HasParts (rule_view rule) }
     ensures { IfOk result (λ yes. IsStep yes
-        (done_by (rule_view rule) tokens.now.text (drop from tokens.now.list) at
-        (reverse stack.old.items)) (reverse stack.new.items)) }
+        (done_by (rule_view rule) tokens.now.text (drop from tokens.now.list) at stack.old)
+        stack.new) }
 {
+    let rest = &tokens.as_slice()[from..];
     match rule {
         Rule::Begins => {
-            put(stack, Item::Begun(at))?;
+            stack.begin(at)?;
             Ok(true)
         }
         Rule::LeavesOut => {
-            put(stack, Item::Built(BoundedTree::absent()))?;
+            stack.leave_out()?;
             Ok(true)
         }
-        Rule::Takes(leaf) => match leaf_tree(alloc, tokens, from, at, leaf)? {
-            Some(tree) => {
-                put(stack, Item::Built(tree))?;
-                Ok(true)
-            }
-            None => Ok(false),
-        },
-        Rule::Gathers => gathers(alloc, stack),
-        Rule::Closes(slots, form) => closes(alloc, tokens, from, at, slots, form, stack),
-        Rule::ClosesInteger(slots, worded) => {
-            closes_integer(alloc, tokens, from, at, slots, worded, stack)
-        }
-        Rule::ClosesAttribute(slots) => closes_attribute(alloc, tokens, from, at, slots, stack),
-        Rule::Encloses => encloses(tokens, from, at, stack),
-        Rule::Joins(slots, form) => joins(alloc, tokens, from, at, slots, form, stack),
-        Rule::Wraps(group, form) => wraps(alloc, group, form, stack),
+        Rule::Takes(leaf) => takes(alloc, tokens, from, at, leaf, stack),
+        Rule::Gathers => gathers(stack),
+        Rule::Closes(form) => closes(rest, at, form, stack),
+        Rule::ClosesInteger(worded) => closes_integer(rest, at, worded, stack),
+        Rule::ClosesAttribute => closes_attribute(rest, at, stack),
+        Rule::Encloses => encloses(rest, at, stack),
+        Rule::Joins(form) => joins(rest, at, form, stack),
+        Rule::Wraps(group, form) => wraps(group, form, stack),
     }
 }
 
-/// What a mark does at a place. The tokens from `from` on are those of the text that is built, and the place is counted
-/// from there. It answers false where the mark finds not what it wants.
+/// What an action does at a place. The tokens from `from` on are those of the text that is built, and the place is counted
+/// from there. It answers false where the action finds not what it wants.
 pub(crate) fn step(
     alloc: Global,
     tokens: &Tokens,
     from: usize,
-    at: usize,
-    mark: Mark,
-    stack: &mut Vec<Item>,
+    at: u32,
+    action: Action,
+    stack: &mut TreeStack,
 ) -> Result<bool, NoMemory>
     requires { from ≤ length tokens.now.list }
     ensures { IfOk result (λ yes. IsStep yes
-        (marked mark tokens.now.text (drop from tokens.now.list) at (reverse stack.old.items))
-        (reverse stack.new.items)) }
+        (acted action tokens.now.text (drop from tokens.now.list) at stack.old) stack.new) }
 {
-    step_by(alloc, tokens, from, at, rule_of(mark), stack)
+    step_by(alloc, tokens, from, at, rule_of(action), stack)
 }

@@ -4,15 +4,16 @@ ghost use Rattle.sp_ast.specs.declared.forms.Form.{Form};
 ghost use Rattle.sp_lex.specs.Readings.{bytes_of};
 ghost use Rattle.sp_literals.specs.Values.{kind_at, bytes_at};
 ghost use Rattle.sp_build.specs.Building.{token_of, end_before, stretch, leaf};
-ghost use Rattle.sp_build.specs.Rules.{by_name, by_string, by_bytes, by_regex, by_number, by_event};
+ghost use Rattle.sp_build.specs.Rules.{by_name, by_string, by_bytes, by_regex, by_number, by_hook_name};
 ghost use Rattle.sp_build.specs.RuleViews.{leaf_view};
-ghost use Rattle.sp_build.specs.Tokens.{form_of, integer_of, attribute_name_of, attribute_of, hook_name_of};
+ghost use Rattle.sp_build.specs.Tokens.{form_of, integer_of, attribute_of};
 
 use crate::rules::Leaf;
-use sp_ast::{AttributeName, BaseForm, ExprForm, Form, HookName, IntWord, TargetForm, TypeForm};
+use sp_ast::{BaseForm, ExprForm, Form, TargetForm, TypeForm};
 use sp_base::{ByteList, NoMemory, Span, Text};
-use sp_lex::{Absent, Attribute, Hook, Keyword, Mark, Token, TokenKind, Tokens};
+use sp_lex::{Absent, Token, TokenKind, Tokens};
 use sp_literals::{bytes_value, name_text, number_value, regex_text, string_value};
+use sp_words::{AttributeName, HookName, IntWord, Punctuation};
 use std::alloc::Global;
 
 /// The token before which so many stand; behind the last one a `;` at no place.
@@ -22,7 +23,7 @@ pub(crate) fn token_at(rest: &[Token], at: usize) -> Token
     match rest.get(at) {
         Some(token) => *token,
         None => Token {
-            kind: TokenKind::Mark(Mark::Semicolon),
+            kind: TokenKind::Punctuation(Punctuation::Semicolon),
             span: Span { from: 0, to: 0 },
         },
     }
@@ -54,38 +55,8 @@ pub(crate) fn integer_of(kind: TokenKind) -> Option<IntWord>
     ensures { result ≡ integer_of kind }
 {
     match kind {
-        TokenKind::Keyword(Keyword::Uint8) => Some(IntWord::Uint8),
-        TokenKind::Keyword(Keyword::Uint16) => Some(IntWord::Uint16),
-        TokenKind::Keyword(Keyword::Uint32) => Some(IntWord::Uint32),
-        TokenKind::Keyword(Keyword::Uint64) => Some(IntWord::Uint64),
-        TokenKind::Keyword(Keyword::Int8) => Some(IntWord::Int8),
-        TokenKind::Keyword(Keyword::Int16) => Some(IntWord::Int16),
-        TokenKind::Keyword(Keyword::Int32) => Some(IntWord::Int32),
-        TokenKind::Keyword(Keyword::Int64) => Some(IntWord::Int64),
+        TokenKind::Integer(word) => Some(word),
         _ => None,
-    }
-}
-
-fn attribute_name_of(attribute: Attribute) -> Option<AttributeName>
-    ensures { result ≡ attribute_name_of attribute }
-{
-    match attribute {
-        Attribute::Size => Some(AttributeName::Size),
-        Attribute::MaxSize => Some(AttributeName::MaxSize),
-        Attribute::Eod => Some(AttributeName::Eod),
-        Attribute::Until => Some(AttributeName::Until),
-        Attribute::UntilIncluding => Some(AttributeName::UntilIncluding),
-        Attribute::While => Some(AttributeName::While),
-        Attribute::Convert => Some(AttributeName::Convert),
-        Attribute::Requires => Some(AttributeName::Requires),
-        Attribute::Default => Some(AttributeName::Default),
-        Attribute::ByteOrder => Some(AttributeName::ByteOrder),
-        Attribute::BitOrder => Some(AttributeName::BitOrder),
-        Attribute::ParseFrom => Some(AttributeName::ParseFrom),
-        Attribute::ParseAt => Some(AttributeName::ParseAt),
-        Attribute::Try => Some(AttributeName::Try),
-        Attribute::Synchronize => Some(AttributeName::Synchronize),
-        Attribute::Priority => None,
     }
 }
 
@@ -94,35 +65,17 @@ pub(crate) fn attribute_of(kind: TokenKind) -> Option<AttributeName>
     ensures { result ≡ attribute_of kind }
 {
     match kind {
-        TokenKind::Attribute(attribute) => attribute_name_of(attribute),
+        TokenKind::Attribute(name) => Some(name),
         _ => None,
     }
 }
 
-fn hook_name_of(hook: Hook) -> HookName
-    ensures { result ≡ hook_name_of hook }
-{
-    match hook {
-        Hook::Init => HookName::Init,
-        Hook::Done => HookName::Done,
-        Hook::Error => HookName::Error,
-        Hook::Finally => HookName::Finally,
-        Hook::Synced => HookName::Synced,
-        Hook::Confirmed => HookName::Confirmed,
-        Hook::Rejected => HookName::Rejected,
-        Hook::Gap => HookName::Gap,
-        Hook::Skipped => HookName::Skipped,
-        Hook::Overlap => HookName::Overlap,
-        Hook::Undelivered => HookName::Undelivered,
-    }
-}
-
-fn event_of(kind: TokenKind) -> Option<HookName>
+fn hook_name_of(kind: TokenKind) -> Option<HookName>
     ensures { (form : HookName → Form) (bytes : List ℕ)
-        → option_map form result ≡ form_of (by_event form) kind bytes }
+        → option_map form result ≡ form_of (by_hook_name form) kind bytes }
 {
     match kind {
-        TokenKind::Hook(hook) => Some(hook_name_of(hook)),
+        TokenKind::Hook(hook) => Some(hook),
         _ => None,
     }
 }
@@ -209,7 +162,7 @@ pub(crate) fn form_of(
         Leaf::NameTarget => {
             Ok(name_of(alloc, tokens, at)?.map(|x| Form::Target(TargetForm::Name(x))))
         }
-        Leaf::Text => Ok(string_of(alloc, tokens, at)?.map(|x| Form::Text(x))),
+        Leaf::String => Ok(string_of(alloc, tokens, at)?.map(|x| Form::String(x))),
         Leaf::StringExpr => {
             Ok(string_of(alloc, tokens, at)?.map(|x| Form::Expr(ExprForm::String(x))))
         }
@@ -228,7 +181,7 @@ pub(crate) fn form_of(
         Leaf::Number => Ok(number_of(tokens, at).map(|n| Form::Number(n))),
         Leaf::NumberExpr => Ok(number_of(tokens, at).map(|n| Form::Expr(ExprForm::Number(n)))),
         Leaf::IntType => Ok(integer_of(kind).map(|word| Form::Type(TypeForm::Int(word)))),
-        Leaf::Event => Ok(event_of(kind).map(|hook| Form::Event(hook))),
-        Leaf::EventTarget => Ok(event_of(kind).map(|hook| Form::Target(TargetForm::Event(hook)))),
+        Leaf::HookName => Ok(hook_name_of(kind).map(|hook| Form::HookName(hook))),
+        Leaf::HookTarget => Ok(hook_name_of(kind).map(|hook| Form::Target(TargetForm::Hook(hook)))),
     }
 }

@@ -96,6 +96,18 @@ module _ {T : Type 0} where
         others = λ m differ. other_seen old new m (done.others m differ);
       }
 
+  -- the place before the first item
+  pub front_place : (nodes : Slab (Node T)) → IsSound nodes → (l : ℕ) → IsLive (seen nodes) l → IsPlace nodes l l
+  front_place nodes sound l live =
+      let list = there (list_of (seen nodes) l) live in
+      ([], list.0, ring_seen nodes sound l list.0 list.1, refl)
+
+  pub put_in_front : (old new : Slab (Node T)) (l s : ℕ) (x : T) → IsSound old → Inserts old new l l s x → (c : List (ℕ × T)) → list_of (seen old) l ≡ Some c → Updates (seen old) (seen new) l (Some ((s, x) ∷ c))
+  put_in_front old new l s x sound done c h = record {
+    changed = seen_ring new l ((s, x) ∷ c) (done.ring [] c (ring_seen old sound l c h) refl);
+    others = λ m differ. other_seen old new m (done.others m differ);
+  }
+
   pub put_behind : (old new : Slab (Node T)) (l s t : ℕ) (x : T) → IsSound old → Inserts old new l s t x → (d e : List (ℕ × T)) (y : T) → Holds (seen old) l d s y e → Updates (seen old) (seen new) l (Some (d ++ (s, y) ∷ (t, x) ∷ e))
   put_behind old new l s t x sound done d e y h =
       let ring = ring_seen old sound l (d ++ (s, y) ∷ e) h in

@@ -114,6 +114,20 @@ impl<T> Chains<T> {
         Ok(Slot { index })
     }
 
+    /// Puts an item at the front of a list, or hands it back where there is no memory.
+    pub fn push_front(&mut self, l: ListId, x: T) -> Result<Slot, T>
+        requires { IsLive self.old l }
+        ensures ok { (c : List (ℕ × T)) → list_of self.old l ≡ Some c
+            → IfOk result (λ s. Updates self.old self.new l (Some ((s, x) ∷ c))) }
+        ensures err { OnErr result (self.new.lists ≡ self.old.lists) }
+        ensures item_returned { IfErr result (λ returned. returned ≡ x) }
+        ensures succeeds { HasFree self.old 1 → IsOk result }
+        ensures had_free { HasFree self.old 1 → self.new.places ≡ self.old.places }
+    {
+        let index = insert_behind(&mut self.nodes, l.index, l.index, x)?;
+        Ok(Slot { index })
+    }
+
     /// Puts an item into a list behind the one of the slot `s`, or hands it back where there is no memory.
     pub fn insert_after(&mut self, l: ListId, s: Slot, x: T) -> Result<Slot, T>
         requires { HasSlot self.old l s }

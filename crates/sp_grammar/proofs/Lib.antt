@@ -1,4 +1,4 @@
-mod MarkNumbers
+mod ActionNumbers
 mod Numbers
 pub mod OwnWords
 pub mod Recursion

@@ -1,9 +1,9 @@
 -- The table of the code and the grammar in its own words read the same.
 use Rattle.std.proofs.Common.{◌≡◌, ℕ, List, [], ◌∷◌, true, false, refl}
 use Rattle.std.proofs.lemmas.Bool.{true≢false}
-use Rattle.sp_parser.specs.declared.symbol.Event.{Event}
+use Rattle.sp_parser.specs.declared.symbol.ActionAt.{ActionAt}
 use Rattle.sp_parser.specs.Grammar.{Derives}
-use Rattle.sp_parser.proofs.Texts.{only_one}
+use Rattle.sp_parser.proofs.Phrases.{only_one}
 use Rattle.sp_parser.proofs.Tested.{certified_by_test}
 use Rattle.sp_grammar.specs.declared.language.Start.{Start}
 use Rattle.sp_grammar.specs.Starts.{start_number, part_of}
@@ -139,10 +139,10 @@ fitting_part Part.Pairs h = (refl, refl)
 fitting_part Part.Pair h = (refl, refl)
 fitting_part Part.NewArgs h = (refl, refl)
 
-pub read_of_table : (p : Part) → is_piece p ≡ false → (w : List ℕ) (τ : List Event) → Derives language (part_number p) w τ → IsRead own (part_number p) w τ
+pub read_of_table : (p : Part) → is_piece p ≡ false → (w : List ℕ) (τ : List ActionAt) → Derives language (part_number p) w τ → IsRead own (part_number p) w τ
 read_of_table p h w τ d = let r = read_if_derived language (part_number p) w τ d in (r.0, forth roles_of language own forth_tested (part_number p) 0 r.0 w [] τ [] (fitting_part p h).0 r.1)
 
-pub table_of_read : (p : Part) → is_piece p ≡ false → (w : List ℕ) (τ : List Event) → IsRead own (part_number p) w τ → Derives language (part_number p) w τ
+pub table_of_read : (p : Part) → is_piece p ≡ false → (w : List ℕ) (τ : List ActionAt) → IsRead own (part_number p) w τ → Derives language (part_number p) w τ
 table_of_read p h w τ r = derived_if_read language (part_number p) w τ (r.0, back tails_of operands_of language own back_tested (part_number p) 0 r.0 w [] τ [] (fitting_part p h).1 r.1)
 
 pub start_part : (s : Start) → is_piece (part_of s) ≡ false
@@ -151,5 +151,5 @@ start_part start.Type = refl
 start_part start.Stmt = refl
 start_part start.Expr = refl
 
-pub read_one_way : (s : Start) (w : List ℕ) (τ σ : List Event) → IsRead own (start_number s) w τ → IsRead own (start_number s) w σ → τ ≡ σ
+pub read_one_way : (s : Start) (w : List ℕ) (τ σ : List ActionAt) → IsRead own (start_number s) w τ → IsRead own (start_number s) w σ → τ ≡ σ
 read_one_way s w τ σ x y = only_one language language_sets (certified_by_test language language_sets language_tested) (start_number s) w σ τ (is_part s) (ends_after s) (table_of_read (part_of s) (start_part s) w σ y) (table_of_read (part_of s) (start_part s) w τ x)

@@ -7,11 +7,11 @@ use Rattle.std.proofs.lemmas.Bool.{eqb-true, and_parts, or_cases}
 use Rattle.std.proofs.lemmas.List.{append_assoc}
 use Rattle.std.proofs.lemmas.Nat.Bits.{bit_at-zero}
 use Rattle.sp_parser.specs.declared.symbol.Symbol.{Symbol}
-use Rattle.sp_parser.specs.declared.symbol.Symbol.TheVariants.{Terminal, Nonterminal, Mark}
-use Rattle.sp_parser.specs.declared.symbol.Event.{Event}
+use Rattle.sp_parser.specs.declared.symbol.Symbol.TheVariants.{Terminal, Nonterminal, Action}
+use Rattle.sp_parser.specs.declared.symbol.ActionAt.{ActionAt}
 use Rattle.sp_parser.specs.Grammar.{Table, Production, productions_of, production_of, at_production, right, ahead, Applies}
-use Rattle.sp_grammar.specs.Reads.{Reads, nothing, whole, half, mark, part}
-use Rattle.sp_grammar.proofs.Spans.{Span, Through, nothing', whole', half', mark', part', through, split, split_reads, every_part, reads_through, same, same_equal, has, by_one, append, below, below_all, every_production, one_production}
+use Rattle.sp_grammar.specs.Reads.{Reads, nothing, whole, half, action, part}
+use Rattle.sp_grammar.proofs.Spans.{Span, Through, nothing', whole', half', action', part', through, split, split_reads, every_part, reads_through, same, same_equal, has, by_one, append, below, below_all, every_production, one_production}
 
 abbrev pub heads : List ℕ → ℕ → ℕ
 heads l n = get_or l n 0
@@ -63,7 +63,7 @@ with_ends g h n t before ss = below (λ p. has (productions_of h n) (before ++ (
 abbrev pub spread : List Role → Table → Table → ℕ → List Symbol → List Symbol → Bool
 spread l g h n before [] = false
 spread l g h n before (Terminal e ∷ ss) = spread l g h n (before ++ Terminal e ∷ []) ss
-spread l g h n before (Mark m ∷ ss) = spread l g h n (before ++ Mark m ∷ []) ss
+spread l g h n before (Action m ∷ ss) = spread l g h n (before ++ Action m ∷ []) ss
 spread l g h n before (Nonterminal t ∷ ss) = (is_ends (role l t) && (every_part (ordinary l) ss && with_ends g h n t before ss)) || (ordinary l t && spread l g h n (before ++ Nonterminal t ∷ []) ss)
 
 -- A production of the table with tails has its like in the other.
@@ -76,7 +76,7 @@ forth_test l g h (TailOf q) n ss a = is_none ss || (every_part (ordinary l) (fro
 abbrev pub Forth : Table → Table → Role → ℕ → Span
 Forth g h Same n i w ρ j v τ = Reads h (Nonterminal n ∷ []) i w ρ j v τ
 Forth g h Ends n i w ρ j v τ = (p : ℕ) × (p < length (productions_of g n)) × Reads h (right g n p) i w ρ j v τ
-Forth g h (TailOf q) n i w ρ j v τ = (i₀ : ℕ) (w₀ : List ℕ) (ρ₀ : List Event) → Reads h (Nonterminal q ∷ []) i₀ w₀ ρ₀ i w ρ → Reads h (Nonterminal q ∷ []) i₀ w₀ ρ₀ j v τ
+Forth g h (TailOf q) n i w ρ j v τ = (i₀ : ℕ) (w₀ : List ℕ) (ρ₀ : List ActionAt) → Reads h (Nonterminal q ∷ []) i₀ w₀ ρ₀ i w ρ → Reads h (Nonterminal q ∷ []) i₀ w₀ ρ₀ j v τ
 
 abbrev pub Means : List Role → Table → Table → ℕ → Span
 Means l g h n = Forth g h (role l n) n
@@ -84,23 +84,23 @@ Means l g h n = Forth g h (role l n) n
 never : {A : Type 0} → false ≡ true → A
 never h = absurd (let q : false ≡ true = h in cc)
 
-plainly : (g h : Table) (q : Role) (n i j : ℕ) (w v : List ℕ) (ρ τ : List Event) → is_same q ≡ true → Forth g h q n i w ρ j v τ → Reads h (Nonterminal n ∷ []) i w ρ j v τ
+plainly : (g h : Table) (q : Role) (n i j : ℕ) (w v : List ℕ) (ρ τ : List ActionAt) → is_same q ≡ true → Forth g h q n i w ρ j v τ → Reads h (Nonterminal n ∷ []) i w ρ j v τ
 plainly g h Same n i j w v ρ τ e x = x
 plainly g h Ends n i j w v ρ τ e x = never e
 plainly g h (TailOf q) n i j w v ρ τ e x = never e
 
-endings : (g h : Table) (q : Role) (n i j : ℕ) (w v : List ℕ) (ρ τ : List Event) → is_ends q ≡ true → Forth g h q n i w ρ j v τ → (p : ℕ) × (p < length (productions_of g n)) × Reads h (right g n p) i w ρ j v τ
+endings : (g h : Table) (q : Role) (n i j : ℕ) (w v : List ℕ) (ρ τ : List ActionAt) → is_ends q ≡ true → Forth g h q n i w ρ j v τ → (p : ℕ) × (p < length (productions_of g n)) × Reads h (right g n p) i w ρ j v τ
 endings g h Same n i j w v ρ τ e x = never e
 endings g h Ends n i j w v ρ τ e x = x
 endings g h (TailOf q) n i j w v ρ τ e x = never e
 
-closed : (l : List Role) (g h : Table) {i j : ℕ} {ss : List Symbol} {w v : List ℕ} {ρ τ : List Event} → every_part (ordinary l) ss ≡ true → Through (Means l g h) ss i w ρ j v τ → Reads h ss i w ρ j v τ
+closed : (l : List Role) (g h : Table) {i j : ℕ} {ss : List Symbol} {w v : List ℕ} {ρ τ : List ActionAt} → every_part (ordinary l) ss ≡ true → Through (Means l g h) ss i w ρ j v τ → Reads h ss i w ρ j v τ
 closed l g h e r = reads_through h (Means l g h) (ordinary l) (λ n i j w v ρ τ o x. plainly g h (role l n) n i j w v ρ τ o x) e r
 
-first_part : (M : ℕ → Span) (n i j : ℕ) (w v : List ℕ) (ρ τ : List Event) → Through M (Nonterminal n ∷ []) i w ρ j v τ → M n i w ρ j v τ
+first_part : (M : ℕ → Span) (n i j : ℕ) (w v : List ℕ) (ρ τ : List ActionAt) → Through M (Nonterminal n ∷ []) i w ρ j v τ → M n i w ρ j v τ
 first_part M n i j w v ρ τ (part' x nothing') = x
 
-join_two : (g h : Table) (p q : Role) (n a t i m j : ℕ) (w u v : List ℕ) (ρ σ τ : List Event) → joined_at p q h n a ≡ true → Forth g h p a i w ρ m u σ → Forth g h q t m u σ j v τ → Reads h (Nonterminal n ∷ []) i w ρ j v τ
+join_two : (g h : Table) (p q : Role) (n a t i m j : ℕ) (w u v : List ℕ) (ρ σ τ : List ActionAt) → joined_at p q h n a ≡ true → Forth g h p a i w ρ m u σ → Forth g h q t m u σ j v τ → Reads h (Nonterminal n ∷ []) i w ρ j v τ
 join_two g h Same (TailOf q) n a t i m j w u v ρ σ τ e x y =
     let b = and_parts (has (productions_of h q) (Nonterminal a ∷ []) 0) (q == n || has (productions_of h n) (Nonterminal q ∷ []) 0) e in
     let r = y i w ρ (by_one h q (Nonterminal a ∷ []) 0 b.0 (bit_at-zero (ahead w)) x) in
@@ -110,15 +110,15 @@ join_two g h Same (TailOf q) n a t i m j w u v ρ σ τ e x y =
     ]
 join_two g h _ _ n a t i m j w u v ρ σ τ e x y = never e
 
-join_parts : (l : List Role) (g h : Table) (n i j : ℕ) (ss : List Symbol) (w v : List ℕ) (ρ τ : List Event) → joined l h n ss ≡ true → Through (Means l g h) ss i w ρ j v τ → Reads h (Nonterminal n ∷ []) i w ρ j v τ
+join_parts : (l : List Role) (g h : Table) (n i j : ℕ) (ss : List Symbol) (w v : List ℕ) (ρ τ : List ActionAt) → joined l h n ss ≡ true → Through (Means l g h) ss i w ρ j v τ → Reads h (Nonterminal n ∷ []) i w ρ j v τ
 join_parts l g h n i j (Nonterminal a ∷ Nonterminal t ∷ []) w v ρ τ e (part' {m = m} {u = u} {σ = σ} x (part' y nothing')) = join_two g h (role l a) (role l t) n a t i m j w u v ρ σ τ e x y
 join_parts l g h n i j _ w v ρ τ e r = never e
 
-spread_parts : (l : List Role) (g h : Table) (n i₀ : ℕ) (w₀ : List ℕ) (ρ₀ : List Event) (before ss : List Symbol) {i j : ℕ} {w v : List ℕ} {ρ τ : List Event} → spread l g h n before ss ≡ true → Reads h before i₀ w₀ ρ₀ i w ρ → Through (Means l g h) ss i w ρ j v τ → Reads h (Nonterminal n ∷ []) i₀ w₀ ρ₀ j v τ
+spread_parts : (l : List Role) (g h : Table) (n i₀ : ℕ) (w₀ : List ℕ) (ρ₀ : List ActionAt) (before ss : List Symbol) {i j : ℕ} {w v : List ℕ} {ρ τ : List ActionAt} → spread l g h n before ss ≡ true → Reads h before i₀ w₀ ρ₀ i w ρ → Through (Means l g h) ss i w ρ j v τ → Reads h (Nonterminal n ∷ []) i₀ w₀ ρ₀ j v τ
 spread_parts l g h n i₀ w₀ ρ₀ before [] e k r = never e
 spread_parts l g h n i₀ w₀ ρ₀ before (Terminal x ∷ ss) e k (whole' t r) = spread_parts l g h n i₀ w₀ ρ₀ (before ++ Terminal x ∷ []) ss e (append k (whole t nothing)) r
 spread_parts l g h n i₀ w₀ ρ₀ before (Terminal x ∷ ss) e k (half' t r) = spread_parts l g h n i₀ w₀ ρ₀ (before ++ Terminal x ∷ []) ss e (append k (half t nothing)) r
-spread_parts l g h n i₀ w₀ ρ₀ before (Mark m ∷ ss) e k (mark' r) = spread_parts l g h n i₀ w₀ ρ₀ (before ++ Mark m ∷ []) ss e (append k (mark nothing)) r
+spread_parts l g h n i₀ w₀ ρ₀ before (Action m ∷ ss) e k (action' r) = spread_parts l g h n i₀ w₀ ρ₀ (before ++ Action m ∷ []) ss e (append k (action nothing)) r
 spread_parts l g h n i₀ w₀ ρ₀ before (Nonterminal t ∷ ss) {i = i} {w = w} {ρ = ρ} e k (part' {m = m} {u = u} {σ = σ} x r) =
     elim (or_cases (is_ends (role l t) && (every_part (ordinary l) ss && with_ends g h n t before ss)) (ordinary l t && spread l g h n (before ++ Nonterminal t ∷ []) ss) e) [
       | inl z ↦
@@ -131,11 +131,11 @@ spread_parts l g h n i₀ w₀ ρ₀ before (Nonterminal t ∷ ss) {i = i} {w = 
           spread_parts l g h n i₀ w₀ ρ₀ (before ++ Nonterminal t ∷ []) ss b.1 (append k (plainly g h (role l t) t i m w u ρ σ b.0 x)) r
     ]
 
-none_read : (l : List Role) (g h : Table) (q i j : ℕ) (ss : List Symbol) (w v : List ℕ) (ρ τ : List Event) (i₀ : ℕ) (w₀ : List ℕ) (ρ₀ : List Event) → is_none ss ≡ true → Through (Means l g h) ss i w ρ j v τ → Reads h (Nonterminal q ∷ []) i₀ w₀ ρ₀ i w ρ → Reads h (Nonterminal q ∷ []) i₀ w₀ ρ₀ j v τ
+none_read : (l : List Role) (g h : Table) (q i j : ℕ) (ss : List Symbol) (w v : List ℕ) (ρ τ : List ActionAt) (i₀ : ℕ) (w₀ : List ℕ) (ρ₀ : List ActionAt) → is_none ss ≡ true → Through (Means l g h) ss i w ρ j v τ → Reads h (Nonterminal q ∷ []) i₀ w₀ ρ₀ i w ρ → Reads h (Nonterminal q ∷ []) i₀ w₀ ρ₀ j v τ
 none_read l g h q i j [] w v ρ τ i₀ w₀ ρ₀ e nothing' k = k
 none_read l g h q i j (x ∷ ss) w v ρ τ i₀ w₀ ρ₀ e r k = never e
 
-pub forth_local : (l : List Role) (g h : Table) (q : Role) (n p i j a : ℕ) (ss : List Symbol) (w v : List ℕ) (ρ τ : List Event) → role l n ≡ q → p < length (productions_of g n) → right g n p ≡ ss → forth_test l g h q n ss a ≡ true → bit_at a (ahead w) ≡ 0 → Through (Means l g h) ss i w ρ j v τ → Forth g h q n i w ρ j v τ
+pub forth_local : (l : List Role) (g h : Table) (q : Role) (n p i j a : ℕ) (ss : List Symbol) (w v : List ℕ) (ρ τ : List ActionAt) → role l n ≡ q → p < length (productions_of g n) → right g n p ≡ ss → forth_test l g h q n ss a ≡ true → bit_at a (ahead w) ≡ 0 → Through (Means l g h) ss i w ρ j v τ → Forth g h q n i w ρ j v τ
 forth_local l g h Same n p i j a ss w v ρ τ q below same_side t z r = elim (or_cases (every_part (ordinary l) ss && has (productions_of h n) ss a) (joined l h n ss || spread l g h n [] ss) t) [
   | inl x ↦ let b = and_parts (every_part (ordinary l) ss) (has (productions_of h n) ss a) x in by_one h n ss a b.1 z (closed l g h b.0 r)
   | inr x ↦ elim (or_cases (joined l h n ss) (spread l g h n [] ss) x) [
@@ -161,9 +161,9 @@ abbrev pub all_forth : List Role → Table → Table → Bool
 all_forth l g h = every_production g (λ n r. forth_test l g h (role l n) n r.symbols r.avoid)
 
 -- What the table with tails reads as a part that is no tail and no ends, the other reads.
-pub forth : (l : List Role) (g h : Table) → all_forth l g h ≡ true → (n i j : ℕ) (w v : List ℕ) (ρ τ : List Event) → ordinary l n ≡ true → Reads g (Nonterminal n ∷ []) i w ρ j v τ → Reads h (Nonterminal n ∷ []) i w ρ j v τ
+pub forth : (l : List Role) (g h : Table) → all_forth l g h ≡ true → (n i j : ℕ) (w v : List ℕ) (ρ τ : List ActionAt) → ordinary l n ≡ true → Reads g (Nonterminal n ∷ []) i w ρ j v τ → Reads h (Nonterminal n ∷ []) i w ρ j v τ
 forth l g h t n i j w v ρ τ o r =
-    let locals : (n p i j : ℕ) (w v : List ℕ) (ρ τ : List Event) → Applies g n p w → Through (Means l g h) (right g n p) i w ρ j v τ → Means l g h n i w ρ j v τ
+    let locals : (n p i j : ℕ) (w v : List ℕ) (ρ τ : List ActionAt) → Applies g n p w → Through (Means l g h) (right g n p) i w ρ j v τ → Means l g h n i w ρ j v τ
     = λ n p i j w v ρ τ a x. forth_local l g h (role l n) n p i j (production_of g n p).avoid (right g n p) w v ρ τ refl a.below refl (one_production g (λ n r. forth_test l g h (role l n) n r.symbols r.avoid) n p t a.below) a.allowed x in
     plainly g h (role l n) n i j w v ρ τ o (first_part (Means l g h) n i j w v ρ τ (through g (Means l g h) locals r))
 
@@ -175,7 +175,7 @@ replaced (r ∷ rs) before xs ss = (same ss (before ++ (r.symbols ++ xs)) && r.a
 abbrev pub folds : Table → List Symbol → List Symbol → List Symbol → Bool
 folds g before [] ss = false
 folds g before (Terminal e ∷ xs) ss = folds g (before ++ Terminal e ∷ []) xs ss
-folds g before (Mark m ∷ xs) ss = folds g (before ++ Mark m ∷ []) xs ss
+folds g before (Action m ∷ xs) ss = folds g (before ++ Action m ∷ []) xs ss
 folds g before (Nonterminal t ∷ xs) ss = replaced (productions_of g t) before xs ss || folds g (before ++ Nonterminal t ∷ []) xs ss
 
 abbrev pub gathers : Table → List Production → List Symbol → Bool
@@ -196,13 +196,13 @@ gathers_one g (r ∷ rs) ss h = elim (or_cases (folds g [] r.symbols ss && r.avo
   | inr y ↦ let b = gathers_one g rs ss y in (suc b.0, omega (arith, b.1), b.2, b.3)
 ]
 
-at_once : (g : Table) (n p : ℕ) → p < length (productions_of g n) → (production_of g n p).avoid ≡ 0 → {i j m : ℕ} {ss : List Symbol} {w v u : List ℕ} {ρ τ σ : List Event} → Reads g (right g n p) i w ρ m u σ → Reads g ss m u σ j v τ → Reads g (Nonterminal n ∷ ss) i w ρ j v τ
+at_once : (g : Table) (n p : ℕ) → p < length (productions_of g n) → (production_of g n p).avoid ≡ 0 → {i j m : ℕ} {ss : List Symbol} {w v u : List ℕ} {ρ τ σ : List ActionAt} → Reads g (right g n p) i w ρ m u σ → Reads g ss m u σ j v τ → Reads g (Nonterminal n ∷ ss) i w ρ j v τ
 at_once g n p b a {w = w} r s = part p (record { below = b; allowed = subst (λ c. bit_at c (ahead w) ≡ 0) (sym a) (bit_at-zero (ahead w)) }) r s
 
-folded : (g : Table) (i j : ℕ) (w v : List ℕ) (ρ τ : List Event) (before xs ss : List Symbol) → folds g before xs ss ≡ true → Reads g ss i w ρ j v τ → Reads g (before ++ xs) i w ρ j v τ
+folded : (g : Table) (i j : ℕ) (w v : List ℕ) (ρ τ : List ActionAt) (before xs ss : List Symbol) → folds g before xs ss ≡ true → Reads g ss i w ρ j v τ → Reads g (before ++ xs) i w ρ j v τ
 folded g i j w v ρ τ before [] ss e r = never e
 folded g i j w v ρ τ before (Terminal x ∷ xs) ss e r = subst (λ ys. Reads g ys i w ρ j v τ) (append_assoc before (Terminal x ∷ []) xs) (folded g i j w v ρ τ (before ++ Terminal x ∷ []) xs ss e r)
-folded g i j w v ρ τ before (Mark x ∷ xs) ss e r = subst (λ ys. Reads g ys i w ρ j v τ) (append_assoc before (Mark x ∷ []) xs) (folded g i j w v ρ τ (before ++ Mark x ∷ []) xs ss e r)
+folded g i j w v ρ τ before (Action x ∷ xs) ss e r = subst (λ ys. Reads g ys i w ρ j v τ) (append_assoc before (Action x ∷ []) xs) (folded g i j w v ρ τ (before ++ Action x ∷ []) xs ss e r)
 folded g i j w v ρ τ before (Nonterminal t ∷ xs) ss e r = elim (or_cases (replaced (productions_of g t) before xs ss) (folds g (before ++ Nonterminal t ∷ []) xs ss) e) [
   | inl z ↦
       let b = replaced_one (productions_of g t) before xs ss z in
@@ -213,7 +213,7 @@ folded g i j w v ρ τ before (Nonterminal t ∷ xs) ss e r = elim (or_cases (re
   | inr z ↦ subst (λ ys. Reads g ys i w ρ j v τ) (append_assoc before (Nonterminal t ∷ []) xs) (folded g i j w v ρ τ (before ++ Nonterminal t ∷ []) xs ss z r)
 ]
 
-gathered : (g : Table) (n i j : ℕ) (ss : List Symbol) (w v : List ℕ) (ρ τ : List Event) → gathers g (productions_of g n) ss ≡ true → Reads g ss i w ρ j v τ → Reads g (Nonterminal n ∷ []) i w ρ j v τ
+gathered : (g : Table) (n i j : ℕ) (ss : List Symbol) (w v : List ℕ) (ρ τ : List ActionAt) → gathers g (productions_of g n) ss ≡ true → Reads g ss i w ρ j v τ → Reads g (Nonterminal n ∷ []) i w ρ j v τ
 gathered g n i j ss w v ρ τ e r =
     let b = gathers_one g (productions_of g n) ss e in
     at_once g n b.0 b.1 b.3 (folded g i j w v ρ τ [] (right g n b.0) ss b.2 r) nothing
@@ -247,29 +247,29 @@ back_test g ts bs (suc t) b n ss a = (same ss (Nonterminal b ∷ []) && every_pa
 -- what a part of the left-recursive table means in the one with tails: before its tail it is an operand and a tail
 abbrev pub Back : Table → ℕ → ℕ → ℕ → Span
 Back g zero a n i w ρ j v τ = Reads g (Nonterminal n ∷ []) i w ρ j v τ
-Back g (suc t) a n i w ρ j v τ = (k : ℕ) (x : List ℕ) (υ : List Event) → Reads g (Nonterminal (suc t) ∷ []) j v τ k x υ → Reads g (Nonterminal a ∷ Nonterminal (suc t) ∷ []) i w ρ k x υ
+Back g (suc t) a n i w ρ j v τ = (k : ℕ) (x : List ℕ) (υ : List ActionAt) → Reads g (Nonterminal (suc t) ∷ []) j v τ k x υ → Reads g (Nonterminal a ∷ Nonterminal (suc t) ∷ []) i w ρ k x υ
 
 abbrev pub MeansBack : Table → List ℕ → List ℕ → ℕ → Span
 MeansBack g ts bs n = Back g (heads ts n) (heads bs n) n
 
-close_back : (g : Table) (t a m n i j : ℕ) (w v : List ℕ) (ρ τ : List Event) → close_test g t a n ≡ true → Back g t a m i w ρ j v τ → (t ≡ 0 → m ≡ n) → Reads g (Nonterminal n ∷ []) i w ρ j v τ
+close_back : (g : Table) (t a m n i j : ℕ) (w v : List ℕ) (ρ τ : List ActionAt) → close_test g t a n ≡ true → Back g t a m i w ρ j v τ → (t ≡ 0 → m ≡ n) → Reads g (Nonterminal n ∷ []) i w ρ j v τ
 close_back g zero a m n i j w v ρ τ e x o = subst (λ k. Reads g (Nonterminal k ∷ []) i w ρ j v τ) (o refl) x
 close_back g (suc t) a m n i j w v ρ τ e x o =
     let b = and_parts (has (productions_of g n) (Nonterminal a ∷ Nonterminal (suc t) ∷ []) 0) (has (productions_of g (suc t)) [] 0) e in
     by_one g n (Nonterminal a ∷ Nonterminal (suc t) ∷ []) 0 b.0 (bit_at-zero (ahead w)) (x j v τ (by_one g (suc t) [] 0 b.1 (bit_at-zero (ahead v)) nothing))
 
-closed_back : (g : Table) (ts bs : List ℕ) {i j : ℕ} {ss : List Symbol} {w v : List ℕ} {ρ τ : List Event} → every_part (closes g ts bs) ss ≡ true → Through (MeansBack g ts bs) ss i w ρ j v τ → Reads g ss i w ρ j v τ
+closed_back : (g : Table) (ts bs : List ℕ) {i j : ℕ} {ss : List Symbol} {w v : List ℕ} {ρ τ : List ActionAt} → every_part (closes g ts bs) ss ≡ true → Through (MeansBack g ts bs) ss i w ρ j v τ → Reads g ss i w ρ j v τ
 closed_back g ts bs e r = reads_through g (MeansBack g ts bs) (closes g ts bs) (λ n i j w v ρ τ o x. close_back g (heads ts n) (heads bs n) n n i j w v ρ τ o x (λ _. refl)) e r
 
-lone_part : (g : Table) (t a q n i j : ℕ) (w v : List ℕ) (ρ τ : List Event) → lone_at g t a n ≡ true → Back g t a q i w ρ j v τ → Reads g (Nonterminal n ∷ []) i w ρ j v τ
+lone_part : (g : Table) (t a q n i j : ℕ) (w v : List ℕ) (ρ τ : List ActionAt) → lone_at g t a n ≡ true → Back g t a q i w ρ j v τ → Reads g (Nonterminal n ∷ []) i w ρ j v τ
 lone_part g zero a q n i j w v ρ τ e x = never e
 lone_part g (suc t) a q n i j w v ρ τ e x = close_back g (suc t) a q n i j w v ρ τ e x (λ z. absurd (let y : suc t ≡ 0 = z in cc))
 
-lone_back : (g : Table) (ts bs : List ℕ) (n i j : ℕ) (ss : List Symbol) (w v : List ℕ) (ρ τ : List Event) → lone g ts bs n ss ≡ true → Through (MeansBack g ts bs) ss i w ρ j v τ → Reads g (Nonterminal n ∷ []) i w ρ j v τ
+lone_back : (g : Table) (ts bs : List ℕ) (n i j : ℕ) (ss : List Symbol) (w v : List ℕ) (ρ τ : List ActionAt) → lone g ts bs n ss ≡ true → Through (MeansBack g ts bs) ss i w ρ j v τ → Reads g (Nonterminal n ∷ []) i w ρ j v τ
 lone_back g ts bs n i j (Nonterminal q ∷ []) w v ρ τ e (part' x nothing') = lone_part g (heads ts q) (heads bs q) q n i j w v ρ τ e x
 lone_back g ts bs n i j _ w v ρ τ e r = never e
 
-longer_back : (g : Table) (ts bs : List ℕ) (t b n i j : ℕ) (ss : List Symbol) (w v : List ℕ) (ρ τ : List Event) → heads ts n ≡ suc t → heads bs n ≡ b → lengthens g ts bs (suc t) n ss ≡ true → Through (MeansBack g ts bs) ss i w ρ j v τ → Back g (suc t) b n i w ρ j v τ
+longer_back : (g : Table) (ts bs : List ℕ) (t b n i j : ℕ) (ss : List Symbol) (w v : List ℕ) (ρ τ : List ActionAt) → heads ts n ≡ suc t → heads bs n ≡ b → lengthens g ts bs (suc t) n ss ≡ true → Through (MeansBack g ts bs) ss i w ρ j v τ → Back g (suc t) b n i w ρ j v τ
 longer_back g ts bs t b n i j (Nonterminal m ∷ ss) w v ρ τ et eb e (part' {m = m'} {u = u} {σ = σ} x s) = λ k y υ r.
     let c = and_parts (m == n) (every_part (closes g ts bs) ss && has (productions_of g (suc t)) (ss ++ Nonterminal (suc t) ∷ []) 0) e in
     let d = and_parts (every_part (closes g ts bs) ss) (has (productions_of g (suc t)) (ss ++ Nonterminal (suc t) ∷ []) 0) c.1 in
@@ -280,7 +280,7 @@ longer_back g ts bs t b n i j (Nonterminal m ∷ ss) w v ρ τ et eb e (part' {m
     x₃ k y υ tail
 longer_back g ts bs t b n i j _ w v ρ τ et eb e r = never e
 
-back_local : (g : Table) (ts bs : List ℕ) (t b n i j a : ℕ) (ss : List Symbol) (w v : List ℕ) (ρ τ : List Event) → heads ts n ≡ t → heads bs n ≡ b → back_test g ts bs t b n ss a ≡ true → bit_at a (ahead w) ≡ 0 → Through (MeansBack g ts bs) ss i w ρ j v τ → Back g t b n i w ρ j v τ
+back_local : (g : Table) (ts bs : List ℕ) (t b n i j a : ℕ) (ss : List Symbol) (w v : List ℕ) (ρ τ : List ActionAt) → heads ts n ≡ t → heads bs n ≡ b → back_test g ts bs t b n ss a ≡ true → bit_at a (ahead w) ≡ 0 → Through (MeansBack g ts bs) ss i w ρ j v τ → Back g t b n i w ρ j v τ
 back_local g ts bs zero b n i j a ss w v ρ τ et eb e z r = elim (or_cases (every_part (closes g ts bs) ss && (has (productions_of g n) ss a || gathers g (productions_of g n) ss)) (lone g ts bs n ss) e) [
   | inl x ↦
       let c = and_parts (every_part (closes g ts bs) ss) (has (productions_of g n) ss a || gathers g (productions_of g n) ss) x in
@@ -301,8 +301,8 @@ abbrev pub all_back : List ℕ → List ℕ → Table → Table → Bool
 all_back ts bs g h = every_production h (λ n r. back_test g ts bs (heads ts n) (heads bs n) n r.symbols r.avoid)
 
 -- What the left-recursive table reads, the one with tails reads.
-pub back : (ts bs : List ℕ) (g h : Table) → all_back ts bs g h ≡ true → (n i j : ℕ) (w v : List ℕ) (ρ τ : List Event) → closes g ts bs n ≡ true → Reads h (Nonterminal n ∷ []) i w ρ j v τ → Reads g (Nonterminal n ∷ []) i w ρ j v τ
+pub back : (ts bs : List ℕ) (g h : Table) → all_back ts bs g h ≡ true → (n i j : ℕ) (w v : List ℕ) (ρ τ : List ActionAt) → closes g ts bs n ≡ true → Reads h (Nonterminal n ∷ []) i w ρ j v τ → Reads g (Nonterminal n ∷ []) i w ρ j v τ
 back ts bs g h t n i j w v ρ τ o r =
-    let locals : (n p i j : ℕ) (w v : List ℕ) (ρ τ : List Event) → Applies h n p w → Through (MeansBack g ts bs) (right h n p) i w ρ j v τ → MeansBack g ts bs n i w ρ j v τ
+    let locals : (n p i j : ℕ) (w v : List ℕ) (ρ τ : List ActionAt) → Applies h n p w → Through (MeansBack g ts bs) (right h n p) i w ρ j v τ → MeansBack g ts bs n i w ρ j v τ
     = λ n p i j w v ρ τ a x. back_local g ts bs (heads ts n) (heads bs n) n i j (production_of h n p).avoid (right h n p) w v ρ τ refl refl (one_production h (λ n r. back_test g ts bs (heads ts n) (heads bs n) n r.symbols r.avoid) n p t a.below) a.allowed x in
     close_back g (heads ts n) (heads bs n) n n i j w v ρ τ o (first_part (MeansBack g ts bs) n i j w v ρ τ (through h (MeansBack g ts bs) locals r)) (λ _. refl)

@@ -1,9 +1,9 @@
 -- What the table derives are the sentences of the grammar.
 use Rattle.std.proofs.Common.{◌≡◌, ℕ, ◌+◌, List, ◌++◌, take, Result, Ok, Err, subst}
 use Rattle.std.specs.Prelude.{IfOk}
-use Rattle.sp_parser.specs.declared.symbol.Event.{Event}
+use Rattle.sp_parser.specs.declared.symbol.ActionAt.{ActionAt}
 use Rattle.sp_parser.specs.declared.outcome.Outcome.{Outcome}
-use Rattle.sp_parser.specs.declared.outcome.Outcome.TheVariants.{Text, Refused}
+use Rattle.sp_parser.specs.declared.outcome.Outcome.TheVariants.{Phrase, Refused}
 use Rattle.sp_parser.specs.Grammar.{Derives, IsViable, IsLongestViable}
 use Rattle.sp_parser.specs.Outcome.{IsParsed as IsDerived}
 use Rattle.sp_grammar.specs.declared.language.Start.{Start}
@@ -12,10 +12,10 @@ use Rattle.sp_grammar.specs.Starts.{start_number, part_of}
 use Rattle.sp_grammar.specs.Sentences.{IsSentence, BeginsSentence, IsLongestPrefix, IsParsed}
 use Rattle.sp_grammar.proofs.OwnWords.{read_of_table, table_of_read, start_part}
 
-pub sentence : (start : Start) (w : List ℕ) (τ : List Event) → Derives language (start_number start) w τ → IsSentence start w τ
+pub sentence : (start : Start) (w : List ℕ) (τ : List ActionAt) → Derives language (start_number start) w τ → IsSentence start w τ
 sentence start w τ d = read_of_table (part_of start) (start_part start) w τ d
 
-pub derived : (start : Start) (w : List ℕ) (τ : List Event) → IsSentence start w τ → Derives language (start_number start) w τ
+pub derived : (start : Start) (w : List ℕ) (τ : List ActionAt) → IsSentence start w τ → Derives language (start_number start) w τ
 derived start w τ r = table_of_read (part_of start) (start_part start) w τ r
 
 begins : (start : Start) (w : List ℕ) → IsViable language (start_number start) w → BeginsSentence start w
@@ -33,7 +33,7 @@ longest start w m l = record {
 
 -- what the table's parser answers, by the grammar
 pub parsed : (start : Start) (w : List ℕ) (at : ℕ) (o : Outcome) → IsDerived language (start_number start) w at o → IsParsed start w at o
-parsed start w at (Text events j) (m, behind, l, d) = (m, behind, longest start w m l, sentence start (take m w) events.items d)
+parsed start w at (Phrase actions j) (m, behind, l, d) = (m, behind, longest start w m l, sentence start (take m w) actions.items d)
 parsed start w at (Refused j) (m, behind, l, none) = (m, behind, longest start w m l, λ τ r. none τ (derived start (take m w) τ r))
 
 on_ok : {T E : Type 0} (r : Result T E) (P Q : T → Type 0) → ((t : T) → P t → Q t) → IfOk r P → IfOk r Q

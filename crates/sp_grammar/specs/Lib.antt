@@ -1,5 +1,5 @@
 pub mod Language
-pub mod Marks
+pub mod Actions
 pub mod Own
 pub mod Reads
 pub mod Sentences

@@ -1,21 +1,21 @@
 -- The texts of the language as kinds of tokens, and what begins one, by the grammar in its own words.
 use Rattle.std.specs.Prelude.{◌≡◌, ℕ, ◌+◌, ◌<◌, ◌≤◌, List, ◌++◌, length, take}
-use Rattle.sp_parser.specs.declared.symbol.Event.{Event}
+use Rattle.sp_parser.specs.declared.symbol.ActionAt.{ActionAt}
 use Rattle.sp_parser.specs.declared.outcome.Outcome.{Outcome}
-use Rattle.sp_parser.specs.declared.outcome.Outcome.TheVariants.{Text, Refused}
+use Rattle.sp_parser.specs.declared.outcome.Outcome.TheVariants.{Phrase, Refused}
 use Rattle.sp_parser.specs.Grammar.{AreKinds}
 use Rattle.sp_grammar.specs.declared.language.Start.{Start}
 use Rattle.sp_grammar.specs.Own.{own}
 use Rattle.sp_grammar.specs.Reads.{IsRead}
 use Rattle.sp_grammar.specs.Starts.{start_number}
 
--- the grammar reads all these kinds as a module, a type, a statement or an expression, and passes these marks
-abbrev pub IsSentence : Start → List ℕ → List Event → Type 0
-IsSentence start kinds marks = IsRead own (start_number start) kinds marks
+-- the grammar reads all these kinds as a module, a type, a statement or an expression, and passes these actions
+abbrev pub IsSentence : Start → List ℕ → List ActionAt → Type 0
+IsSentence start kinds actions = IsRead own (start_number start) kinds actions
 
 -- some sentence of this kind begins with the kinds
 abbrev pub BeginsSentence : Start → List ℕ → Type 0
-BeginsSentence start kinds = (more : List ℕ) × (marks : List Event) × AreKinds more × IsSentence start (kinds ++ more) marks
+BeginsSentence start kinds = (more : List ℕ) × (actions : List ActionAt) × AreKinds more × IsSentence start (kinds ++ more) actions
 
 -- the first m kinds begin some sentence of this kind, and no more of them do
 pub record IsLongestPrefix (start : Start) (kinds : List ℕ) (m : ℕ) : Type 0 where
@@ -23,8 +23,8 @@ pub record IsLongestPrefix (start : Start) (kinds : List ℕ) (m : ℕ) : Type 0
   pub begins : BeginsSentence start (take m kinds)
   pub stops : m < length kinds → ¬ BeginsSentence start (take (m + 1) kinds)
 
--- What is made of the kinds from place `at` on: the marks of their longest prefix, if it is a sentence, and else the place
+-- What is made of the kinds from place `at` on: the actions of their longest prefix, if it is a sentence, and else the place
 -- behind it.
 abbrev pub IsParsed : Start → List ℕ → ℕ → Outcome → Type 0
-IsParsed start kinds at (Text events j) = (m : ℕ) × (j ≡ at + m) × IsLongestPrefix start kinds m × IsSentence start (take m kinds) events.items
-IsParsed start kinds at (Refused j) = (m : ℕ) × (j ≡ at + m) × IsLongestPrefix start kinds m × ((marks : List Event) → ¬ IsSentence start (take m kinds) marks)
+IsParsed start kinds at (Phrase actions j) = (m : ℕ) × (j ≡ at + m) × IsLongestPrefix start kinds m × IsSentence start (take m kinds) actions.items
+IsParsed start kinds at (Refused j) = (m : ℕ) × (j ≡ at + m) × IsLongestPrefix start kinds m × ((actions : List ActionAt) → ¬ IsSentence start (take m kinds) actions)

@@ -1,13 +1,13 @@
--- The parts of the grammar by their numbers, and tokens, parts and marks as symbols, which a script writes from
+-- The parts of the grammar by their numbers, and tokens, parts and actions as symbols, which a script writes from
 -- tools/grammar.txt.
 use Rattle.std.specs.Prelude.{ℕ, List, [], ◌∷◌}
 use Rattle.sp_parser.specs.declared.symbol.Symbol.{Symbol}
 use Rattle.sp_parser.specs.declared.symbol.Symbol.TheVariants as symbol
 use Rattle.sp_parser.specs.Grammar.{CLOSE}
 use Rattle.sp_grammar.specs.declared.terminals.Terminal.{Terminal}
-use Rattle.sp_grammar.specs.declared.marks.Mark.{Mark}
+use Rattle.sp_grammar.specs.declared.actions.Action.{Action}
 use Rattle.sp_grammar.specs.Terminals.{terminal_number}
-use Rattle.sp_grammar.specs.Marks.{mark_number}
+use Rattle.sp_grammar.specs.Actions.{action_number}
 
 -- a part of the grammar
 pub data Part : Type 0 where
@@ -141,5 +141,5 @@ abbrev pub part : Part → Symbol
 part p = symbol.Nonterminal (part_number p)
 
 -- the place at which this is built
-abbrev pub mark : Mark → Symbol
-mark m = symbol.Mark (mark_number m)
+abbrev pub action : Action → Symbol
+action m = symbol.Action (action_number m)

@@ -3,213 +3,37 @@ ghost use Rattle.std.specs.Prelude.{◌≡◌, ◌<◌};
 ghost use Rattle.sp_grammar.specs.Terminals.{terminal_number};
 ghost use Rattle.sp_parser.specs.Grammar.{SECOND};
 
+use sp_words::{Keyword, Property, Punctuation};
+
 /// A kind of token.
 #[derive(Clone, Copy)]
 pub enum Terminal {
-    /// `module`
-    Module,
+    /// A reserved word.
+    Keyword(Keyword),
     /// A name.
     Id,
-    /// `;`
-    Semicolon,
-    /// `import`
-    Import,
-    /// `%byte-order`
-    ByteOrderProperty,
-    /// `=`
-    Equal,
-    /// `%spicy-version`
-    SpicyVersionProperty,
-    /// A text in quotes.
-    Text,
-    /// `public`
-    Public,
-    /// `type`
-    Type,
-    /// `const`
-    Const,
-    /// `function`
-    Function,
-    /// `(`
-    LeftParen,
-    /// `)`
-    RightParen,
-    /// `on`
-    On,
-    /// `::`
-    ColonColon,
-    /// The event of a hook.
-    Event,
-    /// `:`
-    Colon,
-    /// `foreach`
-    Foreach,
+    /// Punctuation, a bracket or an operator.
+    Punctuation(Punctuation),
+    /// A property.
+    Property(Property),
+    /// A string literal.
+    String,
+    /// The name of a hook, as `%init`.
+    Hook,
     /// `&priority`
     Priority,
-    /// `,`
-    Comma,
-    /// `inout`
-    Inout,
     /// The word of an integer type.
     IntWord,
-    /// `bool`
-    Bool,
-    /// `bytes`
-    Bytes,
-    /// `string`
-    String,
-    /// `void`
-    Void,
-    /// `tuple`
-    Tuple,
-    /// `<`
-    Less,
-    /// `vector`
-    Vector,
-    /// `set`
-    Set,
-    /// `map`
-    Map,
-    /// `enum`
-    Enum,
-    /// `{`
-    LeftBrace,
-    /// `}`
-    RightBrace,
-    /// `bitfield`
-    Bitfield,
     /// A number.
     Number,
-    /// `unit`
-    Unit,
-    /// `..`
-    DotDot,
-    /// `%filter`
-    FilterProperty,
-    /// `%mime-type`
-    MimeTypeProperty,
-    /// `%description`
-    DescriptionProperty,
-    /// `var`
-    Var,
-    /// `sink`
-    Sink,
-    /// `switch`
-    Switch,
-    /// `*`
-    Star,
-    /// `->`
-    Arrow,
-    /// `[`
-    LeftBracket,
-    /// `]`
-    RightBracket,
     /// An attribute other than `&priority`.
     Attribute,
-    /// `if`
-    If,
-    /// Bytes in quotes.
-    ByteText,
+    /// A bytes literal.
+    Bytes,
     /// A regular expression.
     Regex,
-    /// `else`
-    Else,
-    /// `local`
-    Local,
-    /// `while`
-    While,
-    /// `for`
-    For,
-    /// `in`
-    In,
-    /// `return`
-    Return,
-    /// `break`
-    Break,
-    /// `continue`
-    Continue,
-    /// `stop`
-    Stop,
-    /// `confirm`
-    Confirm,
-    /// `reject`
-    Reject,
-    /// `print`
-    Print,
-    /// `throw`
-    Throw,
-    /// `assert`
-    Assert,
-    /// `add`
-    Add,
-    /// `delete`
-    Delete,
-    /// `case`
-    Case,
-    /// `default`
-    Default,
-    /// `+=`
-    PlusEqual,
-    /// `-=`
-    MinusEqual,
-    /// `?`
-    Question,
-    /// `||`
-    OrOr,
-    /// `&&`
-    AndAnd,
-    /// `!in`
-    NotIn,
-    /// `==`
-    EqualEqual,
-    /// `!=`
-    NotEqual,
-    /// `<=`
-    LessEqual,
-    /// `>=`
-    GreaterEqual,
-    /// `|`
-    Bar,
-    /// `^`
-    Caret,
-    /// `&`
-    Ampersand,
-    /// `<<`
-    ShiftLeft,
-    /// `+`
-    Plus,
-    /// `-`
-    Minus,
-    /// `/`
-    Slash,
-    /// `%`
-    Percent,
-    /// `!`
-    Bang,
-    /// `~`
-    Tilde,
-    /// `.`
-    Dot,
-    /// `?.`
-    QuestionDot,
-    /// `skip`
+    /// `skip`, a word out of profile that names a member.
     Skip,
-    /// `self`
-    Itself,
-    /// `$$`
-    DollarDollar,
-    /// `True`
-    True,
-    /// `False`
-    False,
-    /// `cast`
-    Cast,
-    /// `new`
-    New,
-    /// `>`
-    Greater,
-    /// `>>`
-    ShiftRight,
 }
 
 impl Terminal {
@@ -219,108 +43,108 @@ impl Terminal {
         ensures kind { result < SECOND }
     {
         match self {
-            Terminal::Module => 0,
+            Terminal::Keyword(Keyword::Module) => 0,
             Terminal::Id => 1,
-            Terminal::Semicolon => 2,
-            Terminal::Import => 3,
-            Terminal::ByteOrderProperty => 4,
-            Terminal::Equal => 5,
-            Terminal::SpicyVersionProperty => 6,
-            Terminal::Text => 7,
-            Terminal::Public => 8,
-            Terminal::Type => 9,
-            Terminal::Const => 10,
-            Terminal::Function => 11,
-            Terminal::LeftParen => 12,
-            Terminal::RightParen => 13,
-            Terminal::On => 14,
-            Terminal::ColonColon => 15,
-            Terminal::Event => 16,
-            Terminal::Colon => 17,
-            Terminal::Foreach => 18,
+            Terminal::Punctuation(Punctuation::Semicolon) => 2,
+            Terminal::Keyword(Keyword::Import) => 3,
+            Terminal::Property(Property::ByteOrder) => 4,
+            Terminal::Punctuation(Punctuation::Equal) => 5,
+            Terminal::Property(Property::SpicyVersion) => 6,
+            Terminal::String => 7,
+            Terminal::Keyword(Keyword::Public) => 8,
+            Terminal::Keyword(Keyword::Type) => 9,
+            Terminal::Keyword(Keyword::Const) => 10,
+            Terminal::Keyword(Keyword::Function) => 11,
+            Terminal::Punctuation(Punctuation::LeftParen) => 12,
+            Terminal::Punctuation(Punctuation::RightParen) => 13,
+            Terminal::Keyword(Keyword::On) => 14,
+            Terminal::Punctuation(Punctuation::ColonColon) => 15,
+            Terminal::Hook => 16,
+            Terminal::Punctuation(Punctuation::Colon) => 17,
+            Terminal::Keyword(Keyword::Foreach) => 18,
             Terminal::Priority => 19,
-            Terminal::Comma => 20,
-            Terminal::Inout => 21,
+            Terminal::Punctuation(Punctuation::Comma) => 20,
+            Terminal::Keyword(Keyword::Inout) => 21,
             Terminal::IntWord => 22,
-            Terminal::Bool => 23,
-            Terminal::Bytes => 24,
-            Terminal::String => 25,
-            Terminal::Void => 26,
-            Terminal::Tuple => 27,
-            Terminal::Less => 28,
-            Terminal::Vector => 29,
-            Terminal::Set => 30,
-            Terminal::Map => 31,
-            Terminal::Enum => 32,
-            Terminal::LeftBrace => 33,
-            Terminal::RightBrace => 34,
-            Terminal::Bitfield => 35,
+            Terminal::Keyword(Keyword::Bool) => 23,
+            Terminal::Keyword(Keyword::Bytes) => 24,
+            Terminal::Keyword(Keyword::String) => 25,
+            Terminal::Keyword(Keyword::Void) => 26,
+            Terminal::Keyword(Keyword::Tuple) => 27,
+            Terminal::Punctuation(Punctuation::Less) => 28,
+            Terminal::Keyword(Keyword::Vector) => 29,
+            Terminal::Keyword(Keyword::Set) => 30,
+            Terminal::Keyword(Keyword::Map) => 31,
+            Terminal::Keyword(Keyword::Enum) => 32,
+            Terminal::Punctuation(Punctuation::LeftBrace) => 33,
+            Terminal::Punctuation(Punctuation::RightBrace) => 34,
+            Terminal::Keyword(Keyword::Bitfield) => 35,
             Terminal::Number => 36,
-            Terminal::Unit => 37,
-            Terminal::DotDot => 38,
-            Terminal::FilterProperty => 39,
-            Terminal::MimeTypeProperty => 40,
-            Terminal::DescriptionProperty => 41,
-            Terminal::Var => 42,
-            Terminal::Sink => 43,
-            Terminal::Switch => 44,
-            Terminal::Star => 45,
-            Terminal::Arrow => 46,
-            Terminal::LeftBracket => 47,
-            Terminal::RightBracket => 48,
+            Terminal::Keyword(Keyword::Unit) => 37,
+            Terminal::Punctuation(Punctuation::DotDot) => 38,
+            Terminal::Property(Property::Filter) => 39,
+            Terminal::Property(Property::MimeType) => 40,
+            Terminal::Property(Property::Description) => 41,
+            Terminal::Keyword(Keyword::Var) => 42,
+            Terminal::Keyword(Keyword::Sink) => 43,
+            Terminal::Keyword(Keyword::Switch) => 44,
+            Terminal::Punctuation(Punctuation::Star) => 45,
+            Terminal::Punctuation(Punctuation::Arrow) => 46,
+            Terminal::Punctuation(Punctuation::LeftBracket) => 47,
+            Terminal::Punctuation(Punctuation::RightBracket) => 48,
             Terminal::Attribute => 49,
-            Terminal::If => 50,
-            Terminal::ByteText => 51,
+            Terminal::Keyword(Keyword::If) => 50,
+            Terminal::Bytes => 51,
             Terminal::Regex => 52,
-            Terminal::Else => 53,
-            Terminal::Local => 54,
-            Terminal::While => 55,
-            Terminal::For => 56,
-            Terminal::In => 57,
-            Terminal::Return => 58,
-            Terminal::Break => 59,
-            Terminal::Continue => 60,
-            Terminal::Stop => 61,
-            Terminal::Confirm => 62,
-            Terminal::Reject => 63,
-            Terminal::Print => 64,
-            Terminal::Throw => 65,
-            Terminal::Assert => 66,
-            Terminal::Add => 67,
-            Terminal::Delete => 68,
-            Terminal::Case => 69,
-            Terminal::Default => 70,
-            Terminal::PlusEqual => 71,
-            Terminal::MinusEqual => 72,
-            Terminal::Question => 73,
-            Terminal::OrOr => 74,
-            Terminal::AndAnd => 75,
-            Terminal::NotIn => 76,
-            Terminal::EqualEqual => 77,
-            Terminal::NotEqual => 78,
-            Terminal::LessEqual => 79,
-            Terminal::GreaterEqual => 80,
-            Terminal::Bar => 81,
-            Terminal::Caret => 82,
-            Terminal::Ampersand => 83,
-            Terminal::ShiftLeft => 84,
-            Terminal::Plus => 85,
-            Terminal::Minus => 86,
-            Terminal::Slash => 87,
-            Terminal::Percent => 88,
-            Terminal::Bang => 89,
-            Terminal::Tilde => 90,
-            Terminal::Dot => 91,
-            Terminal::QuestionDot => 92,
+            Terminal::Keyword(Keyword::Else) => 53,
+            Terminal::Keyword(Keyword::Local) => 54,
+            Terminal::Keyword(Keyword::While) => 55,
+            Terminal::Keyword(Keyword::For) => 56,
+            Terminal::Keyword(Keyword::In) => 57,
+            Terminal::Keyword(Keyword::Return) => 58,
+            Terminal::Keyword(Keyword::Break) => 59,
+            Terminal::Keyword(Keyword::Continue) => 60,
+            Terminal::Keyword(Keyword::Stop) => 61,
+            Terminal::Keyword(Keyword::Confirm) => 62,
+            Terminal::Keyword(Keyword::Reject) => 63,
+            Terminal::Keyword(Keyword::Print) => 64,
+            Terminal::Keyword(Keyword::Throw) => 65,
+            Terminal::Keyword(Keyword::Assert) => 66,
+            Terminal::Keyword(Keyword::Add) => 67,
+            Terminal::Keyword(Keyword::Delete) => 68,
+            Terminal::Keyword(Keyword::Case) => 69,
+            Terminal::Keyword(Keyword::Default) => 70,
+            Terminal::Punctuation(Punctuation::PlusEqual) => 71,
+            Terminal::Punctuation(Punctuation::MinusEqual) => 72,
+            Terminal::Punctuation(Punctuation::Question) => 73,
+            Terminal::Punctuation(Punctuation::OrOr) => 74,
+            Terminal::Punctuation(Punctuation::AndAnd) => 75,
+            Terminal::Punctuation(Punctuation::NotIn) => 76,
+            Terminal::Punctuation(Punctuation::EqualEqual) => 77,
+            Terminal::Punctuation(Punctuation::NotEqual) => 78,
+            Terminal::Punctuation(Punctuation::LessEqual) => 79,
+            Terminal::Punctuation(Punctuation::GreaterEqual) => 80,
+            Terminal::Punctuation(Punctuation::Bar) => 81,
+            Terminal::Punctuation(Punctuation::Caret) => 82,
+            Terminal::Punctuation(Punctuation::Ampersand) => 83,
+            Terminal::Punctuation(Punctuation::ShiftLeft) => 84,
+            Terminal::Punctuation(Punctuation::Plus) => 85,
+            Terminal::Punctuation(Punctuation::Minus) => 86,
+            Terminal::Punctuation(Punctuation::Slash) => 87,
+            Terminal::Punctuation(Punctuation::Percent) => 88,
+            Terminal::Punctuation(Punctuation::Bang) => 89,
+            Terminal::Punctuation(Punctuation::Tilde) => 90,
+            Terminal::Punctuation(Punctuation::Dot) => 91,
+            Terminal::Punctuation(Punctuation::QuestionDot) => 92,
             Terminal::Skip => 93,
-            Terminal::Itself => 94,
-            Terminal::DollarDollar => 95,
-            Terminal::True => 96,
-            Terminal::False => 97,
-            Terminal::Cast => 98,
-            Terminal::New => 99,
-            Terminal::Greater => 120,
-            Terminal::ShiftRight => 121,
+            Terminal::Keyword(Keyword::Itself) => 94,
+            Terminal::Punctuation(Punctuation::DollarDollar) => 95,
+            Terminal::Keyword(Keyword::True) => 96,
+            Terminal::Keyword(Keyword::False) => 97,
+            Terminal::Keyword(Keyword::Cast) => 98,
+            Terminal::Keyword(Keyword::New) => 99,
+            Terminal::Punctuation(Punctuation::Greater) => 120,
+            Terminal::Punctuation(Punctuation::ShiftRight) => 121,
         }
     }
 }

@@ -3,10 +3,11 @@ ghost use Rattle.std.specs.Prelude.{map};
 ghost use Rattle.sp_grammar.specs.Terminals.{terminal_number};
 ghost use Rattle.sp_grammar.specs.TerminalKinds.{terminals_are_kinds};
 
-use crate::Terminal::{Break, Id, Less, Number, Plus, Semicolon, ShiftRight, Star, Vector};
+use crate::Terminal::{Id, Number};
 use crate::{Start, Terminal, parse_kinds};
 use sp_base::NoMemory;
 use sp_parser::{Kinds, Outcome};
+use sp_words::{Keyword, Punctuation};
 use std::alloc::Global;
 
 /// Tokens of which no more is known than their terminals.
@@ -38,7 +39,7 @@ impl<'a> Kinds for Terminals<'a> {
 /// The place after the longest run, and whether the run is a text.
 fn found(alloc: Global, start: Start, tokens: &[Terminal]) -> Result<(usize, bool), NoMemory> {
     match parse_kinds(alloc, start, &Terminals { list: tokens }, 0)? {
-        Outcome::Text(_, at) => Ok((at, true)),
+        Outcome::Phrase(_, at) => Ok((at, true)),
         Outcome::Refused(at) => Ok((at, false)),
     }
 }
@@ -46,11 +47,27 @@ fn found(alloc: Global, start: Start, tokens: &[Terminal]) -> Result<(usize, boo
 #[test]
 fn takes_the_longest_run(rt: HostRuntime) -> Result<(), NoMemory> {
     let alloc = rt.alloc();
-    let sum = [Id, Plus, Number, Star, Id];
+    let plus = Terminal::Punctuation(Punctuation::Plus);
+    let star = Terminal::Punctuation(Punctuation::Star);
+    let sum = [Id, plus, Number, star, Id];
     assert!(rt; found(alloc, Start::Expr, &sum)? == (5, true));
-    assert!(rt; found(alloc, Start::Expr, &[Id, Plus, Star])? == (2, false));
-    let nested = [Vector, Less, Vector, Less, Id, ShiftRight];
+    assert!(rt; found(alloc, Start::Expr, &[Id, plus, star])? == (2, false));
+    let vector = Terminal::Keyword(Keyword::Vector);
+    let less = Terminal::Punctuation(Punctuation::Less);
+    let nested = [
+        vector,
+        less,
+        vector,
+        less,
+        Id,
+        Terminal::Punctuation(Punctuation::ShiftRight),
+    ];
     assert!(rt; found(alloc, Start::Type, &nested)? == (6, true));
-    assert!(rt; found(alloc, Start::Stmt, &[Break, Semicolon, Id])? == (2, true));
+    let stmt = [
+        Terminal::Keyword(Keyword::Break),
+        Terminal::Punctuation(Punctuation::Semicolon),
+        Id,
+    ];
+    assert!(rt; found(alloc, Start::Stmt, &stmt)? == (2, true));
     Ok(())
 }

@@ -1,4 +1,4 @@
--- What stands between the marks of a literal.
+-- What stands between the delimiters of a literal.
 use Rattle.std.proofs.Common.{◌≡◌, ℕ, zero, suc, ◌+◌, ◌-◌, ◌<◌, ◌≤◌, ◌⊎◌, inl, inr, List, [], ◌∷◌, length, get_or, take, Bool, true, false, ◌&&◌, ◌==◌, cond, nat_lt, Option, Some, None, option_map, sym, refl, ap, subst, ◌∙◌, arith}
 use Rattle.std.proofs.lemmas.Bool.{eqb-true}
 use Rattle.std.specs.Char.{is_ascii_digit, is_ascii_hexdigit}

@@ -1,4 +1,4 @@
--- Where a token stands, no token of marks is longer.
+-- Where a token stands, no token of punctuation is longer.
 use Rattle.std.proofs.Common.{◌≡◌, ℕ, zero, suc, ◌+◌, ◌-◌, ◌<◌, ◌≤◌, List, [], ◌∷◌, length, get_or, drop, Bool, true, false, ◌&&◌, ◌==◌, cond, nat_lt, nat_eq, Option, Some, None, sym, refl, ap, subst, ◌∙◌, arith}
 use Rattle.std.specs.List.{AllByRecursion, starts_with}
 use Rattle.std.proofs.lemmas.Bool.{ltb-true, ltb-false, eqb-true, true≢false}
@@ -58,20 +58,20 @@ same_first [] text h e = absurd (omega arith)
 same_first (b ∷ bs) [] h e = cc
 same_first (b ∷ bs) (c ∷ cs) h e = eqb-true b c (both (nat_eq b c) _ e).0
 
--- what a token of marks can begin with
-abbrev is_mark : Start → Bool
-is_mark start.Slash = true
-is_mark start.Sign = true
-is_mark _ = false
+-- what a token of punctuation can begin with
+abbrev is_punctuation : Start → Bool
+is_punctuation start.Slash = true
+is_punctuation start.Sign = true
+is_punctuation _ = false
 
 abbrev first_of : TokenKind → Start
 first_of kind = start_of (get_or (spelling kind) 0 0)
 
-abbrev all_marks : List TokenKind → Bool
-all_marks [] = true
-all_marks (kind ∷ kinds) = nat_lt 0 (len kind) && (is_mark (first_of kind) && all_marks kinds)
+abbrev all_punctuation : List TokenKind → Bool
+all_punctuation [] = true
+all_punctuation (kind ∷ kinds) = nat_lt 0 (len kind) && (is_punctuation (first_of kind) && all_punctuation kinds)
 
--- the division is the one token of marks that begins with a slash
+-- the division is the one token of punctuation that begins with a slash
 abbrev is_short : Start → ℕ → Bool
 is_short start.Slash n = nat_lt n 2
 is_short _ n = true
@@ -84,12 +84,12 @@ module _ (text : List ℕ) where
   first_stands : (kind : TokenKind) → 0 < len kind → stands kind text ≡ true → first_of kind ≡ start_of (get_or text 0 0)
   first_stands kind h e = ap start_of (same_first (spelling kind) text h (both (starts_with nat_eq text (spelling kind)) _ e).0)
 
-  none_stands : (kinds : List TokenKind) (n : ℕ) → all_marks kinds ≡ true → is_mark (start_of (get_or text 0 0)) ≡ false → AllByRecursion (λ kind. stands kind text ≡ true → len kind ≤ n) kinds
+  none_stands : (kinds : List TokenKind) (n : ℕ) → all_punctuation kinds ≡ true → is_punctuation (start_of (get_or text 0 0)) ≡ false → AllByRecursion (λ kind. stands kind text ≡ true → len kind ≤ n) kinds
   none_stands [] n all other = tt
   none_stands (kind ∷ kinds) n all other =
-      let one = both (nat_lt 0 (len kind)) (is_mark (first_of kind) && all_marks kinds) all in
-      let two = both (is_mark (first_of kind)) (all_marks kinds) one.1 in
-      (λ h. let same = ap is_mark (first_stands kind (ltb-true 0 (len kind) one.0) h) in absurd (true≢false (sym two.0 ∙ same ∙ other)), none_stands kinds n two.1 other)
+      let one = both (nat_lt 0 (len kind)) (is_punctuation (first_of kind) && all_punctuation kinds) all in
+      let two = both (is_punctuation (first_of kind)) (all_punctuation kinds) one.1 in
+      (λ h. let same = ap is_punctuation (first_stands kind (ltb-true 0 (len kind) one.0) h) in absurd (true≢false (sym two.0 ∙ same ∙ other)), none_stands kinds n two.1 other)
 
   slash_stands : (kinds : List TokenKind) (n : ℕ) → all_short kinds ≡ true → start_of (get_or text 0 0) ≡ start.Slash → 1 < n → AllByRecursion (λ kind. stands kind text ≡ true → len kind ≤ n) kinds
   slash_stands [] n all slash long = tt
@@ -134,9 +134,9 @@ longest_from : (s : Start) (divides : Bool) (text : List ℕ) (kind : TokenKind)
 unfolding sign_at literal_at literal_len longest_sign
 longest_from start.Space divides text kind n e h = cc
 longest_from start.Comment divides text kind n e h = cc
-longest_from start.Letter divides text kind n e h = none_stands text signs n refl (ap is_mark e)
-longest_from start.Digit divides text kind n e h = none_stands text signs n refl (ap is_mark e)
-longest_from start.Quote divides text kind n e h = none_stands text signs n refl (ap is_mark e)
+longest_from start.Letter divides text kind n e h = none_stands text signs n refl (ap is_punctuation e)
+longest_from start.Digit divides text kind n e h = none_stands text signs n refl (ap is_punctuation e)
+longest_from start.Quote divides text kind n e h = none_stands text signs n refl (ap is_punctuation e)
 longest_from start.Slash true text kind n e h = sign_longest text kind n (longest_of text None signs) refl h
 longest_from start.Slash false text kind n e h = regex_longest text kind n (literal_end form.Regex 1 0 (drop 1 text)) refl h e
 longest_from start.Sign divides text kind n e h = sign_longest text kind n (longest_of text None signs) refl h

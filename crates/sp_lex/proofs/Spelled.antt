@@ -1,4 +1,4 @@
--- Tokens of marks have at least one byte.
+-- Tokens of punctuation have at least one byte.
 use Rattle.std.proofs.Common.{◌≡◌, ℕ, ◌<◌, List, [], ◌∷◌, length, Bool, true, false, ◌&&◌, cond, nat_lt, Option, Some, None, refl}
 use Rattle.std.specs.Prelude.{IfSome}
 use borrow.Author.Tests.{ltb-true}

@@ -67,7 +67,7 @@ module _ (text : List ℕ) where
       let same = (bytes_decides (spelling found) (take (length (spelling found)) text)).0 (both (starts_with nat_eq text (spelling found)) _ there).0 in
       λ some. ap (λ m. take m text) (sym is_len) ∙ sym same ∙ ap spelling is_kind
 
-  -- the text of the longest token of marks stands there
+  -- the text of the longest token of punctuation stands there
   pub sign_stands : (kind : TokenKind) → longest_of text None signs ≡ Some kind → take (length (spelling kind)) text ≡ spelling kind
   sign_stands kind e =
       let there : stands kind text ≡ true = subst Stands e (longest_stands signs None tt) in

@@ -10,7 +10,7 @@ use Rattle.sp_lex.specs.declared.elements.Element.{Element}
 use Rattle.sp_lex.specs.declared.elements.Element.TheVariants as element
 use Rattle.sp_lex.specs.declared.elements.Start.{Start}
 use Rattle.sp_lex.specs.declared.elements.Start.TheVariants as start
-use Rattle.sp_lex.specs.declared.kinds.Mark.TheVariants as mark
+use Rattle.sp_words.specs.declared.punctuation.Punctuation.TheVariants as punctuation
 use Rattle.sp_lex.specs.declared.kinds.TokenKind.{TokenKind}
 use Rattle.sp_lex.specs.declared.kinds.TokenKind.TheVariants as token
 use Rattle.sp_lex.specs.declared.literals.Form.{Form}
@@ -23,10 +23,10 @@ ends_operand token.Id = true
 ends_operand token.Number = true
 ends_operand token.String = true
 ends_operand token.Bytes = true
-ends_operand (token.Mark mark.DollarDollar) = true
-ends_operand (token.Mark mark.RightParen) = true
-ends_operand (token.Mark mark.RightBracket) = true
-ends_operand (token.Mark mark.Bar) = true
+ends_operand (token.Punctuation punctuation.DollarDollar) = true
+ends_operand (token.Punctuation punctuation.RightParen) = true
+ends_operand (token.Punctuation punctuation.RightBracket) = true
+ends_operand (token.Punctuation punctuation.Bar) = true
 ends_operand _ = false
 
 -- what a first byte can begin
@@ -55,7 +55,7 @@ token_of kind (Some n) = element.Token kind n
 unfoldable pub literal_at : Form → List ℕ → Element
 literal_at form text = token_of (form_kind form) (literal_len form text)
 
--- the longest token of marks
+-- the longest token of punctuation
 abbrev pub sign_of : Option TokenKind → Element
 sign_of None = element.Bad
 sign_of (Some kind) = element.Token kind (length (spelling kind))

@@ -54,7 +54,7 @@ bytes_of text token = slice_range text token.span.from token.span.to
 abbrev pub HasItsText : List ℕ → Token → Type 0
 HasItsText text token = 0 < length (spelling token.kind) → bytes_of text token ≡ spelling token.kind
 
--- no token of marks that stands where the token begins is longer than it
+-- no token of punctuation that stands where the token begins is longer than it
 unfoldable pub IsLongest : List ℕ → Token → Type 0
 IsLongest text token = AllByRecursion (λ kind. stands kind (drop token.span.from text) ≡ true → token.span.from + length (spelling kind) ≤ token.span.to) signs
 

@@ -11,6 +11,7 @@ use Rattle.sp_lex.specs.declared.kinds.TokenKind.TheVariants as token
 -- the name of an attribute is not followed by a letter, a digit or _
 abbrev pub is_whole_name : TokenKind → Bool
 is_whole_name (token.Attribute _) = true
+is_whole_name token.Priority = true
 is_whole_name (token.Absent absent.ChunkedAttribute) = true
 is_whole_name _ = false
 
@@ -28,7 +29,7 @@ abbrev pub longest_of : List ℕ → Option TokenKind → List TokenKind → Opt
 longest_of text found [] = found
 longest_of text found (kind ∷ kinds) = longest_of text (longer text found kind) kinds
 
--- the longest token of marks with which the text begins
+-- the longest token of punctuation with which the text begins
 unfoldable pub longest_sign : List ℕ → Option TokenKind
 longest_sign text = longest_of text None signs
 

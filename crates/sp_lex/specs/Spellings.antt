@@ -1,161 +1,18 @@
 -- How the tokens with a fixed text are written.
 use Rattle.std.specs.Prelude.{ℕ, List, [], ◌∷◌, codes}
-use Rattle.sp_lex.specs.declared.kinds.Keyword.{Keyword}
-use Rattle.sp_lex.specs.declared.kinds.Keyword.TheVariants as keyword
-use Rattle.sp_lex.specs.declared.kinds.Mark.{Mark}
-use Rattle.sp_lex.specs.declared.kinds.Mark.TheVariants as mark
-use Rattle.sp_lex.specs.declared.kinds.Attribute.{Attribute}
-use Rattle.sp_lex.specs.declared.kinds.Attribute.TheVariants as attribute
-use Rattle.sp_lex.specs.declared.kinds.Property.{Property}
-use Rattle.sp_lex.specs.declared.kinds.Property.TheVariants as property
-use Rattle.sp_lex.specs.declared.kinds.Hook.{Hook}
-use Rattle.sp_lex.specs.declared.kinds.Hook.TheVariants as hook
+use Rattle.sp_words.specs.Keywords.{keyword_text}
+use Rattle.sp_words.specs.Punctuation.{punctuation_text}
+use Rattle.sp_words.specs.Words.{integer_text, attribute_text, property_text, hook_text}
+use Rattle.sp_words.specs.declared.keywords.Keyword.TheVariants as keyword
+use Rattle.sp_words.specs.declared.punctuation.Punctuation.TheVariants as punctuation
+use Rattle.sp_words.specs.declared.words.Property.TheVariants as property
+use Rattle.sp_words.specs.declared.words.IntWord.TheVariants as int
+use Rattle.sp_words.specs.declared.words.AttributeName.TheVariants as attribute
+use Rattle.sp_words.specs.declared.words.HookName.TheVariants as hook
 use Rattle.sp_lex.specs.declared.kinds.Absent.{Absent}
 use Rattle.sp_lex.specs.declared.kinds.Absent.TheVariants as absent
 use Rattle.sp_lex.specs.declared.kinds.TokenKind.{TokenKind}
 use Rattle.sp_lex.specs.declared.kinds.TokenKind.TheVariants as token
-
--- the reserved words
-abbrev pub keyword_text : Keyword → List ℕ
-keyword_text keyword.Module = codes "module"
-keyword_text keyword.Import = codes "import"
-keyword_text keyword.Public = codes "public"
-keyword_text keyword.Type = codes "type"
-keyword_text keyword.Const = codes "const"
-keyword_text keyword.Function = codes "function"
-keyword_text keyword.On = codes "on"
-keyword_text keyword.Inout = codes "inout"
-keyword_text keyword.Unit = codes "unit"
-keyword_text keyword.Enum = codes "enum"
-keyword_text keyword.Bitfield = codes "bitfield"
-keyword_text keyword.Tuple = codes "tuple"
-keyword_text keyword.Vector = codes "vector"
-keyword_text keyword.Map = codes "map"
-keyword_text keyword.Set = codes "set"
-keyword_text keyword.Bool = codes "bool"
-keyword_text keyword.Bytes = codes "bytes"
-keyword_text keyword.String = codes "string"
-keyword_text keyword.Void = codes "void"
-keyword_text keyword.Uint8 = codes "uint8"
-keyword_text keyword.Uint16 = codes "uint16"
-keyword_text keyword.Uint32 = codes "uint32"
-keyword_text keyword.Uint64 = codes "uint64"
-keyword_text keyword.Int8 = codes "int8"
-keyword_text keyword.Int16 = codes "int16"
-keyword_text keyword.Int32 = codes "int32"
-keyword_text keyword.Int64 = codes "int64"
-keyword_text keyword.Var = codes "var"
-keyword_text keyword.Sink = codes "sink"
-keyword_text keyword.Switch = codes "switch"
-keyword_text keyword.Case = codes "case"
-keyword_text keyword.Default = codes "default"
-keyword_text keyword.If = codes "if"
-keyword_text keyword.Else = codes "else"
-keyword_text keyword.While = codes "while"
-keyword_text keyword.For = codes "for"
-keyword_text keyword.In = codes "in"
-keyword_text keyword.Foreach = codes "foreach"
-keyword_text keyword.Local = codes "local"
-keyword_text keyword.Return = codes "return"
-keyword_text keyword.Break = codes "break"
-keyword_text keyword.Continue = codes "continue"
-keyword_text keyword.Print = codes "print"
-keyword_text keyword.Assert = codes "assert"
-keyword_text keyword.Throw = codes "throw"
-keyword_text keyword.Add = codes "add"
-keyword_text keyword.Delete = codes "delete"
-keyword_text keyword.Stop = codes "stop"
-keyword_text keyword.Confirm = codes "confirm"
-keyword_text keyword.Reject = codes "reject"
-keyword_text keyword.New = codes "new"
-keyword_text keyword.Cast = codes "cast"
-keyword_text keyword.Itself = codes "self"
-keyword_text keyword.True = codes "True"
-keyword_text keyword.False = codes "False"
-
--- the marks
-abbrev pub mark_text : Mark → List ℕ
-mark_text mark.ColonColon = codes "::"
-mark_text mark.Colon = codes ":"
-mark_text mark.Semicolon = codes ";"
-mark_text mark.Comma = codes ","
-mark_text mark.Dot = codes "."
-mark_text mark.QuestionDot = codes "?."
-mark_text mark.Question = codes "?"
-mark_text mark.LeftParen = codes "("
-mark_text mark.RightParen = codes ")"
-mark_text mark.LeftBracket = codes "["
-mark_text mark.RightBracket = codes "]"
-mark_text mark.LeftBrace = codes "{"
-mark_text mark.RightBrace = codes "}"
-mark_text mark.Arrow = codes "->"
-mark_text mark.DotDot = codes ".."
-mark_text mark.DollarDollar = codes "$$"
-mark_text mark.Equal = codes "="
-mark_text mark.PlusEqual = codes "+="
-mark_text mark.MinusEqual = codes "-="
-mark_text mark.EqualEqual = codes "=="
-mark_text mark.NotEqual = codes "!="
-mark_text mark.Less = codes "<"
-mark_text mark.LessEqual = codes "<="
-mark_text mark.Greater = codes ">"
-mark_text mark.GreaterEqual = codes ">="
-mark_text mark.ShiftLeft = codes "<<"
-mark_text mark.ShiftRight = codes ">>"
-mark_text mark.Plus = codes "+"
-mark_text mark.Minus = codes "-"
-mark_text mark.Star = codes "*"
-mark_text mark.Slash = codes "/"
-mark_text mark.Percent = codes "%"
-mark_text mark.Ampersand = codes "&"
-mark_text mark.Bar = codes "|"
-mark_text mark.Caret = codes "^"
-mark_text mark.Tilde = codes "~"
-mark_text mark.Bang = codes "!"
-mark_text mark.AndAnd = codes "&&"
-mark_text mark.OrOr = codes "||"
-mark_text mark.NotIn = codes "!in"
-
--- the attributes
-abbrev pub attribute_text : Attribute → List ℕ
-attribute_text attribute.Size = codes "&size"
-attribute_text attribute.MaxSize = codes "&max-size"
-attribute_text attribute.Eod = codes "&eod"
-attribute_text attribute.Until = codes "&until"
-attribute_text attribute.UntilIncluding = codes "&until-including"
-attribute_text attribute.While = codes "&while"
-attribute_text attribute.Convert = codes "&convert"
-attribute_text attribute.Requires = codes "&requires"
-attribute_text attribute.Default = codes "&default"
-attribute_text attribute.ByteOrder = codes "&byte-order"
-attribute_text attribute.BitOrder = codes "&bit-order"
-attribute_text attribute.ParseFrom = codes "&parse-from"
-attribute_text attribute.ParseAt = codes "&parse-at"
-attribute_text attribute.Try = codes "&try"
-attribute_text attribute.Synchronize = codes "&synchronize"
-attribute_text attribute.Priority = codes "&priority"
-
--- the properties
-abbrev pub property_text : Property → List ℕ
-property_text property.ByteOrder = codes "%byte-order"
-property_text property.SpicyVersion = codes "%spicy-version"
-property_text property.Filter = codes "%filter"
-property_text property.MimeType = codes "%mime-type"
-property_text property.Description = codes "%description"
-
--- the hooks of units
-abbrev pub hook_text : Hook → List ℕ
-hook_text hook.Init = codes "%init"
-hook_text hook.Done = codes "%done"
-hook_text hook.Error = codes "%error"
-hook_text hook.Finally = codes "%finally"
-hook_text hook.Synced = codes "%synced"
-hook_text hook.Confirmed = codes "%confirmed"
-hook_text hook.Rejected = codes "%rejected"
-hook_text hook.Gap = codes "%gap"
-hook_text hook.Skipped = codes "%skipped"
-hook_text hook.Overlap = codes "%overlap"
-hook_text hook.Undelivered = codes "%undelivered"
 
 -- what the profile leaves out: reserved words, an attribute, properties and a hook
 abbrev pub absent_text : Absent → List ℕ
@@ -191,8 +48,10 @@ spelling token.String = []
 spelling token.Bytes = []
 spelling token.Regex = []
 spelling (token.Keyword k) = keyword_text k
-spelling (token.Mark m) = mark_text m
+spelling (token.Integer i) = integer_text i
+spelling (token.Punctuation m) = punctuation_text m
 spelling (token.Attribute a) = attribute_text a
+spelling token.Priority = codes "&priority"
 spelling (token.Property p) = property_text p
 spelling (token.Hook h) = hook_text h
 spelling (token.Absent a) = absent_text a
@@ -219,14 +78,14 @@ reserved_words =
     token.Keyword keyword.Bytes ∷
     token.Keyword keyword.String ∷
     token.Keyword keyword.Void ∷
-    token.Keyword keyword.Uint8 ∷
-    token.Keyword keyword.Uint16 ∷
-    token.Keyword keyword.Uint32 ∷
-    token.Keyword keyword.Uint64 ∷
-    token.Keyword keyword.Int8 ∷
-    token.Keyword keyword.Int16 ∷
-    token.Keyword keyword.Int32 ∷
-    token.Keyword keyword.Int64 ∷
+    token.Integer int.Uint8 ∷
+    token.Integer int.Uint16 ∷
+    token.Integer int.Uint32 ∷
+    token.Integer int.Uint64 ∷
+    token.Integer int.Int8 ∷
+    token.Integer int.Int16 ∷
+    token.Integer int.Int32 ∷
+    token.Integer int.Int64 ∷
     token.Keyword keyword.Var ∷
     token.Keyword keyword.Sink ∷
     token.Keyword keyword.Switch ∷
@@ -273,49 +132,49 @@ reserved_words =
     token.Absent absent.Unset ∷
     []
 
--- all kinds whose text begins with a mark
+-- all kinds whose text begins with punctuation
 abbrev pub signs : List TokenKind
 signs =
-    token.Mark mark.ColonColon ∷
-    token.Mark mark.Colon ∷
-    token.Mark mark.Semicolon ∷
-    token.Mark mark.Comma ∷
-    token.Mark mark.Dot ∷
-    token.Mark mark.QuestionDot ∷
-    token.Mark mark.Question ∷
-    token.Mark mark.LeftParen ∷
-    token.Mark mark.RightParen ∷
-    token.Mark mark.LeftBracket ∷
-    token.Mark mark.RightBracket ∷
-    token.Mark mark.LeftBrace ∷
-    token.Mark mark.RightBrace ∷
-    token.Mark mark.Arrow ∷
-    token.Mark mark.DotDot ∷
-    token.Mark mark.DollarDollar ∷
-    token.Mark mark.Equal ∷
-    token.Mark mark.PlusEqual ∷
-    token.Mark mark.MinusEqual ∷
-    token.Mark mark.EqualEqual ∷
-    token.Mark mark.NotEqual ∷
-    token.Mark mark.Less ∷
-    token.Mark mark.LessEqual ∷
-    token.Mark mark.Greater ∷
-    token.Mark mark.GreaterEqual ∷
-    token.Mark mark.ShiftLeft ∷
-    token.Mark mark.ShiftRight ∷
-    token.Mark mark.Plus ∷
-    token.Mark mark.Minus ∷
-    token.Mark mark.Star ∷
-    token.Mark mark.Slash ∷
-    token.Mark mark.Percent ∷
-    token.Mark mark.Ampersand ∷
-    token.Mark mark.Bar ∷
-    token.Mark mark.Caret ∷
-    token.Mark mark.Tilde ∷
-    token.Mark mark.Bang ∷
-    token.Mark mark.AndAnd ∷
-    token.Mark mark.OrOr ∷
-    token.Mark mark.NotIn ∷
+    token.Punctuation punctuation.ColonColon ∷
+    token.Punctuation punctuation.Colon ∷
+    token.Punctuation punctuation.Semicolon ∷
+    token.Punctuation punctuation.Comma ∷
+    token.Punctuation punctuation.Dot ∷
+    token.Punctuation punctuation.QuestionDot ∷
+    token.Punctuation punctuation.Question ∷
+    token.Punctuation punctuation.LeftParen ∷
+    token.Punctuation punctuation.RightParen ∷
+    token.Punctuation punctuation.LeftBracket ∷
+    token.Punctuation punctuation.RightBracket ∷
+    token.Punctuation punctuation.LeftBrace ∷
+    token.Punctuation punctuation.RightBrace ∷
+    token.Punctuation punctuation.Arrow ∷
+    token.Punctuation punctuation.DotDot ∷
+    token.Punctuation punctuation.DollarDollar ∷
+    token.Punctuation punctuation.Equal ∷
+    token.Punctuation punctuation.PlusEqual ∷
+    token.Punctuation punctuation.MinusEqual ∷
+    token.Punctuation punctuation.EqualEqual ∷
+    token.Punctuation punctuation.NotEqual ∷
+    token.Punctuation punctuation.Less ∷
+    token.Punctuation punctuation.LessEqual ∷
+    token.Punctuation punctuation.Greater ∷
+    token.Punctuation punctuation.GreaterEqual ∷
+    token.Punctuation punctuation.ShiftLeft ∷
+    token.Punctuation punctuation.ShiftRight ∷
+    token.Punctuation punctuation.Plus ∷
+    token.Punctuation punctuation.Minus ∷
+    token.Punctuation punctuation.Star ∷
+    token.Punctuation punctuation.Slash ∷
+    token.Punctuation punctuation.Percent ∷
+    token.Punctuation punctuation.Ampersand ∷
+    token.Punctuation punctuation.Bar ∷
+    token.Punctuation punctuation.Caret ∷
+    token.Punctuation punctuation.Tilde ∷
+    token.Punctuation punctuation.Bang ∷
+    token.Punctuation punctuation.AndAnd ∷
+    token.Punctuation punctuation.OrOr ∷
+    token.Punctuation punctuation.NotIn ∷
     token.Attribute attribute.Size ∷
     token.Attribute attribute.MaxSize ∷
     token.Attribute attribute.Eod ∷
@@ -331,7 +190,7 @@ signs =
     token.Attribute attribute.ParseAt ∷
     token.Attribute attribute.Try ∷
     token.Attribute attribute.Synchronize ∷
-    token.Attribute attribute.Priority ∷
+    token.Priority ∷
     token.Property property.ByteOrder ∷
     token.Property property.SpicyVersion ∷
     token.Property property.Filter ∷

@@ -5,11 +5,12 @@ ghost use Rattle.sp_lex.specs.Bytes.{is_letter};
 ghost use Rattle.sp_lex.specs.Elements.{ends_operand, start_of, form_kind, token_of, literal_at, sign_of, sign_at, word_at, element_from, element_at, IsWithin};
 ghost use Rattle.sp_lex.specs.Literals.{opening};
 
-use crate::kinds::{Mark, TokenKind};
+use crate::kinds::TokenKind;
 use crate::literals::{Form, byte_at, literal_len};
 use crate::numbers::number_len;
 use crate::runs::{line_len, word_len};
 use crate::signs::{is_letter, is_white, longest_sign, word_kind};
+use sp_words::Punctuation;
 
 /// What stands at a place, with its number of bytes.
 #[derive(Clone, Copy, Debug, PartialEq, Eq)]
@@ -40,9 +41,12 @@ impl TokenKind {
     {
         match self {
             TokenKind::Id | TokenKind::Number | TokenKind::String | TokenKind::Bytes => true,
-            TokenKind::Mark(mark) => matches!(
-                mark,
-                Mark::DollarDollar | Mark::RightParen | Mark::RightBracket | Mark::Bar
+            TokenKind::Punctuation(punctuation) => matches!(
+                punctuation,
+                Punctuation::DollarDollar
+                    | Punctuation::RightParen
+                    | Punctuation::RightBracket
+                    | Punctuation::Bar
             ),
             _ => false,
         }
@@ -92,7 +96,7 @@ fn literal_at(form: Form, text: &[u8]) -> Element
     }
 }
 
-/// The longest token of marks with which the text begins.
+/// The longest token of punctuation with which the text begins.
 #[tactic(auto, unfolding(crate::specs::Elements::sign_at))]
 fn sign_at(text: &[u8]) -> Element
     ensures value { result ≡ sign_at text.now }

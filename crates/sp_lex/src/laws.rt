@@ -36,11 +36,11 @@ pub fn only_blanks_stand_between()
 {}
 
 /// Each kind of token that has a text of its own stands once in the two lists, that of the reserved words or that of the
-/// marks; the reserved words are words, and the marks are none.
+/// punctuation; the reserved words are words, and punctuation is none.
 pub fn kinds_are_listed_once()
     ensures once { (kind : TokenKind) → 0 < length (spelling kind) → IsListedOnce kind }
     ensures words { list_all (λ kind. is_word_text (spelling kind)) reserved_words ≡ true }
-    ensures marks { list_all is_no_word signs ≡ true }
+    ensures punctuation { list_all is_no_word signs ≡ true }
 {}
 
 /// A name is none of the reserved words.

@@ -16,7 +16,7 @@ mod tables;
 mod tokens;
 
 pub use faults::between;
-pub use kinds::{Absent, Attribute, Hook, Keyword, Mark, Property, TokenKind};
+pub use kinds::{Absent, TokenKind};
 pub use laws::{
     faultless_texts_have_tokens, kinds_are_listed_once, names_are_not_reserved,
     numbers_are_longest, only_blanks_stand_between, words_are_longest,

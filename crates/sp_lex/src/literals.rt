@@ -5,7 +5,7 @@ ghost use Rattle.std.specs.Char.{is_ascii_digit, is_ascii_hexdigit};
 ghost use Rattle.sp_lex.specs.Bytes.{is_in_line};
 ghost use Rattle.sp_lex.specs.Literals.{closing, opening, is_short_escape, is_hex_escape, is_plain, escape_len, char_len, literal_end, literal_len, is_hex, number_len, digits_value, number_value};
 
-/// The literals between marks.
+/// The literals between delimiters.
 #[derive(Clone, Copy, Debug, PartialEq, Eq)]
 pub(crate) enum Form {
     String,

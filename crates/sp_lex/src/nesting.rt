@@ -1,9 +1,10 @@
 // How deep tokens are nested.
 ghost use Rattle.std.specs.Prelude.{◌≡◌, ◌≤◌, ◌∷◌, [], OnOk, IfSome, None};
-ghost use Rattle.sp_lex.specs.Nesting.{mark_role, word_role, role_of, level_in, level, counted, anew, inside, after, outermost, IsBounded};
+ghost use Rattle.sp_lex.specs.Nesting.{punctuation_role, word_role, role_of, level_in, level, counted, anew, inside, after, outermost, IsBounded};
 
-use crate::kinds::{Keyword, Mark, TokenKind};
+use crate::kinds::TokenKind;
 use sp_base::NoMemory;
+use sp_words::{Keyword, Punctuation};
 use std::alloc::Global;
 use std::marker::Model;
 
@@ -72,16 +73,16 @@ pub(crate) struct Nesting {
     pub(crate) outer: Brackets,
 }
 
-fn mark_role(mark: Mark) -> Role
-    ensures { result ≡ mark_role mark }
+fn punctuation_role(punctuation: Punctuation) -> Role
+    ensures { result ≡ punctuation_role punctuation }
 {
-    match mark {
-        Mark::LeftParen | Mark::LeftBracket => Role::OpensPair,
-        Mark::LeftBrace => Role::OpensBlock,
-        Mark::RightParen | Mark::RightBracket => Role::ClosesPair,
-        Mark::RightBrace => Role::ClosesBlock,
-        Mark::Comma | Mark::Semicolon => Role::EndsPart,
-        Mark::Colon => Role::Plain,
+    match punctuation {
+        Punctuation::LeftParen | Punctuation::LeftBracket => Role::OpensPair,
+        Punctuation::LeftBrace => Role::OpensBlock,
+        Punctuation::RightParen | Punctuation::RightBracket => Role::ClosesPair,
+        Punctuation::RightBrace => Role::ClosesBlock,
+        Punctuation::Comma | Punctuation::Semicolon => Role::EndsPart,
+        Punctuation::Colon => Role::Plain,
         _ => Role::Counts,
     }
 }
@@ -99,7 +100,7 @@ pub(crate) fn role_of(kind: TokenKind) -> Role
     ensures { result ≡ role_of kind }
 {
     match kind {
-        TokenKind::Mark(mark) => mark_role(mark),
+        TokenKind::Punctuation(punctuation) => punctuation_role(punctuation),
         TokenKind::Keyword(keyword) => word_role(keyword),
         _ => Role::Plain,
     }

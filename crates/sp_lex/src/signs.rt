@@ -32,7 +32,7 @@ fn is_whole_name(kind: TokenKind) -> bool
 {
     matches!(
         kind,
-        TokenKind::Attribute(_) | TokenKind::Absent(Absent::ChunkedAttribute)
+        TokenKind::Attribute(_) | TokenKind::Priority | TokenKind::Absent(Absent::ChunkedAttribute)
     )
 }
 
@@ -81,7 +81,7 @@ fn longest_of(text: &[u8], kinds: &[TokenKind]) -> Option<TokenKind>
     found
 }
 
-/// The longest token of marks with which the text begins.
+/// The longest token of punctuation with which the text begins.
 #[tactic(auto, unfolding(crate::specs::Signs::longest_sign))]
 pub(crate) fn longest_sign(text: &[u8]) -> Option<TokenKind>
     ensures value { result ≡ longest_sign text.now }

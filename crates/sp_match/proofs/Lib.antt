@@ -1,8 +1,13 @@
 pub mod Compiling
 pub mod Deciding
 pub mod Growing
+pub mod OneVerdict
 pub mod Looping
+pub mod Positions
 pub mod Running
 pub mod Steps
 pub mod Turns
 pub mod Whole
+pub mod Words
+pub mod Tabling
+pub mod Stepping

@@ -10,7 +10,7 @@ use Rattle.sp_match.specs.Sets.{has}
 use Rattle.sp_match.specs.Nets.{at, moves, jumps, is_goal, Reads, here, over, through, ReadsSome, Alive, AliveAt, Leads, Orderly, goal_token, goal_literal}
 use Rattle.sp_match.specs.Parts.{IsCompiled}
 use Rattle.sp_match.specs.Matching.{kind, is_literal}
-use Rattle.sp_match.specs.Running.{Closed, Begins, Stands, IsNetOf, IsMoved, IsClosed}
+use Rattle.sp_match.specs.Running.{ClosedUnder, Begins, Stands, IsNetOf, IsNext}
 use Rattle.sp_match.proofs.Compiling.{either_true, left_true, right_true, order, before_or_not}
 use Rattle.sp_match.proofs.Growing.{orderly_pushed, no_goal_behind, at_pushed, at_before, length_pushed, at_behind, no_moves, no_jumps}
 
@@ -214,33 +214,40 @@ begins_none = record {
 
 -- a run
 
-pub closed_goal : (net : List Spot) (set : List Bool) → Closed net set → (g p : ℕ) → has set p ≡ true → Reads net g p [] → has set g ≡ true
-closed_goal net set closed g p h (here x) = h
-closed_goal net set closed g p h (through {q = q} j r) = closed_goal net set closed g q (closed p q h j) r
+pub closed_goal : (net : List Spot) (live : ℕ → Bool) → ClosedUnder net live → (g p : ℕ) → live p ≡ true → Reads net g p [] → live g ≡ true
+closed_goal net live closed g p h (here x) = h
+closed_goal net live closed g p h (through {q = q} j r) = closed_goal net live closed g q (closed p q h j) r
 
-pub closed_step : (net : List Spot) (set : List Bool) → Closed net set → (g p b : ℕ) (w : List ℕ) → has set p ≡ true → Reads net g p (b ∷ w) → (o : ℕ) × (q : ℕ) × (has set o ≡ true) × (moves (at net o) b q ≡ true) × Reads net g q w
-closed_step net set closed g p b w h (over {q = q} m r) = (p, q, h, m, r)
-closed_step net set closed g p b w h (through {q = q} j r) = closed_step net set closed g q b w (closed p q h j) r
+pub closed_step : (net : List Spot) (live : ℕ → Bool) → ClosedUnder net live → (g p b : ℕ) (w : List ℕ) → live p ≡ true → Reads net g p (b ∷ w) → (o : ℕ) × (q : ℕ) × (live o ≡ true) × (moves (at net o) b q ≡ true) × Reads net g q w
+closed_step net live closed g p b w h (over {q = q} m r) = (p, q, h, m, r)
+closed_step net live closed g p b w h (through {q = q} j r) = closed_step net live closed g q b w (closed p q h j) r
 
-pub stands_next : (tokens : List Syntax) (net : List Spot) (start live next set : List Bool) (w : List ℕ) (b : ℕ) → IsNetOf tokens net start → Stands tokens net w live → IsMoved net live next b → IsClosed net next set → Stands tokens net (w ++ b ∷ []) set
-stands_next tokens net start live next set w b n s moved step = record {
+pub stands_next : (tokens : List Syntax) (net : List Spot) (start : List Bool) (live next : ℕ → Bool) (w : List ℕ) (b : ℕ) → IsNetOf tokens net start → Stands tokens net w live → IsNext net live next b → Stands tokens net (w ++ b ∷ []) next
+stands_next tokens net start live next w b n s step = record {
   closed = step.closed;
-  alive = step.alive n.begins.lively (λ q h. let k = moved.came q h in n.begins.lively k.0 q (inl (b, k.2)));
+  alive = λ q h. step.alive n.begins.lively q h;
   goes_on = λ g t is x.
       let y = s.goes_on g (b ∷ t) is (subst (InL (get_or tokens (goal_token (at net g)) empty)) (append_assoc w (b ∷ []) t) x) in
       let z = closed_step net live s.closed g y.0 b t y.1 y.2 in
-      (z.1, step.keeps z.1 (moved.goes z.0 z.1 z.2 z.3), z.4);
+      (z.1, step.goes z.0 z.1 z.2 z.3, z.4);
   came = λ g t is x.
-      let y = step.sound x.0 x.1 g t x.2 in
-      let k = moved.came y.0 y.1 in
+      let y = step.came x.0 x.1 g t x.2 in
       subst (InL (get_or tokens (goal_token (at net g)) empty)) (sym (append_assoc w (b ∷ []) t))
-      (s.came g (b ∷ t) is (k.0, k.1, over k.2 y.2));
+      (s.came g (b ∷ t) is (y.0, y.2, over y.3 y.4));
 }
 
-pub stands_first : (tokens : List Syntax) (net : List Spot) (start : List Bool) → IsNetOf tokens net start → Stands tokens net [] start
-stands_first tokens net start n = record {
-  closed = n.closed;
-  alive = n.begins.alive;
-  goes_on = λ g t is x. n.begins.is_read g t is x;
-  came = λ g t is x. n.begins.reads g t is x;
+pub stands_first : (tokens : List Syntax) (net : List Spot) (start : List Bool) (live : ℕ → Bool) → ((p : ℕ) → live p ≡ has start p) → IsNetOf tokens net start → Stands tokens net [] live
+stands_first tokens net start live same n = record {
+  closed = λ p q h j. same q ∙ n.closed p q (sym (same p) ∙ h) j;
+  alive = λ p h. n.begins.alive p (sym (same p) ∙ h);
+  goes_on = λ g t is x. let y = n.begins.is_read g t is x in (y.0, same y.0 ∙ y.1, y.2);
+  came = λ g t is x. n.begins.reads g t is (x.0, sym (same x.0) ∙ x.1, x.2);
+}
+
+pub stands_same : (tokens : List Syntax) (net : List Spot) (w : List ℕ) (live other : ℕ → Bool) → ((p : ℕ) → other p ≡ live p) → Stands tokens net w live → Stands tokens net w other
+stands_same tokens net w live other same s = record {
+  closed = λ p q h j. same q ∙ s.closed p q (sym (same p) ∙ h) j;
+  alive = λ p h. s.alive p (sym (same p) ∙ h);
+  goes_on = λ g t is x. let y = s.goes_on g t is x in (y.0, same y.0 ∙ y.1, y.2);
+  came = λ g t is x. s.came g t is (x.0, sym (same x.0) ∙ x.1, x.2);
 }

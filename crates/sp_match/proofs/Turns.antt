@@ -6,11 +6,11 @@ use Rattle.sp_regex.specs.Language.{InL, Times}
 use Rattle.sp_match.specs.declared.spot.Spot.{Spot}
 use Rattle.sp_match.specs.declared.spot.Spot.TheVariants as spot
 use Rattle.sp_match.specs.Sets.{has}
-use Rattle.sp_match.specs.Nets.{at, moves, jumps, is_jump, through, Orderly}
+use Rattle.sp_match.specs.Nets.{at, jumps, is_jump, through, Orderly}
 use Rattle.sp_match.specs.Parts.{InAll}
-use Rattle.sp_match.specs.Running.{Moving, Closing, IsMoved, IsClosed}
+use Rattle.sp_match.specs.Running.{Closing, IsClosed}
 use Rattle.sp_match.proofs.Compiling.{order, before_or_not, either_true, left_true, right_true, both_true, and_true, not_both}
-use Rattle.sp_match.proofs.Running.{within_moves, within_jumps}
+use Rattle.sp_match.proofs.Running.{within_jumps}
 use Rattle.sp_match.proofs.Steps.{in_order_forth}
 
 pub has_within : (set : List Bool) (q : ℕ) → has set q ≡ true → q < length set
@@ -26,31 +26,6 @@ jump_is (spot.Jump to) q j = refl
 jump_is (spot.Byte bytes next) q j = absurd (let k : false ≡ true = j in cc)
 jump_is (spot.Goal token literal) q j = absurd (let k : false ≡ true = j in cc)
 jump_is spot.Nothing q j = absurd (let k : false ≡ true = j in cc)
-
-pub moving_turn : (net : List Spot) (live next new : List Bool) (b i : ℕ) (x : Spot) (on : Bool) → Orderly net → i < length net → x ≡ get_or net i x → on ≡ has live i → ((q : ℕ) → q < length next → has new q ≡ (has next q || (on && moves x b q))) → length new ≡ length next → Moving net live next b i → Moving net live new b (i + 1)
-moving_turn net live next new b i x on o lt is live_is moved len m =
-    let here : at net i ≡ x = at_is net i x lt is in
-    let room = m.room in
-    record {
-      came = λ q h. elim (either_true (has next q) (on && moves x b q) (sym (moved q (let k = has_within new q h in omega arith)) ∙ h)) [
-        | inl k ↦ m.came q k
-        | inr k ↦ (let two = both_true on (moves x b q) k in (i, sym live_is ∙ two.0, ap (λ z. moves z b q) here ∙ two.1))
-      ];
-      goes = λ p q small h k. let within = o.next_within p b q k in elim (order p i) [
-        | inl less ↦ moved q (omega arith) ∙ left_true (has next q) (on && moves x b q) (m.goes p q less h k)
-        | inr ge ↦ elim ge [
-          | inl e ↦ moved q (omega arith) ∙ right_true (has next q) (on && moves x b q) (and_true on (moves x b q) (live_is ∙ ap (has live) (sym e) ∙ h) (ap (λ z. moves z b q) (sym here) ∙ ap (λ n. moves (at net n) b q) (sym e) ∙ k))
-          | inr gt ↦ absurd (omega arith)
-        ]
-      ];
-      room = len ∙ m.room;
-    }
-
-pub moved_done : (net : List Spot) (live next : List Bool) (b i : ℕ) → i ≡ length net → Moving net live next b i → IsMoved net live next b
-moved_done net live next b i e m = record {
-  came = m.came;
-  goes = λ p q h k. m.goes p q (let lt = within_moves net p b q k in omega arith) h k;
-}
 
 pub closing_turn : (net : List Spot) (initial set new : List Bool) (i j : ℕ) (x : Spot) (on : Bool) → Orderly net → j + 1 ≡ i → x ≡ get_or net j x → on ≡ has set j → ((q : ℕ) → q < length set → has new q ≡ (has set q || (on && jumps x q))) → length new ≡ length set → Closing net initial set i → Closing net initial new j
 closing_turn net initial set new i j x on o step is live_is jumped len c =
@@ -151,10 +126,3 @@ times_empty A (suc n) h = ([], [], refl, h, times_empty A n h)
 pub times_has_empty : (A : List ℕ → Type 0) (n : ℕ) → 0 < n → Times n A [] → A []
 times_has_empty A zero lt t = absurd (omega arith)
 times_has_empty A (suc n) lt t = subst A (nil_left t.0 t.1 t.2) t.3
-
-pub moving_begin : (net : List Spot) (live next : List Bool) (b : ℕ) → ((p : ℕ) → has next p ≡ false) → length next ≡ length net → Moving net live next b 0
-moving_begin net live next b none room = record {
-  came = λ q h. absurd (not_both h (none q));
-  goes = λ p q small h k. absurd (omega arith);
-  room = room;
-}

@@ -4,14 +4,14 @@ use Rattle.std.proofs.lemmas.List.{take_more}
 use Rattle.sp_regex.specs.Trees.{Syntax, empty, never, followed, either, sequence, alternatives, positions_of}
 use Rattle.sp_match.specs.declared.spot.Spot.{Spot}
 use Rattle.sp_match.specs.Sets.{has}
-use Rattle.sp_match.specs.Nets.{at, is_byte}
-use Rattle.sp_match.specs.Matching.{is_literal, Settled, BestSoFar, NoneEmpty}
-use Rattle.sp_match.specs.Running.{Begins, Stands, IsNetOf, IsMoved, IsClosed, best_below, newest_of}
+use Rattle.sp_match.specs.Matching.{HasWord, NoMatch, is_literal, Settled, BestSoFar, NoneEmpty}
+use Rattle.sp_match.specs.Running.{Begins, Stands, IsNetOf, IsNext, IsWinner, IsClosed, newest_of}
+use Rattle.sp_match.specs.Tables.{NoneReads}
 use Rattle.sp_match.specs.Sizes.{positions_together}
 use Rattle.sp_match.proofs.Compiling.{not_both}
 use Rattle.sp_match.proofs.Running.{stands_next}
 use Rattle.sp_match.proofs.Turns.{has_within}
-use Rattle.sp_match.proofs.Deciding.{is_winner, best_next, grows_live}
+use Rattle.sp_match.proofs.Deciding.{best_next, grows_live}
 
 followed_no_literal : (xs : List Syntax) (a : Syntax) → is_literal a ≡ false → is_literal (fold followed a xs) ≡ false
 followed_no_literal [] a e = e
@@ -71,16 +71,22 @@ whole_net tokens net first fit set b spots len c none =
       none_empty = none;
     }
 
-pub whole_step : (tokens : List Syntax) (net : List Spot) (start live mid after : List Bool) (w : List ℕ) (b n : ℕ) (best : Option (ℕ × ℕ)) → IsNetOf tokens net start → Stands tokens net w live → BestSoFar tokens w best → IsMoved net live mid b → IsClosed net mid after → n ≡ length w + 1 → Stands tokens net (w ++ b ∷ []) after × BestSoFar tokens (w ++ b ∷ []) (newest_of (best_below net after (length net)) n best)
-whole_step tokens net start live mid after w b n best is s old moved closed e =
-    let next = stands_next tokens net start live mid after w b is s moved closed in (
-      next,
-      subst (λ k. BestSoFar tokens (w ++ b ∷ []) (newest_of (best_below net after (length net)) k best)) (sym e)
-          (best_next is w b after best (length net) next old (omega arith) (best_below net after (length net)) (is_winner net after (length net))),
+pub whole_step : (tokens : List Syntax) (net : List Spot) (start : List Bool) (live next : ℕ → Bool) (w : List ℕ) (b n : ℕ) (best : Option (ℕ × ℕ)) (won : Option (ℕ × Bool)) → IsNetOf tokens net start → Stands tokens net w live → BestSoFar tokens w best → IsNext net live next b → IsWinner net next won → n ≡ length w + 1 → Stands tokens net (w ++ b ∷ []) next × BestSoFar tokens (w ++ b ∷ []) (newest_of won n best)
+whole_step tokens net start live next w b n best won is s old step wins e =
+    let stand = stands_next tokens net start live next w b is s step in (
+      stand,
+      subst (λ k. BestSoFar tokens (w ++ b ∷ []) (newest_of won k best)) (sym e) (best_next is w b next best stand old won wins),
     )
 
-pub settled : (tokens : List Syntax) (net : List Spot) (start live : List Bool) (w : List ℕ) (ended : Bool) → IsNetOf tokens net start → Stands tokens net w live → ((ended ≡ true) ⊎ ((p : ℕ) → has live p ≡ true → is_byte (at net p) ≡ false)) → Settled tokens w ended
+pub settled : (tokens : List Syntax) (net : List Spot) (start : List Bool) (live : ℕ → Bool) (w : List ℕ) (ended : Bool) → IsNetOf tokens net start → Stands tokens net w live → ((ended ≡ true) ⊎ NoneReads net live) → Settled tokens w ended
 settled tokens net start live w ended is s x = elim x [
   | inl e ↦ inl e
   | inr none ↦ inr (λ grows. let y = grows_live is w live s grows in not_both y.2 (none y.0 y.1))
 ]
+
+take_none : (m : ℕ) → take {A = ℕ} m [] ≡ []
+take_none zero = refl
+take_none (suc m) = refl
+
+pub no_match_first : (tokens : List Syntax) → NoneEmpty tokens → NoMatch tokens []
+no_match_first tokens none j m le h = none j (subst (HasWord tokens j) (take_none m) h)

@@ -58,3 +58,8 @@ NoneEmpty tokens = (i : ℕ) → HasWord tokens i [] → ⊥
 abbrev pub BestSoFar : List Syntax → List ℕ → Option (ℕ × ℕ) → Type 0
 BestSoFar tokens w (Some best) = IsBest tokens w best.0 best.1
 BestSoFar tokens w None = NoMatch tokens w
+
+-- a verdict that doesn't wait
+abbrev pub IsTaken : Verdict → Type 0
+IsTaken verdict.Need = ⊥
+IsTaken _ = Unit {0}

@@ -1,10 +1,9 @@
 -- The automaton of a token set, and where it stands after the bytes so far. For private functions.
-use Rattle.std.specs.Prelude.{◌≡◌, ℕ, zero, suc, nat_le, if◌then◌else◌, ◌<◌, ◌≤◌, ◌++◌, Bool, true, false, List, length, Option, Some, None}
+use Rattle.std.specs.Prelude.{◌≡◌, ℕ, nat_le, ◌<◌, ◌≤◌, ◌++◌, ◌⊎◌, Bool, true, false, List, length, Option, Some, None}
 use Rattle.std.proofs.Common.{get_or}
 use Rattle.sp_regex.specs.Trees.{Syntax, empty}
 use Rattle.sp_regex.specs.Language.{InL}
 use Rattle.sp_match.specs.declared.spot.Spot.{Spot}
-use Rattle.sp_match.specs.declared.spot.Spot.TheVariants as spot
 use Rattle.sp_match.specs.Sets.{has}
 use Rattle.sp_match.specs.Nets.{at, moves, jumps, is_goal, goal_token, goal_literal, Reads, ReadsSome, Alive, AliveAt, Leads, Orderly}
 use Rattle.sp_match.specs.Parts.{Below}
@@ -26,12 +25,27 @@ pub record Begins (tokens : List Syntax) (net : List Spot) (start : List Bool) :
   pub reads : (g : ℕ) (w : List ℕ) → is_goal (at net g) ≡ true → ReadsSome net g start w → InL (get_or tokens (goal_token (at net g)) empty) w
   pub is_read : (g : ℕ) (w : List ℕ) → is_goal (at net g) ≡ true → InL (get_or tokens (goal_token (at net g)) empty) w → ReadsSome net g start w
 
+-- from some spot of the set the word is read up to the goal
+abbrev pub ReadsFrom : List Spot → ℕ → (ℕ → Bool) → List ℕ → Type 0
+ReadsFrom net g live w = (p : ℕ) × (live p ≡ true) × Reads net g p w
+
+-- with a spot the set has each one that it jumps to
+abbrev pub ClosedUnder : List Spot → (ℕ → Bool) → Type 0
+ClosedUnder net live = (p q : ℕ) → live p ≡ true → jumps (at net p) q ≡ true → live q ≡ true
+
 -- The set `live` is where the automaton stands after the bytes w.
-pub record Stands (tokens : List Syntax) (net : List Spot) (w : List ℕ) (live : List Bool) : Type 0 where
-  pub closed : Closed net live
-  pub alive : Alive net live
-  pub goes_on : (g : ℕ) (t : List ℕ) → is_goal (at net g) ≡ true → InL (get_or tokens (goal_token (at net g)) empty) (w ++ t) → ReadsSome net g live t
-  pub came : (g : ℕ) (t : List ℕ) → is_goal (at net g) ≡ true → ReadsSome net g live t → InL (get_or tokens (goal_token (at net g)) empty) (w ++ t)
+pub record Stands (tokens : List Syntax) (net : List Spot) (w : List ℕ) (live : ℕ → Bool) : Type 0 where
+  pub closed : ClosedUnder net live
+  pub alive : (p : ℕ) → live p ≡ true → AliveAt net p
+  pub goes_on : (g : ℕ) (t : List ℕ) → is_goal (at net g) ≡ true → InL (get_or tokens (goal_token (at net g)) empty) (w ++ t) → ReadsFrom net g live t
+  pub came : (g : ℕ) (t : List ℕ) → is_goal (at net g) ≡ true → ReadsFrom net g live t → InL (get_or tokens (goal_token (at net g)) empty) (w ++ t)
+
+-- the set of live spots after a byte, jumps and all
+pub record IsNext (net : List Spot) (live next : ℕ → Bool) (b : ℕ) : Type 0 where
+  pub goes : (p q : ℕ) → live p ≡ true → moves (at net p) b q ≡ true → next q ≡ true
+  pub closed : ClosedUnder net next
+  pub came : (q : ℕ) → next q ≡ true → (g : ℕ) (w : List ℕ) → Reads net g q w → (p : ℕ) × (r : ℕ) × (live p ≡ true) × (moves (at net p) b r ≡ true) × Reads net g r w
+  pub alive : ((p q : ℕ) → Leads (at net p) q → AliveAt net q) → (q : ℕ) → next q ≡ true → AliveAt net q
 
 -- what stands in the automaton of a set that was built
 pub record IsNetOf (tokens : List Syntax) (net : List Spot) (start : List Bool) : Type 0 where
@@ -46,22 +60,14 @@ is_ahead true t false u = true
 is_ahead false t true u = false
 is_ahead false t false u = nat_le t u
 
--- the better of the best goal so far and this spot, if that is a live goal
-abbrev pub preferred : Spot → Bool → Option (ℕ × Bool) → Option (ℕ × Bool)
-preferred s false best = best
-preferred (spot.Goal token literal) true None = Some (token, literal)
-preferred (spot.Goal token literal) true (Some (t, l)) = if is_ahead l t literal token then Some (t, l) else Some (token, literal)
-preferred s true best = best
+-- the same, as a choice: the first is a literal and the other isn't, or of two of a kind it has no greater number
+abbrev pub Ahead : Bool → ℕ → Bool → ℕ → Type 0
+Ahead l t m u = ((l ≡ true) × (m ≡ false)) ⊎ ((l ≡ m) × (t ≤ u))
 
--- the best live goal below a place
-abbrev pub best_below : List Spot → List Bool → ℕ → Option (ℕ × Bool)
-best_below net live zero = None
-best_below net live (suc i) = preferred (at net i) (has live i) (best_below net live i)
-
--- the set after a byte, before its jumps
-pub record IsMoved (net : List Spot) (live next : List Bool) (b : ℕ) : Type 0 where
-  pub came : (q : ℕ) → has next q ≡ true → (p : ℕ) × (has live p ≡ true) × (moves (at net p) b q ≡ true)
-  pub goes : (p q : ℕ) → has live p ≡ true → moves (at net p) b q ≡ true → has next q ≡ true
+-- the answer is the best of the live goals
+abbrev pub IsWinner : List Spot → (ℕ → Bool) → Option (ℕ × Bool) → Type 0
+IsWinner net live None = (g : ℕ) → live g ≡ true → is_goal (at net g) ≡ true → ⊥
+IsWinner net live (Some best) = ((g : ℕ) × (live g ≡ true) × (is_goal (at net g) ≡ true) × (goal_token (at net g) ≡ best.0) × (goal_literal (at net g) ≡ best.1)) × ((g : ℕ) → live g ≡ true → is_goal (at net g) ≡ true → Ahead best.1 best.0 (goal_literal (at net g)) (goal_token (at net g)))
 
 -- the set with all that it jumps to
 pub record IsClosed (net : List Spot) (next set : List Bool) : Type 0 where
@@ -70,12 +76,6 @@ pub record IsClosed (net : List Spot) (next set : List Bool) : Type 0 where
   pub sound : (q : ℕ) → has set q ≡ true → (g : ℕ) (w : List ℕ) → Reads net g q w → ReadsSome net g next w
   pub alive : ((p q : ℕ) → Leads (at net p) q → AliveAt net q) → Alive net next → Alive net set
   pub len : length set ≡ length next
-
--- The set so far, where the spots below i are still to be asked what they move to.
-pub record Moving (net : List Spot) (live next : List Bool) (b i : ℕ) : Type 0 where
-  pub came : (q : ℕ) → has next q ≡ true → (p : ℕ) × (has live p ≡ true) × (moves (at net p) b q ≡ true)
-  pub goes : (p q : ℕ) → p < i → has live p ≡ true → moves (at net p) b q ≡ true → has next q ≡ true
-  pub room : length next ≡ length net
 
 -- The set so far, where the spots below i are still to be asked what they jump to.
 pub record Closing (net : List Spot) (initial set : List Bool) (i : ℕ) : Type 0 where

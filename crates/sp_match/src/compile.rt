@@ -1,13 +1,15 @@
 // The automaton of a regular expression, made from its end to its front: each part is given the set of spots
 // that stand behind it, and answers the set where its reading begins.
-ghost use Rattle.std.specs.Prelude.{◌≡◌, ℕ, ◌<◌, length, IfOk};
+ghost use Rattle.std.specs.Prelude.{◌≡◌, ℕ, ◌<◌, List, length, IfOk};
 ghost use Rattle.std.specs.Prelude.{◌||◌, ◌&&◌, ◌==◌, not, true, false, Some, None, set as put_at};
-ghost use Rattle.sp_regex.specs.Trees.{byte as byte_syntax, any, class, sequence, alternatives, repeat, literal};
+ghost use Rattle.sp_regex.specs.Trees.{byte as byte_syntax, any, class, sequence, alternatives, repeat, literal, positions_of};
+ghost use Rattle.sp_match.specs.declared.spot.Spot.{Spot as NetSpot};
 ghost use Rattle.sp_regex.specs.Language.{InL, Times};
 ghost use Rattle.sp_match.specs.Sets.{has};
 ghost use Rattle.sp_match.specs.Parts.{Below, IsCompiled, OneByte, UpTo, Many};
 
 use crate::classes::{all_bytes, bytes_of_class, one_byte};
+use crate::empties::repetition_has;
 use crate::sets::{contains, copy, is_empty, join, remove, single};
 use crate::spot::Spot;
 use sp_base::NoMemory;
@@ -291,6 +293,20 @@ fn unbounded(
     Ok(entry)
 }
 
+/// A part that has no word but the empty one, as often as the bounds allow: no copy of it adds anything.
+fn of_no_bytes(alloc: Global, part: &Regex, count: Count, then: Vec<bool>) -> Vec<bool>
+    requires { positions_of part.now ≡ 0 }
+    ensures { (net : List NetSpot) → Below then.items (length net)
+        → IsCompiled (InL (repeat count.least count.most part.now))
+        then.items result.items net net }
+{
+    if repetition_has(part, count) {
+        then
+    } else {
+        Vec::new(alloc)
+    }
+}
+
 /// The part as often as the bounds allow.
 #[cycle(compile)]
 fn repeated(
@@ -304,6 +320,9 @@ fn repeated(
     ensures { IfOk result (λ entry. IsCompiled (InL (repeat count.least count.most part.now))
         then.items entry.items net.old.items net.new.items) }
 {
+    if part.positions() == 0 {
+        return Ok(of_no_bytes(alloc, part, count, then));
+    }
     match count.most {
         Some(most) => bounded(alloc, net, part, count.least, most, then),
         None => unbounded(alloc, net, part, count.least, then),

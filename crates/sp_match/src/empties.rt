@@ -46,7 +46,7 @@ fn one_has(parts: &[Regex]) -> bool
 
 /// Whether a repetition has it.
 #[cycle(has_empty_word)]
-fn repetition_has(part: &Regex, count: Count) -> bool
+pub fn repetition_has(part: &Regex, count: Count) -> bool
     ensures has { result ≡ true → InL (repeat count.least count.most part.now) [] }
     ensures misses { result ≡ false → InL (repeat count.least count.most part.now) [] → ⊥ }
 {

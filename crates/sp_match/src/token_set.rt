@@ -3,14 +3,17 @@ ghost use Rattle.std.specs.Prelude.{◌≡◌, ◌≢◌, ◌+◌, ◌-◌, ◌^
 ghost use Rattle.sp_regex.specs.Trees.{Syntax};
 ghost use Rattle.sp_regex.specs.Language.{InL};
 ghost use Rattle.sp_match.specs.Matching.{HasWord, NoneEmpty, is_literal};
-ghost use Rattle.sp_match.specs.Running.{Begins};
+ghost use Rattle.sp_match.specs.Running.{Begins, IsNetOf};
 ghost use Rattle.sp_match.specs.Sizes.{IsSetOf, positions_together};
 
+use crate::bits::packed;
 use crate::compile::compile;
 use crate::empties::has_empty_word;
+use crate::machine::Machine;
 use crate::run::close;
 use crate::sets::{fitted, join, single};
 use crate::spot::Spot;
+use crate::table::Table;
 use sp_base::NoMemory;
 use sp_regex::{Regex, Shape};
 use std::alloc::Global;
@@ -46,8 +49,8 @@ impl From<NoMemory> for SetFault {
 /// Tokens among which the longest match decides.
 #[derive(Drop)]
 pub struct TokenSet {
-    pub(crate) net: Vec<Spot>,
-    pub(crate) start: Vec<bool>,
+    pub(crate) machine: Machine,
+    pub(crate) table: Table,
 }
 
 /// Whether it is a literal.
@@ -112,7 +115,18 @@ fn add_token(
     Ok(())
 }
 
-/// The automaton of all members.
+/// The set whose automaton begins at these spots.
+fn set_of_net(alloc: Global, net: &[Spot], start: &[bool]) -> Result<TokenSet, NoMemory>
+    ensures { (tokens : List Syntax) → IsNetOf tokens net.now start.now
+        → length start.now ≡ length net.now → IfOk result (λ set. IsSetOf set tokens) }
+{
+    let machine = Machine::of_net(alloc, net)?;
+    let first = packed(alloc, start, machine.words)?;
+    let table = Table::of_machine(alloc, &machine, first)?;
+    Ok(TokenSet { machine, table })
+}
+
+/// The set of all members.
 fn build_net(alloc: Global, tokens: &[Regex]) -> Result<TokenSet, NoMemory>
     requires few { length tokens.now < 2 ^ 32 }
     requires none_empty { NoneEmpty tokens.now }
@@ -125,7 +139,8 @@ fn build_net(alloc: Global, tokens: &[Regex]) -> Result<TokenSet, NoMemory>
     }
     let mut start = fitted(alloc, &first, net.len())?;
     close(&net, &mut start);
-    Ok(TokenSet { net, start })
+    let set = set_of_net(alloc, &net, &start)?;
+    Ok(set)
 }
 
 impl TokenSet {

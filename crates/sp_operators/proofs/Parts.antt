@@ -18,13 +18,13 @@ or_right true y h = refl
 or_right false y h = h
 
 -- one place farther in a list with one more in front
-farther : (b : ℕ) (whole part : List ℕ) (k : ℕ) → OccursAt whole part k → OccursAt (b ∷ whole) part (suc k)
+pub farther : (b : ℕ) (whole part : List ℕ) (k : ℕ) → OccursAt whole part k → OccursAt (b ∷ whole) part (suc k)
 farther b whole part k h = record {
   fits = omega (arith, h.fits);
   reads = λ j low. subst (λ i. slice_index (b ∷ whole) i ≡ slice_index part j) {x = suc (k + j)} (omega arith) (h.reads j low);
 }
 
-nearer : (b : ℕ) (whole part : List ℕ) (k : ℕ) → OccursAt (b ∷ whole) part (suc k) → OccursAt whole part k
+pub nearer : (b : ℕ) (whole part : List ℕ) (k : ℕ) → OccursAt (b ∷ whole) part (suc k) → OccursAt whole part k
 nearer b whole part k h = record {
   fits = omega (arith, h.fits);
   reads = λ j low. subst (λ i. slice_index (b ∷ whole) i ≡ slice_index part j) {y = suc (k + j)} (omega arith) (h.reads j low);
@@ -42,7 +42,7 @@ behind_first b a whole part h = record {
 first_is : (b a : ℕ) (whole part : List ℕ) → OccursAt (b ∷ whole) (a ∷ part) zero → b ≡ a
 first_is b a whole part h = h.reads zero (omega arith)
 
-begins-OccursAt : (whole part : List ℕ) → OccursAt whole part zero → begins_with whole part ≡ true
+pub begins-OccursAt : (whole part : List ℕ) → OccursAt whole part zero → begins_with whole part ≡ true
 begins-OccursAt [] [] h = refl
 begins-OccursAt (b ∷ whole) [] h = refl
 begins-OccursAt [] (a ∷ part) h = absurd (omega (arith, h.fits))
@@ -60,7 +60,7 @@ OccursAt-cons b a whole part e h = record { fits = omega (arith, h.fits); reads 
     reads zero low = e
     reads (suc j) low = subst (λ i. slice_index (b ∷ whole) i ≡ slice_index part j) {x = suc (zero + j)} (omega arith) (h.reads j (omega arith))
 
-OccursAt-begins : (whole part : List ℕ) → begins_with whole part ≡ true → OccursAt whole part zero
+pub OccursAt-begins : (whole part : List ℕ) → begins_with whole part ≡ true → OccursAt whole part zero
 OccursAt-begins whole [] h = OccursAt-nil whole
 OccursAt-begins [] (a ∷ part) h = absurd (let q : false ≡ true = h in cc)
 OccursAt-begins (b ∷ whole) (a ∷ part) h =

@@ -2,12 +2,17 @@
 use Rattle.std.specs.Prelude.{Bool, true, false, ◌==◌}
 use Rattle.sp_value.specs.Val.{Val, bool, uint, int, bytes, str, enum, vector, set, map, place}
 use Rattle.sp_value.specs.Order.{kind}
-use Rattle.sp_operators.specs.declared.operators.BinOp.{BinOp}
-use Rattle.sp_operators.specs.declared.operators.BinOp.TheVariants.{In, NotIn, Equal, NotEqual, Less, LessEqual, Greater, GreaterEqual, BitOr, BitXor, BitAnd, ShiftLeft, ShiftRight, Add, Subtract, Multiply, Divide, Remainder}
-use Rattle.sp_operators.specs.declared.operators.UnOp.{UnOp}
-use Rattle.sp_operators.specs.declared.operators.UnOp.TheVariants.{Not, Negate, Complement, Size}
-use Rattle.sp_operators.specs.declared.operators.PlainType.{PlainType}
-use Rattle.sp_operators.specs.declared.operators.PlainType.TheVariants.{Uint, Int, Enum}
+use Rattle.sp_words.specs.declared.operators.BinaryOp.{BinaryOp}
+use Rattle.sp_words.specs.declared.operators.BinaryOp.TheVariants.{Or, And, In, NotIn, Equal, NotEqual, Less, LessEqual, Greater, GreaterEqual, BitOr, BitXor, BitAnd, ShiftLeft, ShiftRight, Add, Subtract, Multiply, Divide, Remainder}
+use Rattle.sp_words.specs.declared.operators.UnaryOp.{UnaryOp}
+use Rattle.sp_words.specs.declared.operators.UnaryOp.TheVariants.{Not, Negate, Complement}
+use Rattle.sp_operators.specs.declared.plain_type.PlainType.{PlainType}
+use Rattle.sp_operators.specs.declared.plain_type.PlainType.TheVariants.{Uint, Int, Enum}
+
+-- two Booleans
+abbrev pub are_booleans : Val → Val → Bool
+are_booleans (bool _) (bool _) = true
+are_booleans _ _ = false
 
 -- integers of one signedness
 abbrev pub are_integers : Val → Val → Bool
@@ -51,7 +56,9 @@ can_hold (bytes _) (bytes _) = true
 can_hold _ _ = false
 
 -- whether two values can stand before and behind an operator
-abbrev pub takes : BinOp → Val → Val → Bool
+abbrev pub takes : BinaryOp → Val → Val → Bool
+takes Or a b = are_booleans a b
+takes And a b = are_booleans a b
 takes In a b = can_hold a b
 takes NotIn a b = can_hold a b
 takes Equal a b = are_alike a b
@@ -72,21 +79,25 @@ takes Divide a b = are_integers a b
 takes Remainder a b = are_integers a b
 
 -- whether an operator between two values takes memory
-abbrev pub takes_memory : BinOp → Val → Val → Bool
+abbrev pub takes_memory : BinaryOp → Val → Val → Bool
 takes_memory Add a b = are_joined a b
 takes_memory _ a b = false
 
--- whether an operator on one value takes it: a size is that of bytes, a text, a vector, a set or a map
-abbrev pub takes_one : UnOp → Val → Bool
+-- whether an operator on one value takes it
+abbrev pub takes_one : UnaryOp → Val → Bool
 takes_one Not (bool _) = true
 takes_one Negate (int _ _) = true
 takes_one Complement (uint _ _) = true
-takes_one Size (bytes _) = true
-takes_one Size (str _) = true
-takes_one Size (vector _) = true
-takes_one Size (set _) = true
-takes_one Size (map _) = true
 takes_one _ _ = false
+
+-- whether a value has a size: bytes, a text, a vector, a set and a map have one
+abbrev pub has_size : Val → Bool
+has_size (bytes _) = true
+has_size (str _) = true
+has_size (vector _) = true
+has_size (set _) = true
+has_size (map _) = true
+has_size _ = false
 
 -- a cast goes from an integer to an integer or an enum, and from an enum to an unsigned integer
 abbrev pub is_cast : Val → PlainType → Bool

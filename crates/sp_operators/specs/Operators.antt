@@ -1,5 +1,5 @@
 -- The operators on values: functions on whole numbers, bytes and texts, with the error where a result is out of its type's range.
-use Rattle.std.specs.Prelude.{ℕ, ◌+◌, ◌^◌, ℤ, pos, neg_ℤ, Bool, nat_lt, nat_le, not, length, ◌++◌, Result, Ok, Err, if◌then◌else◌}
+use Rattle.std.specs.Prelude.{ℕ, ◌+◌, ◌^◌, ℤ, pos, neg_ℤ, Bool, nat_lt, nat_le, not, ◌&&◌, ◌||◌, length, ◌++◌, Result, Ok, Err, if◌then◌else◌}
 use Rattle.std.specs.Ordering.{is_eq, is_ne, is_lt, is_le, is_gt, is_ge}
 use Rattle.std.specs.Str.{chars}
 use Rattle.sp_base.specs.declared.kinds.PKind.{PKind}
@@ -9,7 +9,7 @@ use Rattle.sp_numbers.specs.declared.width.Width.TheVariants.{W64}
 use Rattle.sp_numbers.specs.declared.operators.Arithmetic.{Arithmetic}
 use Rattle.sp_numbers.specs.declared.operators.Arithmetic.TheVariants as arithmetic_on
 use Rattle.sp_numbers.specs.declared.operators.BitOperator.{BitOperator}
-use Rattle.sp_numbers.specs.declared.operators.BitOperator.TheVariants.{And, Or, Xor}
+use Rattle.sp_numbers.specs.declared.operators.BitOperator.TheVariants as bits
 use Rattle.sp_numbers.specs.declared.operators.Shift.{Shift}
 use Rattle.sp_numbers.specs.declared.operators.Shift.TheVariants.{Left, Right}
 use Rattle.sp_numbers.specs.Numbers.{width_bits, unsigned_or, signed_or, unsigned_arithmetic, signed_arithmetic, bitwise, complement, shifted}
@@ -17,12 +17,12 @@ use Rattle.sp_value.specs.Val.{Val, void, bool, uint, int, bytes, str, enum, vec
 use Rattle.sp_value.specs.Order.{val_cmp}
 use Rattle.sp_value.specs.Changes.{has_key}
 use Rattle.sp_operators.specs.Parts.{has_part}
-use Rattle.sp_operators.specs.declared.operators.BinOp.{BinOp}
-use Rattle.sp_operators.specs.declared.operators.BinOp.TheVariants.{In, NotIn, Equal, NotEqual, Less, LessEqual, Greater, GreaterEqual, BitOr, BitXor, BitAnd, ShiftLeft, ShiftRight, Add, Subtract, Multiply, Divide, Remainder}
-use Rattle.sp_operators.specs.declared.operators.UnOp.{UnOp}
-use Rattle.sp_operators.specs.declared.operators.UnOp.TheVariants.{Not, Negate, Complement, Size}
-use Rattle.sp_operators.specs.declared.operators.PlainType.{PlainType}
-use Rattle.sp_operators.specs.declared.operators.PlainType.TheVariants.{Uint, Int, Enum}
+use Rattle.sp_words.specs.declared.operators.BinaryOp.{BinaryOp}
+use Rattle.sp_words.specs.declared.operators.BinaryOp.TheVariants.{Or, And, In, NotIn, Equal, NotEqual, Less, LessEqual, Greater, GreaterEqual, BitOr, BitXor, BitAnd, ShiftLeft, ShiftRight, Add, Subtract, Multiply, Divide, Remainder}
+use Rattle.sp_words.specs.declared.operators.UnaryOp.{UnaryOp}
+use Rattle.sp_words.specs.declared.operators.UnaryOp.TheVariants.{Not, Negate, Complement}
+use Rattle.sp_operators.specs.declared.plain_type.PlainType.{PlainType}
+use Rattle.sp_operators.specs.declared.plain_type.PlainType.TheVariants.{Uint, Int, Enum}
 
 -- what stands for values that an operator doesn't take; no call comes to it
 abbrev pub no_operands : Result Val PKind
@@ -73,8 +73,19 @@ abbrev pub is_in : Val → Val → Bool
 is_in (bytes part) (bytes whole) = has_part whole part
 is_in key container = has_key container key
 
+-- whether either of two truths holds, and whether both hold
+abbrev pub either_holds : Val → Val → Result Val PKind
+either_holds (bool a) (bool b) = Ok (bool (a || b))
+either_holds _ _ = no_operands
+
+abbrev pub both_hold : Val → Val → Result Val PKind
+both_hold (bool a) (bool b) = Ok (bool (a && b))
+both_hold _ _ = no_operands
+
 -- an operator between two values
-abbrev pub binary : BinOp → Val → Val → Result Val PKind
+abbrev pub binary : BinaryOp → Val → Val → Result Val PKind
+binary Or a b = either_holds a b
+binary And a b = both_hold a b
 binary In a b = Ok (bool (is_in a b))
 binary NotIn a b = Ok (bool (not (is_in a b)))
 binary Equal a b = Ok (bool (is_eq (val_cmp a b)))
@@ -83,9 +94,9 @@ binary Less a b = Ok (bool (is_lt (val_cmp a b)))
 binary LessEqual a b = Ok (bool (is_le (val_cmp a b)))
 binary Greater a b = Ok (bool (is_gt (val_cmp a b)))
 binary GreaterEqual a b = Ok (bool (is_ge (val_cmp a b)))
-binary BitOr a b = bit_operation Or a b
-binary BitXor a b = bit_operation Xor a b
-binary BitAnd a b = bit_operation And a b
+binary BitOr a b = bit_operation bits.Or a b
+binary BitXor a b = bit_operation bits.Xor a b
+binary BitAnd a b = bit_operation bits.And a b
 binary ShiftLeft a b = shift_by Left a b
 binary ShiftRight a b = shift_by Right a b
 binary Add a b = added a b
@@ -104,11 +115,10 @@ size_of (map es) = length (pairs_of es)
 size_of _ = 0
 
 -- an operator on one value
-abbrev pub unary : UnOp → Val → Result Val PKind
+abbrev pub unary : UnaryOp → Val → Result Val PKind
 unary Not (bool b) = Ok (bool (not b))
 unary Negate (int w n) = value_or_error (int w) (signed_or Overflow w (neg_ℤ n))
 unary Complement (uint w n) = Ok (uint w (complement w n))
-unary Size v = Ok (uint W64 (size_of v))
 unary _ _ = no_operands
 
 -- a value as one of another type; a label that an enum doesn't list stays a number

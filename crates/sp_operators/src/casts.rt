@@ -9,7 +9,7 @@ ghost use Rattle.sp_operators.specs.Operands.{is_cast};
 ghost use Rattle.sp_operators.specs.Operators.{value_or_error, cast};
 
 use crate::fault::{ValueFault, told};
-use crate::operators::PlainType;
+use crate::plain_type::PlainType;
 use sp_base::PKind;
 use sp_numbers::Width;
 use sp_value::{Level, Value};

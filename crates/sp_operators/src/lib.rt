@@ -7,13 +7,14 @@ mod fault;
 mod integers;
 mod one_value;
 mod operands;
-mod operators;
+mod plain_type;
 mod sizes;
 mod two_values;
 
 pub use casts::cast;
 pub use fault::ValueFault;
 pub use one_value::unary;
-pub use operands::{is_cast, takes, takes_one};
-pub use operators::{BinOp, PlainType, UnOp};
+pub use operands::{has_size, is_cast, takes, takes_one};
+pub use plain_type::PlainType;
+pub use sizes::size;
 pub use two_values::{add, binary};

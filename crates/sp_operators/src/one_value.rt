@@ -8,11 +8,10 @@ ghost use Rattle.sp_operators.specs.Operands.{takes_one};
 ghost use Rattle.sp_operators.specs.Operators.{value_or_error, unary};
 
 use crate::fault::{ValueFault, told};
-use crate::operators::UnOp;
-use crate::sizes::size;
 use sp_base::PKind;
 use sp_numbers::Width;
 use sp_value::{Level, Value};
+use sp_words::UnaryOp;
 
 fn negated(width: Width, n: i64) -> Result<Value, PKind>
     ensures { result ≡ value_or_error (int width) (signed_or Overflow width (neg_ℤ n)) }
@@ -21,23 +20,22 @@ fn negated(width: Width, n: i64) -> Result<Value, PKind>
     Ok(Value::int(width, number))
 }
 
-fn found(op: UnOp, a: &Value) -> Result<Value, PKind>
+fn found(op: UnaryOp, a: &Value) -> Result<Value, PKind>
     requires { IsTrue (takes_one op a.now) }
     ensures { result ≡ unary op a.now }
 {
     match (op, a.level()) {
-        (UnOp::Not, Level::Bool(b)) => Ok(Value::bool(!b)),
-        (UnOp::Negate, Level::Int(width, n)) => negated(width, n),
-        (UnOp::Complement, Level::Uint(width, n)) => {
+        (UnaryOp::Not, Level::Bool(b)) => Ok(Value::bool(!b)),
+        (UnaryOp::Negate, Level::Int(width, n)) => negated(width, n),
+        (UnaryOp::Complement, Level::Uint(width, n)) => {
             Ok(Value::uint(width, sp_numbers::complement(width, n)))
         }
-        (UnOp::Size, _) => Ok(Value::uint(Width::W64, size(a) as u64)),
         _ => unreachable!(),
     }
 }
 
 /// What the operator makes of a value. It takes no memory. Error: `Overflow` of `-`.
-pub fn unary(op: UnOp, a: &Value) -> Result<Value, ValueFault>
+pub fn unary(op: UnaryOp, a: &Value) -> Result<Value, ValueFault>
     requires { IsTrue (takes_one op a.now) }
     ensures { Answers false (unary op a.now) result }
 {

@@ -1,9 +1,19 @@
 // Whether values are of the kinds that an operator takes. These tests take no memory.
 ghost use Rattle.std.specs.Prelude.{◌≡◌};
-ghost use Rattle.sp_operators.specs.Operands.{are_integers, are_unsigned, are_added, are_ordered, are_alike, can_hold, takes, takes_one, is_cast};
+ghost use Rattle.sp_operators.specs.Operands.{are_booleans, are_integers, are_unsigned, are_added, are_ordered, are_alike, can_hold, takes, takes_one, has_size, is_cast};
 
-use crate::operators::{BinOp, PlainType, UnOp};
+use crate::plain_type::PlainType;
 use sp_value::{Level, Value, kind};
+use sp_words::{BinaryOp, UnaryOp};
+
+fn are_booleans(a: &Value, b: &Value) -> bool
+    ensures { result ≡ are_booleans a.now b.now }
+{
+    match (a.level(), b.level()) {
+        (Level::Bool(_), Level::Bool(_)) => true,
+        _ => false,
+    }
+}
 
 fn are_integers(a: &Value, b: &Value) -> bool
     ensures { result ≡ are_integers a.now b.now }
@@ -58,33 +68,45 @@ fn can_hold(a: &Value, b: &Value) -> bool
 }
 
 /// Whether two values can stand before and behind an operator.
-pub fn takes(op: BinOp, a: &Value, b: &Value) -> bool
+pub fn takes(op: BinaryOp, a: &Value, b: &Value) -> bool
     ensures { result ≡ takes op a.now b.now }
 {
     match op {
-        BinOp::In | BinOp::NotIn => can_hold(a, b),
-        BinOp::Equal | BinOp::NotEqual => kind(a) == kind(b),
-        BinOp::Less | BinOp::LessEqual | BinOp::Greater | BinOp::GreaterEqual => are_ordered(a, b),
-        BinOp::BitOr | BinOp::BitXor | BinOp::BitAnd => are_unsigned(a, b),
-        BinOp::ShiftLeft | BinOp::ShiftRight => are_unsigned(a, b),
-        BinOp::Add => are_added(a, b),
-        BinOp::Subtract | BinOp::Multiply | BinOp::Divide | BinOp::Remainder => are_integers(a, b),
+        BinaryOp::Or | BinaryOp::And => are_booleans(a, b),
+        BinaryOp::In | BinaryOp::NotIn => can_hold(a, b),
+        BinaryOp::Equal | BinaryOp::NotEqual => kind(a) == kind(b),
+        BinaryOp::Less | BinaryOp::LessEqual | BinaryOp::Greater | BinaryOp::GreaterEqual =>
+            are_ordered(a, b),
+        BinaryOp::BitOr | BinaryOp::BitXor | BinaryOp::BitAnd => are_unsigned(a, b),
+        BinaryOp::ShiftLeft | BinaryOp::ShiftRight => are_unsigned(a, b),
+        BinaryOp::Add => are_added(a, b),
+        BinaryOp::Subtract | BinaryOp::Multiply | BinaryOp::Divide | BinaryOp::Remainder =>
+            are_integers(a, b),
     }
 }
 
 /// Whether an operator takes a value.
-pub fn takes_one(op: UnOp, a: &Value) -> bool
+pub fn takes_one(op: UnaryOp, a: &Value) -> bool
     ensures { result ≡ takes_one op a.now }
 {
     match (op, a.level()) {
-        (UnOp::Not, Level::Bool(_)) => true,
-        (UnOp::Negate, Level::Int(_, _)) => true,
-        (UnOp::Complement, Level::Uint(_, _)) => true,
-        (UnOp::Size, Level::Bytes(_)) => true,
-        (UnOp::Size, Level::Str(_)) => true,
-        (UnOp::Size, Level::Vector(_)) => true,
-        (UnOp::Size, Level::Set(_)) => true,
-        (UnOp::Size, Level::Map(_)) => true,
+        (UnaryOp::Not, Level::Bool(_)) => true,
+        (UnaryOp::Negate, Level::Int(_, _)) => true,
+        (UnaryOp::Complement, Level::Uint(_, _)) => true,
+        _ => false,
+    }
+}
+
+/// Whether a value has a size: bytes, a text, a vector, a set and a map have one.
+pub fn has_size(a: &Value) -> bool
+    ensures { result ≡ has_size a.now }
+{
+    match a.level() {
+        Level::Bytes(_) => true,
+        Level::Str(_) => true,
+        Level::Vector(_) => true,
+        Level::Set(_) => true,
+        Level::Map(_) => true,
         _ => false,
     }
 }

@@ -2,16 +2,16 @@
 ghost use Rattle.std.specs.Prelude.{◌≡◌, IfOk, MatchResult, IsTrue, Ok};
 ghost use Rattle.sp_value.specs.Changes.{IsBytes, IsText, with_bytes, with_text};
 ghost use Rattle.sp_operators.specs.Outcomes.{Answers};
-ghost use Rattle.sp_operators.specs.Operands.{are_added, are_joined, takes, takes_memory};
-ghost use Rattle.sp_operators.specs.Operators.{added, binary};
+ghost use Rattle.sp_operators.specs.Operands.{are_added, are_booleans, are_joined, takes, takes_memory};
+ghost use Rattle.sp_operators.specs.Operators.{added, binary, both_hold, either_holds};
 
 use crate::contains::is_in;
 use crate::fault::{ValueFault, told};
 use crate::integers::{arithmetic, bit_operation, place_behind, shift_by};
-use crate::operators::BinOp;
-use sp_base::NoMemory;
+use sp_base::{NoMemory, PKind};
 use sp_numbers::{Arithmetic, BitOperator, Shift};
 use sp_value::{Level, Value, compare};
+use sp_words::BinaryOp;
 
 fn with_bytes(a: &Value, more: &[u8]) -> Result<Value, NoMemory>
     requires { IsBytes a.now }
@@ -89,30 +89,53 @@ pub fn add(a: Value, b: &Value) -> Result<Value, ValueFault>
     }
 }
 
-/// What the operator makes of two values; texts are ordered by their bytes, and two bitfields are equal where all their
-/// named ranges are. Memory is taken by `+` of bytes and of texts alone. Errors: `Overflow`, `DivZero` and `BadShift`.
-pub fn binary(op: BinOp, a: &Value, b: &Value) -> Result<Value, ValueFault>
+fn either_holds(a: &Value, b: &Value) -> Result<Value, PKind>
+    requires { IsTrue (are_booleans a.now b.now) }
+    ensures { result ≡ either_holds a.now b.now }
+{
+    match (a.level(), b.level()) {
+        (Level::Bool(a), Level::Bool(b)) => Ok(Value::bool(a || b)),
+        _ => unreachable!(),
+    }
+}
+
+fn both_hold(a: &Value, b: &Value) -> Result<Value, PKind>
+    requires { IsTrue (are_booleans a.now b.now) }
+    ensures { result ≡ both_hold a.now b.now }
+{
+    match (a.level(), b.level()) {
+        (Level::Bool(a), Level::Bool(b)) => Ok(Value::bool(a && b)),
+        _ => unreachable!(),
+    }
+}
+
+/// What the operator makes of two values. Of `||` and `&&` both operands are there: whether the right one is needed is for
+/// the caller to say. Texts are ordered by their bytes, and two bitfields are equal where all their named ranges are. Memory
+/// is taken by `+` of bytes and of texts alone. Errors: `Overflow`, `DivZero` and `BadShift`.
+pub fn binary(op: BinaryOp, a: &Value, b: &Value) -> Result<Value, ValueFault>
     requires { IsTrue (takes op a.now b.now) }
     ensures { Answers (takes_memory op a.now b.now) (binary op a.now b.now) result }
 {
     match op {
-        BinOp::In => Ok(Value::bool(is_in(a, b))),
-        BinOp::NotIn => Ok(Value::bool(!is_in(a, b))),
-        BinOp::Equal => Ok(Value::bool(compare(a, b).is_eq())),
-        BinOp::NotEqual => Ok(Value::bool(compare(a, b).is_ne())),
-        BinOp::Less => Ok(Value::bool(compare(a, b).is_lt())),
-        BinOp::LessEqual => Ok(Value::bool(compare(a, b).is_le())),
-        BinOp::Greater => Ok(Value::bool(compare(a, b).is_gt())),
-        BinOp::GreaterEqual => Ok(Value::bool(compare(a, b).is_ge())),
-        BinOp::BitOr => told(bit_operation(BitOperator::Or, a, b)),
-        BinOp::BitXor => told(bit_operation(BitOperator::Xor, a, b)),
-        BinOp::BitAnd => told(bit_operation(BitOperator::And, a, b)),
-        BinOp::ShiftLeft => told(shift_by(Shift::Left, a, b)),
-        BinOp::ShiftRight => told(shift_by(Shift::Right, a, b)),
-        BinOp::Add => added(a, b),
-        BinOp::Subtract => told(arithmetic(Arithmetic::Subtract, a, b)),
-        BinOp::Multiply => told(arithmetic(Arithmetic::Multiply, a, b)),
-        BinOp::Divide => told(arithmetic(Arithmetic::Divide, a, b)),
-        BinOp::Remainder => told(arithmetic(Arithmetic::Remainder, a, b)),
+        BinaryOp::Or => told(either_holds(a, b)),
+        BinaryOp::And => told(both_hold(a, b)),
+        BinaryOp::In => Ok(Value::bool(is_in(a, b))),
+        BinaryOp::NotIn => Ok(Value::bool(!is_in(a, b))),
+        BinaryOp::Equal => Ok(Value::bool(compare(a, b).is_eq())),
+        BinaryOp::NotEqual => Ok(Value::bool(compare(a, b).is_ne())),
+        BinaryOp::Less => Ok(Value::bool(compare(a, b).is_lt())),
+        BinaryOp::LessEqual => Ok(Value::bool(compare(a, b).is_le())),
+        BinaryOp::Greater => Ok(Value::bool(compare(a, b).is_gt())),
+        BinaryOp::GreaterEqual => Ok(Value::bool(compare(a, b).is_ge())),
+        BinaryOp::BitOr => told(bit_operation(BitOperator::Or, a, b)),
+        BinaryOp::BitXor => told(bit_operation(BitOperator::Xor, a, b)),
+        BinaryOp::BitAnd => told(bit_operation(BitOperator::And, a, b)),
+        BinaryOp::ShiftLeft => told(shift_by(Shift::Left, a, b)),
+        BinaryOp::ShiftRight => told(shift_by(Shift::Right, a, b)),
+        BinaryOp::Add => added(a, b),
+        BinaryOp::Subtract => told(arithmetic(Arithmetic::Subtract, a, b)),
+        BinaryOp::Multiply => told(arithmetic(Arithmetic::Multiply, a, b)),
+        BinaryOp::Divide => told(arithmetic(Arithmetic::Divide, a, b)),
+        BinaryOp::Remainder => told(arithmetic(Arithmetic::Remainder, a, b)),
     }
 }

@@ -7,9 +7,10 @@
 use sp_base::NoMemory;
 use sp_numbers::{Width, signed_to_signed, unsigned_to_unsigned};
 use sp_operators::{
-    BinOp, PlainType, UnOp, ValueFault, binary, cast, is_cast, takes, takes_one, unary,
+    PlainType, ValueFault, binary, cast, has_size, is_cast, size, takes, takes_one, unary,
 };
 use sp_value::{Value, compare, kind};
+use sp_words::{BinaryOp, UnaryOp};
 use std::alloc::Global;
 use std::io;
 
@@ -121,41 +122,42 @@ fn type_of(name: &[u8]) -> Option<PlainType> {
     }
 }
 
-fn between(name: &str) -> Option<BinOp> {
+fn between(name: &str) -> Option<BinaryOp> {
     match name {
-        "in" => Some(BinOp::In),
-        "!in" => Some(BinOp::NotIn),
-        "==" => Some(BinOp::Equal),
-        "!=" => Some(BinOp::NotEqual),
-        "<" => Some(BinOp::Less),
-        "<=" => Some(BinOp::LessEqual),
-        ">" => Some(BinOp::Greater),
-        ">=" => Some(BinOp::GreaterEqual),
-        "|" => Some(BinOp::BitOr),
-        "^" => Some(BinOp::BitXor),
-        "&" => Some(BinOp::BitAnd),
-        "<<" => Some(BinOp::ShiftLeft),
-        ">>" => Some(BinOp::ShiftRight),
-        "+" => Some(BinOp::Add),
-        "-" => Some(BinOp::Subtract),
-        "*" => Some(BinOp::Multiply),
-        "/" => Some(BinOp::Divide),
-        "%" => Some(BinOp::Remainder),
+        "||" => Some(BinaryOp::Or),
+        "&&" => Some(BinaryOp::And),
+        "in" => Some(BinaryOp::In),
+        "!in" => Some(BinaryOp::NotIn),
+        "==" => Some(BinaryOp::Equal),
+        "!=" => Some(BinaryOp::NotEqual),
+        "<" => Some(BinaryOp::Less),
+        "<=" => Some(BinaryOp::LessEqual),
+        ">" => Some(BinaryOp::Greater),
+        ">=" => Some(BinaryOp::GreaterEqual),
+        "|" => Some(BinaryOp::BitOr),
+        "^" => Some(BinaryOp::BitXor),
+        "&" => Some(BinaryOp::BitAnd),
+        "<<" => Some(BinaryOp::ShiftLeft),
+        ">>" => Some(BinaryOp::ShiftRight),
+        "+" => Some(BinaryOp::Add),
+        "-" => Some(BinaryOp::Subtract),
+        "*" => Some(BinaryOp::Multiply),
+        "/" => Some(BinaryOp::Divide),
+        "%" => Some(BinaryOp::Remainder),
         _ => None,
     }
 }
 
-fn before(name: &str) -> Option<UnOp> {
+fn before(name: &str) -> Option<UnaryOp> {
     match name {
-        "!" => Some(UnOp::Not),
-        "-" => Some(UnOp::Negate),
-        "~" => Some(UnOp::Complement),
-        "||" => Some(UnOp::Size),
+        "!" => Some(UnaryOp::Not),
+        "-" => Some(UnaryOp::Negate),
+        "~" => Some(UnaryOp::Complement),
         _ => None,
     }
 }
 
-fn answer_of_one(op: UnOp, a: &Value) -> Answer {
+fn answer_of_one(op: UnaryOp, a: &Value) -> Answer {
     if takes_one(op, a) {
         Answer::Found(unary(op, a))
     } else {
@@ -163,7 +165,15 @@ fn answer_of_one(op: UnOp, a: &Value) -> Answer {
     }
 }
 
-fn answer_of_two(op: BinOp, a: &Value, b: &Value) -> Answer {
+fn answer_of_size(a: &Value) -> Answer {
+    if has_size(a) {
+        Answer::Found(Ok(size(a)))
+    } else {
+        Answer::NotTaken
+    }
+}
+
+fn answer_of_two(op: BinaryOp, a: &Value, b: &Value) -> Answer {
     if takes(op, a, b) {
         Answer::Found(binary(op, a, b))
     } else {
@@ -182,6 +192,10 @@ fn answer_of_cast(a: &Value, to: &PlainType) -> Answer {
 /// The answer of an operator before a value, or of one between two.
 fn answer_of(alloc: Global, op: &str, operands: &str) -> Result<Answer, NoMemory> {
     match operands.split_once(" ") {
+        None if op == "||" => match value(alloc, operands)? {
+            Some(a) => Ok(answer_of_size(&a)),
+            None => Ok(Answer::NoCase),
+        },
         None => match (before(op), value(alloc, operands)?) {
             (Some(op), Some(a)) => Ok(answer_of_one(op, &a)),
             _ => Ok(Answer::NoCase),

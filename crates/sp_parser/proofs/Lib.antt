@@ -2,7 +2,7 @@ pub mod Looks
 pub mod Moves
 pub mod Ends
 pub mod Steps
-pub mod Texts
+pub mod Phrases
 pub mod Tested
 pub mod Choices
 pub mod Longest

@@ -1,7 +1,7 @@
 -- The tokens from a place on, and a text as its own longest viable prefix.
 use Rattle.std.proofs.Common.{◌≡◌, ℕ, ◌-◌, ◌≤◌, List, [], length, take, drop, sym, ◌∙◌, subst, arith}
 use Rattle.std.proofs.lemmas.List.{append-nil, length-drop, take_all}
-use Rattle.sp_parser.specs.declared.symbol.Event.{Event}
+use Rattle.sp_parser.specs.declared.symbol.ActionAt.{ActionAt}
 use Rattle.sp_parser.specs.Grammar.{Table, IsLongestViable, Derives}
 
 -- the tokens from a place up to their end
@@ -11,7 +11,7 @@ rest_is xs rest count at c e =
     e ∙ take_all (count - at) (drop at xs) enough
 
 -- no longer prefix is viable than the text itself
-pub text_is_longest : (g : Table) (n : ℕ) (w v : List ℕ) (τ : List Event) (m : ℕ) → w ≡ v → m ≡ length w → Derives g n w τ → IsLongestViable g n v m × Derives g n (take m v) τ
+pub text_is_longest : (g : Table) (n : ℕ) (w v : List ℕ) (τ : List ActionAt) (m : ℕ) → w ≡ v → m ≡ length w → Derives g n w τ → IsLongestViable g n v m × Derives g n (take m v) τ
 text_is_longest g n w v τ m same e d =
     let whole : w ≡ take m w = sym (take_all m w (omega (arith, e))) in
     let longest : IsLongestViable g n w m = record {

@@ -5,9 +5,9 @@ use Rattle.std.specs.Int.{bit_at}
 use Rattle.std.proofs.lemmas.Nat.Bits.{bit_at_or, bit_at-lt, bit_at-pow_same}
 use Rattle.std.proofs.lemmas.Bool.{eqb-true, and_parts, or_cases, cond-true, cond-false}
 use Rattle.sp_parser.specs.declared.symbol.Symbol.{Symbol}
-use Rattle.sp_parser.specs.declared.symbol.Symbol.TheVariants.{Terminal, Nonterminal, Mark}
-use Rattle.sp_parser.specs.declared.symbol.Event.{Event}
-use Rattle.sp_parser.specs.Grammar.{Table, productions_of, right, predict, takes, Take, Nothing, First, All, ahead, Applies, Derivation, done, whole, half, mark, expand, GREATER, SHIFT, SECOND, CLOSE, END}
+use Rattle.sp_parser.specs.declared.symbol.Symbol.TheVariants.{Terminal, Nonterminal, Action}
+use Rattle.sp_parser.specs.declared.symbol.ActionAt.{ActionAt}
+use Rattle.sp_parser.specs.Grammar.{Table, productions_of, right, predict, takes, Take, Nothing, First, All, ahead, Applies, Derivation, done, whole, half, action, expand, GREATER, SHIFT, SECOND, CLOSE, END}
 use Rattle.sp_parser.specs.Certificate.{Certificate, Has, firsts, nullables, first_of, follow_of, nullable_of, takers, within, followed, IsCertified, looks, Fits}
 
 max_one : (x y : ℕ) → max x y ≡ 1 → (x ≡ 1) ⊎ (y ≡ 1)
@@ -38,7 +38,7 @@ nonterminal_wider false a r s k i h = h
 pub wider : (f : Certificate) (b c k : ℕ) (ss : List Symbol) → (Has b k → Has c k) → Has (firsts f b ss) k → Has (firsts f c ss) k
 wider f b c k [] i h = i h
 wider f b c k (Terminal e ∷ ss) i h = h
-wider f b c k (Mark m ∷ ss) i h = wider f b c k ss i h
+wider f b c k (Action m ∷ ss) i h = wider f b c k ss i h
 wider f b c k (Nonterminal n ∷ ss) i h = nonterminal_wider (nullable_of f n) (first_of f n) (firsts f b ss) (firsts f c ss) k (wider f b c k ss i) h
 
 nonterminal_split : (e t : Bool) (a r s b k : ℕ) → (Has r k → Has s k ⊎ ((t ≡ true) × Has b k)) → Has (cond e (bit_or a r) a) k → Has (cond e (bit_or a s) a) k ⊎ (((e && t) ≡ true) × Has b k)
@@ -48,13 +48,13 @@ nonterminal_split false t a r s b k i h = inl h
 pub split : (f : Certificate) (b k : ℕ) (ss : List Symbol) → Has (firsts f b ss) k → Has (firsts f 0 ss) k ⊎ ((nullables f ss ≡ true) × Has b k)
 split f b k [] h = inr (refl, h)
 split f b k (Terminal e ∷ ss) h = inl h
-split f b k (Mark m ∷ ss) h = split f b k ss h
+split f b k (Action m ∷ ss) h = split f b k ss h
 split f b k (Nonterminal n ∷ ss) h = nonterminal_split (nullable_of f n) (nullables f ss) (first_of f n) (firsts f b ss) (firsts f 0 ss) b k (split f b k ss) h
 
 pub firsts-append : (f : Certificate) (b : ℕ) (xs ys : List Symbol) → firsts f b (xs ++ ys) ≡ firsts f (firsts f b ys) xs
 firsts-append f b [] ys = refl
 firsts-append f b (Terminal e ∷ xs) ys = refl
-firsts-append f b (Mark m ∷ xs) ys = firsts-append f b xs ys
+firsts-append f b (Action m ∷ xs) ys = firsts-append f b xs ys
 firsts-append f b (Nonterminal n ∷ xs) ys = ap (λ r. cond (nullable_of f n) (bit_or (first_of f n) r) (first_of f n)) (firsts-append f b xs ys)
 
 nonterminal_has : (e : Bool) (a r k : ℕ) → Has a k ⊎ ((e ≡ true) × Has r k) → Has (cond e (bit_or a r) a) k
@@ -86,17 +86,17 @@ production_looks g f s n p k ss h l =
     nonterminal_has (nullable_of f n) (first_of f n) (looks f ss) k
     (elim (split f (looks f ss) k (right g n p) a) [ inl x ↦ inl (s.first n p k h x) | inr y ↦ inr (s.nullable n p h y.0, y.1) ])
 
-pub run_looks : (g : Table) (f : Certificate) → IsCertified g f → {i : ℕ} {ss : List Symbol} {w : List ℕ} {τ : List Event} → Derivation g i ss w τ → Has (looks f ss) (ahead w)
+pub run_looks : (g : Table) (f : Certificate) → IsCertified g f → {i : ℕ} {ss : List Symbol} {w : List ℕ} {τ : List ActionAt} → Derivation g i ss w τ → Has (looks f ss) (ahead w)
 run_looks g f s done = refl
 run_looks g f s (whole {e = e} {k = k} t r) = takes_has e k All t (λ x. cc)
 run_looks g f s (half {e = e} {k = k} t r) = takes_has e k First t (λ x. cc)
-run_looks g f s (mark r) = run_looks g f s r
+run_looks g f s (action r) = run_looks g f s r
 run_looks g f s (expand {n = n} {ss = ss} {w = w} p a r) = production_looks g f s n p (ahead w) ss a.below (run_looks g f s r)
 
 pub fits-append : (f : Certificate) (b : ℕ) (xs ys : List Symbol) → followed f b xs ≡ true → ((k : ℕ) → Has (looks f ys) k → Has b k) → Fits f ys → Fits f (xs ++ ys)
 fits-append f b [] ys t h s = s
 fits-append f b (Terminal e ∷ xs) ys t h s = fits-append f b xs ys t h s
-fits-append f b (Mark m ∷ xs) ys t h s = fits-append f b xs ys t h s
+fits-append f b (Action m ∷ xs) ys t h s = fits-append f b xs ys t h s
 fits-append f b (Nonterminal n ∷ xs) ys t h s =
     let both = and_parts (within (firsts f b xs) (follow_of f n)) (followed f b xs) t in (
       (λ k l. within_has (firsts f b xs) (follow_of f n) k both.0 (wider f (looks f ys) b k xs (h k) (subst (λ m. Has m k) (firsts-append f (2 ^ END) xs ys) l))),
@@ -107,7 +107,7 @@ pub fits_production : (g : Table) (f : Certificate) → IsCertified g f → (n p
 fits_production g f s n p ss h fits = fits-append f (follow_of f n) (right g n p) ss (s.after n p h) fits.0 fits.1
 
 -- A run takes the production that is predicted.
-pub picks_production : (g : Table) (f : Certificate) → IsCertified g f → (i : ℕ) (ss : List Symbol) (w : List ℕ) (τ : List Event) (n p : ℕ) → Fits f (Nonterminal n ∷ ss) → Applies g n p w → Derivation g i (right g n p ++ ss) w τ → predict g n (ahead w) ≡ p
+pub picks_production : (g : Table) (f : Certificate) → IsCertified g f → (i : ℕ) (ss : List Symbol) (w : List ℕ) (τ : List ActionAt) (n p : ℕ) → Fits f (Nonterminal n ∷ ss) → Applies g n p w → Derivation g i (right g n p ++ ss) w τ → predict g n (ahead w) ≡ p
 picks_production g f s i ss w τ n p fits a r =
     let l : Has (firsts f (looks f ss) (right g n p)) (ahead w) = subst (λ m. Has m (ahead w)) (firsts-append f (2 ^ END) (right g n p) ss) (run_looks g f s r) in
     let m : Has (firsts f (follow_of f n) (right g n p)) (ahead w) = wider f (looks f ss) (follow_of f n) (ahead w) (right g n p) (fits.0 (ahead w)) l in

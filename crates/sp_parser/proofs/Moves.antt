@@ -2,32 +2,32 @@
 use Rattle.std.proofs.Common.{◌≡◌, ℕ, suc, ◌<◌, List, [], ◌∷◌, ◌++◌, length, refl, sym, ◌∙◌, ap, subst, inl, inr, ◌⊎◌, append_assoc}
 use Rattle.std.specs.Int.{bit_at}
 use Rattle.sp_parser.specs.declared.symbol.Symbol.{Symbol}
-use Rattle.sp_parser.specs.declared.symbol.Symbol.TheVariants.{Terminal, Nonterminal, Mark}
-use Rattle.sp_parser.specs.declared.symbol.Event.{Event}
-use Rattle.sp_parser.specs.Grammar.{Table, productions_of, production_of, right, predict, takes, Nothing, First, All, ahead, Applies, Derivation, done, whole, half, mark, expand, event, Advances, SECOND}
+use Rattle.sp_parser.specs.declared.symbol.Symbol.TheVariants.{Terminal, Nonterminal, Action}
+use Rattle.sp_parser.specs.declared.symbol.ActionAt.{ActionAt}
+use Rattle.sp_parser.specs.Grammar.{Table, productions_of, production_of, right, predict, takes, Nothing, First, All, ahead, Applies, Derivation, done, whole, half, action, expand, action_at, Advances, SECOND}
 use Rattle.sp_parser.specs.Certificate.{Certificate, IsCertified, Fits}
 use Rattle.sp_parser.proofs.Looks.{picks_production, fits_production}
 
-pub token_inv : {g : Table} {i e k : ℕ} {ss : List Symbol} {w : List ℕ} {τ : List Event} → Derivation g i (Terminal e ∷ ss) (k ∷ w) τ → ((takes e k ≡ All) × Derivation g (suc i) ss w τ) ⊎ ((takes e k ≡ First) × Derivation g i ss (SECOND ∷ w) τ)
+pub token_inv : {g : Table} {i e k : ℕ} {ss : List Symbol} {w : List ℕ} {τ : List ActionAt} → Derivation g i (Terminal e ∷ ss) (k ∷ w) τ → ((takes e k ≡ All) × Derivation g (suc i) ss w τ) ⊎ ((takes e k ≡ First) × Derivation g i ss (SECOND ∷ w) τ)
 token_inv (whole t r) = inl (t, r)
 token_inv (half t r) = inr (t, r)
 
-pub token_end : {g : Table} {i e : ℕ} {ss : List Symbol} {τ : List Event} → Derivation g i (Terminal e ∷ ss) [] τ → ⊥
+pub token_end : {g : Table} {i e : ℕ} {ss : List Symbol} {τ : List ActionAt} → Derivation g i (Terminal e ∷ ss) [] τ → ⊥
 token_end h = elim h [ ]
 
-pub mark_inv : {g : Table} {i m : ℕ} {ss : List Symbol} {w : List ℕ} {τ : List Event} → Derivation g i (Mark m ∷ ss) w τ → (σ : List Event) × (τ ≡ event m i ∷ σ) × Derivation g i ss w σ
-mark_inv (mark {τ = σ} r) = (σ, refl, r)
+pub action_inv : {g : Table} {i m : ℕ} {ss : List Symbol} {w : List ℕ} {τ : List ActionAt} → Derivation g i (Action m ∷ ss) w τ → (σ : List ActionAt) × (τ ≡ action_at m i ∷ σ) × Derivation g i ss w σ
+action_inv (action {τ = σ} r) = (σ, refl, r)
 
-pub nonterminal_inv : {g : Table} {i n : ℕ} {ss : List Symbol} {w : List ℕ} {τ : List Event} → Derivation g i (Nonterminal n ∷ ss) w τ → (p : ℕ) × Applies g n p w × Derivation g i (right g n p ++ ss) w τ
+pub nonterminal_inv : {g : Table} {i n : ℕ} {ss : List Symbol} {w : List ℕ} {τ : List ActionAt} → Derivation g i (Nonterminal n ∷ ss) w τ → (p : ℕ) × Applies g n p w × Derivation g i (right g n p ++ ss) w τ
 nonterminal_inv (expand p a r) = (p, a, r)
 
-pub done_inv : {g : Table} {i : ℕ} {w : List ℕ} {τ : List Event} → Derivation g i [] w τ → (w ≡ []) × (τ ≡ [])
+pub done_inv : {g : Table} {i : ℕ} {w : List ℕ} {τ : List ActionAt} → Derivation g i [] w τ → (w ≡ []) × (τ ≡ [])
 done_inv done = (refl, refl)
 
 pub stay : (g : Table) (i : ℕ) (ss : List Symbol) (w : List ℕ) → Advances g i ss w i ss w []
 stay g i ss w = record { forth = λ τ r. r; back = λ τ r. (τ, refl, r) }
 
-pub then : (g : Table) (i : ℕ) (ss : List Symbol) (w : List ℕ) (j : ℕ) (ts : List Symbol) (v : List ℕ) (ε : List Event) (k : ℕ) (us : List Symbol) (u : List ℕ) (δ : List Event) → Advances g i ss w j ts v ε → Advances g j ts v k us u δ → Advances g i ss w k us u (ε ++ δ)
+pub then : (g : Table) (i : ℕ) (ss : List Symbol) (w : List ℕ) (j : ℕ) (ts : List Symbol) (v : List ℕ) (ε : List ActionAt) (k : ℕ) (us : List Symbol) (u : List ℕ) (δ : List ActionAt) → Advances g i ss w j ts v ε → Advances g j ts v k us u δ → Advances g i ss w k us u (ε ++ δ)
 then g i ss w j ts v ε k us u δ a b = record {
   forth = λ τ r. subst (λ σ. Derivation g i ss w σ) (sym (append_assoc ε δ τ)) (a.forth (δ ++ τ) (b.forth τ r));
   back = λ τ r. let x = a.back τ r in let y = b.back x.0 x.2 in (y.0, x.1 ∙ ap (λ σ. ε ++ σ) y.1 ∙ sym (append_assoc ε δ y.0), y.2);
@@ -45,11 +45,11 @@ move_half g i e k ss w t = record {
   back = λ τ r. elim (token_inv r) [ inl x ↦ absurd (let q : All ≡ First = sym x.0 ∙ t in cc) | inr y ↦ (τ, refl, y.1) ];
 }
 
-pub no_move : (g : Table) (i e k : ℕ) (ss : List Symbol) (w : List ℕ) (τ : List Event) → takes e k ≡ Nothing → Derivation g i (Terminal e ∷ ss) (k ∷ w) τ → ⊥
+pub no_move : (g : Table) (i e k : ℕ) (ss : List Symbol) (w : List ℕ) (τ : List ActionAt) → takes e k ≡ Nothing → Derivation g i (Terminal e ∷ ss) (k ∷ w) τ → ⊥
 no_move g i e k ss w τ t r = elim (token_inv r) [ inl x ↦ (let q : All ≡ Nothing = sym x.0 ∙ t in cc) | inr y ↦ (let q : First ≡ Nothing = sym y.0 ∙ t in cc) ]
 
-pub move_mark : (g : Table) (i m : ℕ) (ss : List Symbol) (w : List ℕ) → Advances g i (Mark m ∷ ss) w i ss w (event m i ∷ [])
-move_mark g i m ss w = record { forth = λ τ r. mark r; back = λ τ r. mark_inv r }
+pub move_action : (g : Table) (i m : ℕ) (ss : List Symbol) (w : List ℕ) → Advances g i (Action m ∷ ss) w i ss w (action_at m i ∷ [])
+move_action g i m ss w = record { forth = λ τ r. action r; back = λ τ r. action_inv r }
 
 pub move_predict : (g : Table) (f : Certificate) → IsCertified g f → (i n k : ℕ) (ss : List Symbol) (w : List ℕ) → Fits f (Nonterminal n ∷ ss) → ahead w ≡ k → predict g n k < length (productions_of g n) → Advances g i (Nonterminal n ∷ ss) w i (right g n (predict g n k) ++ ss) w []
 move_predict g f s i n k ss w fits e h = record {
@@ -59,7 +59,7 @@ move_predict g f s i n k ss w fits e h = record {
       (τ, refl, subst (λ p. Derivation g i (right g n p ++ ss) w τ) (sym q ∙ ap (λ j. predict g n j) e) x.2);
 }
 
-pub no_predict : (g : Table) (f : Certificate) → IsCertified g f → (i n k : ℕ) (ss : List Symbol) (w : List ℕ) (τ : List Event) → Fits f (Nonterminal n ∷ ss) → ahead w ≡ k → (predict g n k < length (productions_of g n) → ⊥) → Derivation g i (Nonterminal n ∷ ss) w τ → ⊥
+pub no_predict : (g : Table) (f : Certificate) → IsCertified g f → (i n k : ℕ) (ss : List Symbol) (w : List ℕ) (τ : List ActionAt) → Fits f (Nonterminal n ∷ ss) → ahead w ≡ k → (predict g n k < length (productions_of g n) → ⊥) → Derivation g i (Nonterminal n ∷ ss) w τ → ⊥
 no_predict g f s i n k ss w τ fits e h r =
     let x = nonterminal_inv r in
     let q : predict g n (ahead w) ≡ x.0 = picks_production g f s i ss w τ n x.0 fits x.1 x.2 in
@@ -69,11 +69,11 @@ pub fits_predict : (g : Table) (f : Certificate) → IsCertified g f → (n k : 
 fits_predict g f s n k ss fits h = fits_production g f s n (predict g n k) ss h fits
 
 -- At most one run.
-pub one_run : (g : Table) (f : Certificate) → IsCertified g f → {i : ℕ} {ss : List Symbol} {w : List ℕ} {τ : List Event} → Fits f ss → Derivation g i ss w τ → (σ : List Event) → Derivation g i ss w σ → τ ≡ σ
+pub one_run : (g : Table) (f : Certificate) → IsCertified g f → {i : ℕ} {ss : List Symbol} {w : List ℕ} {τ : List ActionAt} → Fits f ss → Derivation g i ss w τ → (σ : List ActionAt) → Derivation g i ss w σ → τ ≡ σ
 one_run g f s fits done σ q = sym (done_inv q).1
 one_run g f s fits (whole {i = i} {e = e} {k = k} {ss = ss} {w = w} {τ = τ} t r) σ q = let x = (move_whole g i e k ss w t).back σ q in one_run g f s fits r x.0 x.2 ∙ sym x.1
 one_run g f s fits (half {i = i} {e = e} {k = k} {ss = ss} {w = w} {τ = τ} t r) σ q = let x = (move_half g i e k ss w t).back σ q in one_run g f s fits r x.0 x.2 ∙ sym x.1
-one_run g f s fits (mark {i = i} {m = m} r) σ q = let x = mark_inv q in ap (λ ρ. event m i ∷ ρ) (one_run g f s fits r x.0 x.2) ∙ sym x.1
+one_run g f s fits (action {i = i} {m = m} r) σ q = let x = action_inv q in ap (λ ρ. action_at m i ∷ ρ) (one_run g f s fits r x.0 x.2) ∙ sym x.1
 one_run g f s fits (expand {i = i} {n = n} {ss = ss} {w = w} {τ = τ} p a r) σ q =
     let x = nonterminal_inv q in
     let e : p ≡ x.0 = sym (picks_production g f s i ss w τ n p fits a r) ∙ picks_production g f s i ss w σ n x.0 fits x.1 x.2 in

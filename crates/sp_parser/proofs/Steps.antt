@@ -3,42 +3,42 @@ use Rattle.std.proofs.Common.{◌≡◌, ℕ, suc, ◌<◌, ◌≤◌, List, [],
 use Rattle.std.specs.Prelude.{◌==◌}
 use Rattle.std.proofs.lemmas.List.{reverse-append}
 use Rattle.sp_parser.specs.declared.symbol.Symbol.{Symbol}
-use Rattle.sp_parser.specs.declared.symbol.Symbol.TheVariants.{Terminal, Nonterminal, Mark}
-use Rattle.sp_parser.specs.declared.symbol.Event.{Event}
+use Rattle.sp_parser.specs.declared.symbol.Symbol.TheVariants.{Terminal, Nonterminal, Action}
+use Rattle.sp_parser.specs.declared.symbol.ActionAt.{ActionAt}
 use Rattle.sp_parser.specs.declared.symbol.Step.{Step}
 use Rattle.sp_parser.specs.declared.symbol.Step.TheVariants.{Whole, Half, Refused, Emptied}
-use Rattle.sp_parser.specs.Grammar.{Table, productions_of, right, predict, takes, Nothing, First, All, ahead, Derivation, event, Advances, Tells, taken_of, SECOND, CLOSE}
+use Rattle.sp_parser.specs.Grammar.{Table, productions_of, right, predict, takes, Nothing, First, All, ahead, Derivation, action_at, Advances, Tells, taken_of, SECOND, CLOSE}
 use Rattle.sp_parser.specs.Certificate.{Certificate, IsCertified, Ready, steps_of}
-use Rattle.sp_parser.proofs.Moves.{then, move_whole, move_half, no_move, move_mark, move_predict, no_predict, fits_predict, token_end}
+use Rattle.sp_parser.proofs.Moves.{then, move_whole, move_half, no_move, move_action, move_predict, no_predict, fits_predict, token_end}
 use Rattle.sp_parser.proofs.Ends.{fewer, listed-append}
 
-pub record Moved (g : Table) (f : Certificate) (i : ℕ) (ss : List Symbol) (k : ℕ) (ts : List Symbol) (before after : List Event) : Type 0 where
+pub record Moved (g : Table) (f : Certificate) (i : ℕ) (ss : List Symbol) (k : ℕ) (ts : List Symbol) (before after : List ActionAt) : Type 0 where
   pub ready : Ready f ts
-  pub left : List Event
-  pub events : after ≡ before ++ left
+  pub left : List ActionAt
+  pub actions : after ≡ before ++ left
   pub moves : (w : List ℕ) → ahead w ≡ k → Advances g i ss w i ts w left
 
-append-nil : (ε : List Event) → ε ++ [] ≡ ε
+append-nil : (ε : List ActionAt) → ε ++ [] ≡ ε
 append-nil [] = refl
 append-nil (x ∷ ε) = ap (λ r. x ∷ r) (append-nil ε)
 
 -- the parts of the record after one more move
-more : (g : Table) (i : ℕ) (ss : List Symbol) (w : List ℕ) (ts : List Symbol) (ε : List Event) (j : ℕ) (us : List Symbol) (v : List ℕ) → Advances g i ss w i ts w ε → Advances g i ts w j us v [] → Advances g i ss w j us v ε
+more : (g : Table) (i : ℕ) (ss : List Symbol) (w : List ℕ) (ts : List Symbol) (ε : List ActionAt) (j : ℕ) (us : List Symbol) (v : List ℕ) → Advances g i ss w i ts w ε → Advances g i ts w j us v [] → Advances g i ss w j us v ε
 more g i ss w ts ε j us v a b = subst (λ δ. Advances g i ss w j us v δ) (append-nil ε) (then g i ss w i ts w ε j us v [] a b)
 
-pub moved_mark : (g : Table) (f : Certificate) (i : ℕ) (ss : List Symbol) (k m : ℕ) (ts : List Symbol) (before after : List Event) → Moved g f i ss k (Mark m ∷ ts) before after → Moved g f i ss k ts before (after ++ event m i ∷ [])
-moved_mark g f i ss k m ts before after x = record {
+pub moved_action : (g : Table) (f : Certificate) (i : ℕ) (ss : List Symbol) (k m : ℕ) (ts : List Symbol) (before after : List ActionAt) → Moved g f i ss k (Action m ∷ ts) before after → Moved g f i ss k ts before (after ++ action_at m i ∷ [])
+moved_action g f i ss k m ts before after x = record {
   ready = record { fits = x.ready.fits; listed = x.ready.listed };
-  left = x.left ++ event m i ∷ [];
-  events = ap (λ r. r ++ event m i ∷ []) x.events ∙ append_assoc before x.left (event m i ∷ []);
-  moves = λ w e. then g i ss w i (Mark m ∷ ts) w x.left i ts w (event m i ∷ []) (x.moves w e) (move_mark g i m ts w);
+  left = x.left ++ action_at m i ∷ [];
+  actions = ap (λ r. r ++ action_at m i ∷ []) x.actions ∙ append_assoc before x.left (action_at m i ∷ []);
+  moves = λ w e. then g i ss w i (Action m ∷ ts) w x.left i ts w (action_at m i ∷ []) (x.moves w e) (move_action g i m ts w);
 }
 
-pub moved_predict : (g : Table) (f : Certificate) → IsCertified g f → (i : ℕ) (ss : List Symbol) (k n : ℕ) (ts : List Symbol) (before after : List Event) → predict g n k < length (productions_of g n) → Moved g f i ss k (Nonterminal n ∷ ts) before after → Moved g f i ss k (right g n (predict g n k) ++ ts) before after
+pub moved_predict : (g : Table) (f : Certificate) → IsCertified g f → (i : ℕ) (ss : List Symbol) (k n : ℕ) (ts : List Symbol) (before after : List ActionAt) → predict g n k < length (productions_of g n) → Moved g f i ss k (Nonterminal n ∷ ts) before after → Moved g f i ss k (right g n (predict g n k) ++ ts) before after
 moved_predict g f s i ss k n ts before after h x = record {
   ready = record { fits = fits_predict g f s n k ts x.ready.fits h; listed = listed-append f (right g n (predict g n k)) ts (s.listed n (predict g n k) h) x.ready.listed.1 };
   left = x.left;
-  events = x.events;
+  actions = x.actions;
   moves = λ w e. more g i ss w (Nonterminal n ∷ ts) x.left i (right g n (predict g n k) ++ ts) w (x.moves w e) (move_predict g f s i n k ts w x.ready.fits e h);
 }
 
@@ -53,31 +53,31 @@ popped old new x e = ap reverse e ∙ reverse-append new (x ∷ [])
 takes_second : (e : ℕ) → takes e SECOND ≡ First → ⊥
 takes_second e h = second_cases (e == CLOSE) (e == SECOND) h
 
-no_token : (g : Table) (i e k : ℕ) (ts : List Symbol) (w : List ℕ) (τ : List Event) → takes e k ≡ Nothing → ahead w ≡ k → Derivation g i (Terminal e ∷ ts) w τ → ⊥
+no_token : (g : Table) (i e k : ℕ) (ts : List Symbol) (w : List ℕ) (τ : List ActionAt) → takes e k ≡ Nothing → ahead w ≡ k → Derivation g i (Terminal e ∷ ts) w τ → ⊥
 no_token g i e k ts [] τ t a r = token_end r
 no_token g i e k ts (j ∷ w) τ t a r = no_move g i e j ts w τ (ap (λ x. takes e x) a ∙ t) r
 
 -- what a step tells
-abbrev pub Told : Table → Certificate → Step → ℕ → List Symbol → ℕ → List Symbol → List Event → List Event → Type 0
-Told g f s i ss k ts before after = (ε : List Event) × (after ≡ before ++ ε) × Tells g s i ss k ts ε
+abbrev pub Told : Table → Certificate → Step → ℕ → List Symbol → ℕ → List Symbol → List ActionAt → List ActionAt → Type 0
+Told g f s i ss k ts before after = (ε : List ActionAt) × (after ≡ before ++ ε) × Tells g s i ss k ts ε
 
-pub told_token : (g : Table) (f : Certificate) (s : Step) (i : ℕ) (ss : List Symbol) (k e : ℕ) (ts : List Symbol) (before after : List Event) → taken_of s (takes e k) → Moved g f i ss k (Terminal e ∷ ts) before after → Told g f s i ss k ts before after
-told_token g f Whole i ss k e ts before after t x = (x.left, x.events, ((λ w. more g i ss (k ∷ w) (Terminal e ∷ ts) x.left (suc i) ts w (x.moves (k ∷ w) refl) (move_whole g i e k ts w t)), λ q τ r. let y = (x.moves [] (sym q)).back τ r in token_end y.2))
-told_token g f Half i ss k e ts before after t x = (x.left, x.events, ((λ q. takes_second e (subst (λ j. takes e j ≡ First) q t)), (λ w. more g i ss (k ∷ w) (Terminal e ∷ ts) x.left i ts (SECOND ∷ w) (x.moves (k ∷ w) refl) (move_half g i e k ts w t)), λ q τ r. let y = (x.moves [] (sym q)).back τ r in token_end y.2))
-told_token g f Refused i ss k e ts before after t x = (x.left, x.events, λ w a τ r. let y = (x.moves w a).back τ r in no_token g i e k ts w y.0 t a y.2)
+pub told_token : (g : Table) (f : Certificate) (s : Step) (i : ℕ) (ss : List Symbol) (k e : ℕ) (ts : List Symbol) (before after : List ActionAt) → taken_of s (takes e k) → Moved g f i ss k (Terminal e ∷ ts) before after → Told g f s i ss k ts before after
+told_token g f Whole i ss k e ts before after t x = (x.left, x.actions, ((λ w. more g i ss (k ∷ w) (Terminal e ∷ ts) x.left (suc i) ts w (x.moves (k ∷ w) refl) (move_whole g i e k ts w t)), λ q τ r. let y = (x.moves [] (sym q)).back τ r in token_end y.2))
+told_token g f Half i ss k e ts before after t x = (x.left, x.actions, ((λ q. takes_second e (subst (λ j. takes e j ≡ First) q t)), (λ w. more g i ss (k ∷ w) (Terminal e ∷ ts) x.left i ts (SECOND ∷ w) (x.moves (k ∷ w) refl) (move_half g i e k ts w t)), λ q τ r. let y = (x.moves [] (sym q)).back τ r in token_end y.2))
+told_token g f Refused i ss k e ts before after t x = (x.left, x.actions, λ w a τ r. let y = (x.moves w a).back τ r in no_token g i e k ts w y.0 t a y.2)
 told_token g f Emptied i ss k e ts before after t x = absurd t
 
-pub told_refused : (g : Table) (f : Certificate) → IsCertified g f → (i : ℕ) (ss : List Symbol) (k n : ℕ) (ts us : List Symbol) (before after : List Event) → length (productions_of g n) ≤ predict g n k → Moved g f i ss k (Nonterminal n ∷ ts) before after → Told g f Refused i ss k us before after
-told_refused g f s i ss k n ts us before after h x = (x.left, x.events, λ w a τ r. let y = (x.moves w a).back τ r in no_predict g f s i n k ts w y.0 x.ready.fits a (λ l. omega arith) y.2)
+pub told_refused : (g : Table) (f : Certificate) → IsCertified g f → (i : ℕ) (ss : List Symbol) (k n : ℕ) (ts us : List Symbol) (before after : List ActionAt) → length (productions_of g n) ≤ predict g n k → Moved g f i ss k (Nonterminal n ∷ ts) before after → Told g f Refused i ss k us before after
+told_refused g f s i ss k n ts us before after h x = (x.left, x.actions, λ w a τ r. let y = (x.moves w a).back τ r in no_predict g f s i n k ts w y.0 x.ready.fits a (λ l. omega arith) y.2)
 
 -- the stack as a list, once its top is popped
-pub at_top : {g : Table} {f : Certificate} {i k : ℕ} {ss : List Symbol} {before after : List Event} (old new : List Symbol) (x y : Symbol) → old ≡ new ++ x ∷ [] → x ≡ y → Moved g f i ss k (reverse old) before after → Moved g f i ss k (y ∷ reverse new) before after
+pub at_top : {g : Table} {f : Certificate} {i k : ℕ} {ss : List Symbol} {before after : List ActionAt} (old new : List Symbol) (x y : Symbol) → old ≡ new ++ x ∷ [] → x ≡ y → Moved g f i ss k (reverse old) before after → Moved g f i ss k (y ∷ reverse new) before after
 at_top {g = g} {f = f} {i = i} {k = k} {ss = ss} {before = before} {after = after} old new x y e q m = subst (λ ts. Moved g f i ss k ts before after) (popped old new x e ∙ ap (λ z. z ∷ reverse new) q) m
 
-pub after_mark : {g : Table} {f : Certificate} {i k : ℕ} {ss : List Symbol} {before after : List Event} {m : ℕ} {ts : List Symbol} (later : List Event) → later ≡ after ++ event m i ∷ [] → Moved g f i ss k (Mark m ∷ ts) before after → Moved g f i ss k ts before later
-after_mark {g = g} {f = f} {i = i} {k = k} {ss = ss} {before = before} {after = after} {m = m} {ts = ts} later e x = subst (λ a. Moved g f i ss k ts before a) (sym e) (moved_mark g f i ss k m ts before after x)
+pub after_action : {g : Table} {f : Certificate} {i k : ℕ} {ss : List Symbol} {before after : List ActionAt} {m : ℕ} {ts : List Symbol} (later : List ActionAt) → later ≡ after ++ action_at m i ∷ [] → Moved g f i ss k (Action m ∷ ts) before after → Moved g f i ss k ts before later
+after_action {g = g} {f = f} {i = i} {k = k} {ss = ss} {before = before} {after = after} {m = m} {ts = ts} later e x = subst (λ a. Moved g f i ss k ts before a) (sym e) (moved_action g f i ss k m ts before after x)
 
-pub after_predict : {g : Table} {f : Certificate} {i k : ℕ} {ss : List Symbol} {before after : List Event} {n : ℕ} {ts : List Symbol} → IsCertified g f → (symbols us : List Symbol) → predict g n k < length (productions_of g n) → symbols ≡ right g n (predict g n k) → us ≡ symbols ++ ts → Moved g f i ss k (Nonterminal n ∷ ts) before after → Moved g f i ss k us before after
+pub after_predict : {g : Table} {f : Certificate} {i k : ℕ} {ss : List Symbol} {before after : List ActionAt} {n : ℕ} {ts : List Symbol} → IsCertified g f → (symbols us : List Symbol) → predict g n k < length (productions_of g n) → symbols ≡ right g n (predict g n k) → us ≡ symbols ++ ts → Moved g f i ss k (Nonterminal n ∷ ts) before after → Moved g f i ss k us before after
 after_predict {g = g} {f = f} {i = i} {k = k} {ss = ss} {before = before} {after = after} {n = n} {ts = ts} s symbols us h q u x =
     subst (λ vs. Moved g f i ss k vs before after) (sym (u ∙ ap (λ r. r ++ ts) q)) (moved_predict g f s i ss k n ts before after h x)
 

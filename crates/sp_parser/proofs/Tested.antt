@@ -6,7 +6,7 @@ use Rattle.std.proofs.lemmas.Nat.Bits.{bit_at_and, bit_at-zero, bit_at-lt}
 use Rattle.std.proofs.lemmas.Bool.{eqb-true, ltb-true, and_parts, cond-true, cond-false, eq-eqb, ne_eqb, eqb-false, cases_lt}
 use Rattle.std.proofs.lemmas.List.{get_or_past}
 use Rattle.sp_parser.specs.declared.symbol.Symbol.{Symbol}
-use Rattle.sp_parser.specs.declared.symbol.Symbol.TheVariants.{Terminal, Nonterminal, Mark}
+use Rattle.sp_parser.specs.declared.symbol.Symbol.TheVariants.{Terminal, Nonterminal, Action}
 use Rattle.sp_parser.specs.Grammar.{Table, Production, no_production, chosen, productions_of, production_of, right, predict, SECOND, CLOSE}
 use Rattle.sp_parser.specs.Certificate.{Certificate, Has, first_of, follow_of, nullable_of, weight_of, best_of, height_of, firsts, nullables, followed, steps_of, within, lower, AreListed, Productive, IsCertified}
 use Rattle.sp_parser.specs.Test.{known, production_test, productions_test, nonterminal_test, all_below, table_test}
@@ -15,7 +15,7 @@ use Rattle.sp_parser.proofs.Looks.{within_has, or_has, or_left, or_right}
 are_listed : (f : Certificate) (ss : List Symbol) → known f ss ≡ true → AreListed f ss
 are_listed f [] t = tt
 are_listed f (Terminal e ∷ ss) t = let x = and_parts (nat_lt e SECOND || (e == CLOSE)) (known f ss) t in (x.0, are_listed f ss x.1)
-are_listed f (Mark m ∷ ss) t = are_listed f ss t
+are_listed f (Action m ∷ ss) t = are_listed f ss t
 are_listed f (Nonterminal n ∷ ss) t = let x = and_parts (nat_lt n (length f.height)) (known f ss) t in (ltb-true n (length f.height) x.0, are_listed f ss x.1)
 
 min_one : (x y : ℕ) → x ≡ 1 → y ≡ 1 → min x y ≡ 1

@@ -3,8 +3,8 @@ use Rattle.std.specs.Prelude.{◌≡◌, ℕ, suc, ◌+◌, ◌^◌, ◌<◌, Li
 use Rattle.std.proofs.Common.{get_or}
 use Rattle.std.specs.Int.{bit_at}
 use Rattle.sp_parser.specs.declared.symbol.Symbol.{Symbol}
-use Rattle.sp_parser.specs.declared.symbol.Symbol.TheVariants.{Terminal, Nonterminal, Mark}
-use Rattle.sp_parser.specs.declared.symbol.Event.{Event}
+use Rattle.sp_parser.specs.declared.symbol.Symbol.TheVariants.{Terminal, Nonterminal, Action}
+use Rattle.sp_parser.specs.declared.symbol.ActionAt.{ActionAt}
 use Rattle.sp_parser.specs.Grammar.{Table, productions_of, production_of, right, predict, Advances, Derivation, GREATER, SHIFT, SECOND, CLOSE, END}
 
 -- Of each nonterminal: its first set, its follow set, whether it is nullable (derives the empty text), how many symbols
@@ -47,20 +47,20 @@ takers e = cond (e == CLOSE) (2 ^ GREATER + 2 ^ SHIFT + 2 ^ SECOND) (2 ^ e)
 abbrev pub firsts : Certificate → ℕ → List Symbol → ℕ
 firsts f b [] = b
 firsts f b (Terminal e ∷ ss) = takers e
-firsts f b (Mark m ∷ ss) = firsts f b ss
+firsts f b (Action m ∷ ss) = firsts f b ss
 firsts f b (Nonterminal n ∷ ss) = let rest = firsts f b ss in cond (nullable_of f n) (bit_or (first_of f n) rest) (first_of f n)
 
 abbrev pub nullables : Certificate → List Symbol → Bool
 nullables f [] = true
 nullables f (Terminal e ∷ ss) = false
-nullables f (Mark m ∷ ss) = nullables f ss
+nullables f (Action m ∷ ss) = nullables f ss
 nullables f (Nonterminal n ∷ ss) = nullable_of f n && nullables f ss
 
 -- the symbols that are gone through at most before a token, where b come after these
 abbrev pub steps_of : Certificate → ℕ → List Symbol → ℕ
 steps_of f b [] = b
 steps_of f b (Terminal e ∷ ss) = 1
-steps_of f b (Mark m ∷ ss) = 1 + steps_of f b ss
+steps_of f b (Action m ∷ ss) = 1 + steps_of f b ss
 steps_of f b (Nonterminal n ∷ ss) = let rest = steps_of f b ss in weight_of f n + cond (nullable_of f n) rest 0
 
 abbrev pub within : ℕ → ℕ → Bool
@@ -70,14 +70,14 @@ within a b = bit_or a b == b
 abbrev pub followed : Certificate → ℕ → List Symbol → Bool
 followed f b [] = true
 followed f b (Terminal e ∷ ss) = followed f b ss
-followed f b (Mark m ∷ ss) = followed f b ss
+followed f b (Action m ∷ ss) = followed f b ss
 followed f b (Nonterminal n ∷ ss) = within (firsts f b ss) (follow_of f n) && followed f b ss
 
 -- each symbol's least text is of less height
 abbrev pub lower : Certificate → ℕ → List Symbol → Bool
 lower f h [] = true
 lower f h (Terminal e ∷ ss) = (nat_lt e SECOND || (e == CLOSE)) && lower f h ss
-lower f h (Mark m ∷ ss) = lower f h ss
+lower f h (Action m ∷ ss) = lower f h ss
 lower f h (Nonterminal n ∷ ss) = nat_lt n (length f.height) && (nat_lt (height_of f n) h && lower f h ss)
 
 -- Each nonterminal has a text.
@@ -94,14 +94,14 @@ looks f ss = firsts f (2 ^ END) ss
 abbrev pub Fits : Certificate → List Symbol → Type 0
 Fits f [] = Unit {0}
 Fits f (Terminal e ∷ ss) = Fits f ss
-Fits f (Mark m ∷ ss) = Fits f ss
+Fits f (Action m ∷ ss) = Fits f ss
 Fits f (Nonterminal n ∷ ss) = ((k : ℕ) → Has (looks f ss) k → Has (follow_of f n) k) × Fits f ss
 
 -- the terminals are kinds of tokens or close lists of types, and the nonterminals are those of the grammar
 abbrev pub AreListed : Certificate → List Symbol → Type 0
 AreListed f [] = Unit {0}
 AreListed f (Terminal e ∷ ss) = ((nat_lt e SECOND || (e == CLOSE)) ≡ true) × AreListed f ss
-AreListed f (Mark m ∷ ss) = AreListed f ss
+AreListed f (Action m ∷ ss) = AreListed f ss
 AreListed f (Nonterminal n ∷ ss) = (n < length f.height) × AreListed f ss
 
 -- What makes the parsing of a table exact: the sets hold what they must, and each production is the one that is predicted
@@ -126,6 +126,6 @@ abbrev pub IsStart : Certificate → ℕ → Type 0
 IsStart f n = Has (follow_of f n) END
 
 -- whether a token of the kind k is taken
-abbrev pub Takes : Table → Certificate → Bool → ℕ → List Symbol → ℕ → List Symbol → List Event → List Event → Type 0
-Takes g f true i ss k ts before after = Ready f ts × ((ε : List Event) × (after ≡ before ++ ε) × ((w : List ℕ) → Advances g i ss (k ∷ w) (suc i) ts w ε))
-Takes g f false i ss k ts before after = (w : List ℕ) (τ : List Event) → Derivation g i ss (k ∷ w) τ → ⊥
+abbrev pub Takes : Table → Certificate → Bool → ℕ → List Symbol → ℕ → List Symbol → List ActionAt → List ActionAt → Type 0
+Takes g f true i ss k ts before after = Ready f ts × ((ε : List ActionAt) × (after ≡ before ++ ε) × ((w : List ℕ) → Advances g i ss (k ∷ w) (suc i) ts w ε))
+Takes g f false i ss k ts before after = (w : List ℕ) (τ : List ActionAt) → Derivation g i ss (k ∷ w) τ → ⊥

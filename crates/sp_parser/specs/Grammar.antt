@@ -3,8 +3,8 @@ use Rattle.std.specs.Prelude.{◌≡◌, ℕ, suc, ◌+◌, ◌<◌, List, [], �
 use Rattle.std.proofs.Common.{get_or}
 use Rattle.std.specs.Int.{bit_at}
 use Rattle.sp_parser.specs.declared.symbol.Symbol.{Symbol}
-use Rattle.sp_parser.specs.declared.symbol.Symbol.TheVariants.{Terminal, Nonterminal, Mark}
-use Rattle.sp_parser.specs.declared.symbol.Event.{Event}
+use Rattle.sp_parser.specs.declared.symbol.Symbol.TheVariants.{Terminal, Nonterminal, Action}
+use Rattle.sp_parser.specs.declared.symbol.ActionAt.{ActionAt}
 use Rattle.sp_parser.specs.declared.symbol.Step.{Step}
 use Rattle.sp_parser.specs.declared.symbol.Step.TheVariants.{Whole, Half, Refused, Emptied}
 
@@ -76,42 +76,42 @@ pub record Applies (g : Table) (n p : ℕ) (w : List ℕ) : Type 0 where
   pub below : p < length (productions_of g n)
   pub allowed : bit_at (production_of g n p).avoid (ahead w) ≡ 0
 
-abbrev pub event : ℕ → ℕ → Event
-event m i = record { mark = m; at = i }
+abbrev pub action_at : ℕ → ℕ → ActionAt
+action_at m i = record { action = m; at = i }
 
 -- A leftmost derivation: the symbols derive exactly these kinds of tokens, before which i tokens stand, and pass these
--- marks. A nonterminal is replaced by the right side of one of its productions.
-pub data Derivation (g : Table) : ℕ → List Symbol → List ℕ → List Event → Type 0 where
+-- actions. A nonterminal is replaced by the right side of one of its productions.
+pub data Derivation (g : Table) : ℕ → List Symbol → List ℕ → List ActionAt → Type 0 where
   done : {i : ℕ} → Derivation g i [] [] []
-  whole : {i e k : ℕ} {ss : List Symbol} {w : List ℕ} {τ : List Event} → takes e k ≡ All → Derivation g (suc i) ss w τ → Derivation g i (Terminal e ∷ ss) (k ∷ w) τ
-  half : {i e k : ℕ} {ss : List Symbol} {w : List ℕ} {τ : List Event} → takes e k ≡ First → Derivation g i ss (SECOND ∷ w) τ → Derivation g i (Terminal e ∷ ss) (k ∷ w) τ
-  mark : {i m : ℕ} {ss : List Symbol} {w : List ℕ} {τ : List Event} → Derivation g i ss w τ → Derivation g i (Mark m ∷ ss) w (event m i ∷ τ)
-  expand : {i n : ℕ} {ss : List Symbol} {w : List ℕ} {τ : List Event} → (p : ℕ) → Applies g n p w → Derivation g i (right g n p ++ ss) w τ → Derivation g i (Nonterminal n ∷ ss) w τ
+  whole : {i e k : ℕ} {ss : List Symbol} {w : List ℕ} {τ : List ActionAt} → takes e k ≡ All → Derivation g (suc i) ss w τ → Derivation g i (Terminal e ∷ ss) (k ∷ w) τ
+  half : {i e k : ℕ} {ss : List Symbol} {w : List ℕ} {τ : List ActionAt} → takes e k ≡ First → Derivation g i ss (SECOND ∷ w) τ → Derivation g i (Terminal e ∷ ss) (k ∷ w) τ
+  action : {i m : ℕ} {ss : List Symbol} {w : List ℕ} {τ : List ActionAt} → Derivation g i ss w τ → Derivation g i (Action m ∷ ss) w (action_at m i ∷ τ)
+  expand : {i n : ℕ} {ss : List Symbol} {w : List ℕ} {τ : List ActionAt} → (p : ℕ) → Applies g n p w → Derivation g i (right g n p ++ ss) w τ → Derivation g i (Nonterminal n ∷ ss) w τ
 
 -- kinds of tokens
 abbrev pub AreKinds : List ℕ → Type 0
 AreKinds [] = Unit {0}
 AreKinds (k ∷ w) = (k < SECOND) × AreKinds w
 
--- The kinds are a text that the nonterminal derives, passing these marks.
-abbrev pub Derives : Table → ℕ → List ℕ → List Event → Type 0
+-- The kinds are a text that the nonterminal derives, passing these actions.
+abbrev pub Derives : Table → ℕ → List ℕ → List ActionAt → Type 0
 Derives g n w τ = Derivation g 0 (Nonterminal n ∷ []) w τ
 
 -- The kinds are a viable prefix: some text of the nonterminal begins with them.
 abbrev pub IsViable : Table → ℕ → List ℕ → Type 0
-IsViable g n w = (more : List ℕ) × (τ : List Event) × AreKinds more × Derives g n (w ++ more) τ
+IsViable g n w = (more : List ℕ) × (τ : List ActionAt) × AreKinds more × Derives g n (w ++ more) τ
 
--- To derive w from the symbols ss, before which i tokens stand, is to pass the marks ε and to derive v from the symbols
+-- To derive w from the symbols ss, before which i tokens stand, is to pass the actions ε and to derive v from the symbols
 -- ts, before which j tokens stand.
-pub record Advances (g : Table) (i : ℕ) (ss : List Symbol) (w : List ℕ) (j : ℕ) (ts : List Symbol) (v : List ℕ) (ε : List Event) : Type 0 where
-  pub forth : (τ : List Event) → Derivation g j ts v τ → Derivation g i ss w (ε ++ τ)
-  pub back : (τ : List Event) → Derivation g i ss w τ → (σ : List Event) × (τ ≡ ε ++ σ) × Derivation g j ts v σ
+pub record Advances (g : Table) (i : ℕ) (ss : List Symbol) (w : List ℕ) (j : ℕ) (ts : List Symbol) (v : List ℕ) (ε : List ActionAt) : Type 0 where
+  pub forth : (τ : List ActionAt) → Derivation g j ts v τ → Derivation g i ss w (ε ++ τ)
+  pub back : (τ : List ActionAt) → Derivation g i ss w τ → (σ : List ActionAt) × (τ ≡ ε ++ σ) × Derivation g j ts v σ
 
 -- what a step with the next kind k tells of the symbols before it and those after it
-abbrev pub Tells : Table → Step → ℕ → List Symbol → ℕ → List Symbol → List Event → Type 0
-Tells g Whole i ss k ts ε = ((w : List ℕ) → Advances g i ss (k ∷ w) (suc i) ts w ε) × (k ≡ END → (τ : List Event) → Derivation g i ss [] τ → ⊥)
-Tells g Half i ss k ts ε = (k ≡ SECOND → ⊥) × ((w : List ℕ) → Advances g i ss (k ∷ w) i ts (SECOND ∷ w) ε) × (k ≡ END → (τ : List Event) → Derivation g i ss [] τ → ⊥)
-Tells g Refused i ss k ts ε = (w : List ℕ) → ahead w ≡ k → (τ : List Event) → Derivation g i ss w τ → ⊥
+abbrev pub Tells : Table → Step → ℕ → List Symbol → ℕ → List Symbol → List ActionAt → Type 0
+Tells g Whole i ss k ts ε = ((w : List ℕ) → Advances g i ss (k ∷ w) (suc i) ts w ε) × (k ≡ END → (τ : List ActionAt) → Derivation g i ss [] τ → ⊥)
+Tells g Half i ss k ts ε = (k ≡ SECOND → ⊥) × ((w : List ℕ) → Advances g i ss (k ∷ w) i ts (SECOND ∷ w) ε) × (k ≡ END → (τ : List ActionAt) → Derivation g i ss [] τ → ⊥)
+Tells g Refused i ss k ts ε = (w : List ℕ) → ahead w ≡ k → (τ : List ActionAt) → Derivation g i ss w τ → ⊥
 Tells g Emptied i ss k ts ε = (ts ≡ []) × ((w : List ℕ) → ahead w ≡ k → Advances g i ss w i [] w ε)
 
 -- the step for what was taken

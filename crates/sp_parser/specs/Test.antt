@@ -1,14 +1,14 @@
 -- The test of a table against its certificate, which computes.
 use Rattle.std.specs.Prelude.{ℕ, zero, suc, List, [], ◌∷◌, length, ◌==◌, ◌||◌, ◌&&◌, not, Bool, true, bit_or, bit_and, nat_lt}
 use Rattle.sp_parser.specs.declared.symbol.Symbol.{Symbol}
-use Rattle.sp_parser.specs.declared.symbol.Symbol.TheVariants.{Terminal, Nonterminal, Mark}
+use Rattle.sp_parser.specs.declared.symbol.Symbol.TheVariants.{Terminal, Nonterminal, Action}
 use Rattle.sp_parser.specs.Grammar.{Table, Production, productions_of, production_of, right, SECOND, CLOSE}
 use Rattle.sp_parser.specs.Certificate.{Certificate, first_of, follow_of, nullable_of, weight_of, best_of, height_of, firsts, nullables, followed, steps_of, within, lower}
 
 abbrev pub known : Certificate → List Symbol → Bool
 known f [] = true
 known f (Terminal e ∷ ss) = (nat_lt e SECOND || (e == CLOSE)) && known f ss
-known f (Mark m ∷ ss) = known f ss
+known f (Action m ∷ ss) = known f ss
 known f (Nonterminal n ∷ ss) = nat_lt n (length f.height) && known f ss
 
 abbrev pub production_test : Certificate → ℕ → ℕ → Production → Bool

@@ -4,13 +4,16 @@ ghost use Rattle.sp_parser.specs.Grammar.{Table, productions_of, right, predict,
 ghost use Rattle.sp_parser.specs.Outcome.{IsParsedWhole};
 ghost use Rattle.sp_parser.specs.Certificate.{Certificate, Ready, IsStart, Takes};
 ghost use Rattle.sp_parser.specs.Test.{table_test};
-ghost use Rattle.sp_parser.specs.declared.symbol.Event.{Event};
+ghost use Rattle.sp_parser.specs.declared.symbol.ActionAt.{ActionAt};
 
 use crate::outcome::Outcome;
-use crate::symbol::{CLOSE, END, Event, GREATER, SECOND, SHIFT, Step, Symbol};
+use crate::symbol::{ActionAt, CLOSE, END, GREATER, SECOND, SHIFT, Step, Symbol};
 use crate::tokens::Kinds;
 use sp_base::NoMemory;
 use std::alloc::Global;
+
+/// How many tokens the places of actions count, at most.
+const MOST_TOKENS: usize = 4294967295;
 
 /// A grammar as a table of productions, with a certificate that shows how it is parsed.
 ///
@@ -69,20 +72,20 @@ fn push_all(stack: &mut Vec<Symbol>, symbols: &[Symbol]) -> Result<(), NoMemory>
 fn step<G: Grammar>(
     grammar: &G,
     stack: &mut Vec<Symbol>,
-    events: &mut Vec<Event>,
-    at: usize,
+    actions: &mut Vec<ActionAt>,
+    at: u32,
     kind: u8,
 ) -> Result<Step, NoMemory>
     requires ready { Ready G.certificate (reverse stack.old.items) }
     requires kind { kind ≤ END }
     ensures ready { OnOk result (Ready G.certificate (reverse stack.new.items)) }
-    ensures told { IfOk result (λ s. (ε : List Event) × (events.new.items ≡ events.old.items ++ ε)
+    ensures told { IfOk result (λ s. (ε : List ActionAt) × (actions.new.items ≡ actions.old.items ++ ε)
         × Tells G.table s at (reverse stack.old.items) kind (reverse stack.new.items) ε) }
 {
     while let Some(top) = stack.pop() {
         match top {
             Symbol::Terminal(expected) => return Ok(taken(expected, kind)),
-            Symbol::Mark(mark) => events.push(Event { mark, at })?,
+            Symbol::Action(action) => actions.push(ActionAt { action, at })?,
             Symbol::Nonterminal(nonterminal) => {
                 let Some(symbols) = grammar.predict(nonterminal, kind) else {
                     return Ok(Step::Refused);
@@ -98,26 +101,26 @@ fn step<G: Grammar>(
 fn take_token<G: Grammar>(
     grammar: &G,
     stack: &mut Vec<Symbol>,
-    events: &mut Vec<Event>,
-    at: usize,
+    actions: &mut Vec<ActionAt>,
+    at: u32,
     kind: u8,
 ) -> Result<bool, NoMemory>
     requires ready { Ready G.certificate (reverse stack.old.items) }
     requires kind { kind < SECOND }
     ensures taken { IfOk result (λ yes. Takes G.table G.certificate yes at (reverse stack.old.items)
-        kind (reverse stack.new.items) events.old.items events.new.items) }
+        kind (reverse stack.new.items) actions.old.items actions.new.items) }
 {
-    match step(grammar, stack, events, at, kind)? {
+    match step(grammar, stack, actions, at, kind)? {
         Step::Whole => Ok(true),
-        Step::Half => Ok(matches!(step(grammar, stack, events, at, SECOND)?, Step::Whole)),
+        Step::Half => Ok(matches!(step(grammar, stack, actions, at, SECOND)?, Step::Whole)),
         Step::Refused => Ok(false),
         Step::Emptied => Ok(false),
     }
 }
 
-/// Parses all of the tokens, each of which is looked at once. Where they are a text, the answer is the marks of its one
+/// Parses all of the tokens, each of which is looked at once. Where they are a text, the answer is the actions of its one
 /// derivation, in order. Where they are none, it is the length of their longest viable prefix: how many of them begin
-/// some text of the nonterminal, at most.
+/// some text of the nonterminal, at most. Want of memory also where they are more than the places of actions count.
 pub fn parse<G: Grammar, K: Kinds>(
     alloc: Global,
     grammar: &G,
@@ -129,16 +132,19 @@ pub fn parse<G: Grammar, K: Kinds>(
     ensures { IfOk result (λ o. IsParsedWhole G.table nonterminal (K.kinds tokens.now) o) }
 {
     let count = tokens.count();
+    if count > MOST_TOKENS {
+        return Err(NoMemory);
+    }
     let mut stack = Vec::new(alloc);
-    let mut events = Vec::new(alloc);
+    let mut actions = Vec::new(alloc);
     stack.push(Symbol::Nonterminal(nonterminal))?;
     for i in 0..count {
-        if !take_token(grammar, &mut stack, &mut events, i, tokens.kind(i))? {
+        if !take_token(grammar, &mut stack, &mut actions, i as u32, tokens.kind(i))? {
             return Ok(Outcome::Refused(i));
         }
     }
-    match step(grammar, &mut stack, &mut events, count, END)? {
-        Step::Emptied => Ok(Outcome::Text(events, count)),
+    match step(grammar, &mut stack, &mut actions, count as u32, END)? {
+        Step::Emptied => Ok(Outcome::Phrase(actions, count)),
         _ => Ok(Outcome::Refused(count)),
     }
 }

@@ -26,13 +26,13 @@ pub fn parse_from<G: Grammar, K: Kinds>(
 {
     let rest = tokens.part(at, tokens.count());
     match parse(alloc, grammar, nonterminal, &rest)? {
-        Outcome::Text(events, n) => Ok(Outcome::Text(events, at + n)),
+        Outcome::Phrase(actions, n) => Ok(Outcome::Phrase(actions, at + n)),
         Outcome::Refused(n) => {
             if n == rest.count() {
                 return Ok(Outcome::Refused(at + n));
             }
             match parse(alloc, grammar, nonterminal, &rest.part(0, n))? {
-                Outcome::Text(events, _) => Ok(Outcome::Text(events, at + n)),
+                Outcome::Phrase(actions, _) => Ok(Outcome::Phrase(actions, at + n)),
                 Outcome::Refused(_) => Ok(Outcome::Refused(at + n)),
             }
         }

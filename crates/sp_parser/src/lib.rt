@@ -11,6 +11,6 @@ mod tokens;
 pub use engine::{Grammar, parse};
 pub use entry::parse_from;
 pub use outcome::Outcome;
-pub use symbol::{CLOSE, END, Event, GREATER, SECOND, SHIFT, Symbol};
+pub use symbol::{ActionAt, CLOSE, END, GREATER, SECOND, SHIFT, Symbol};
 pub use table::{Row, Span, choose_in};
 pub use tokens::Kinds;

@@ -1,10 +1,10 @@
 // The symbols of a grammar, and what a parse leaves.
 
-/// The terminal of the mark `>`.
+/// The terminal of `>`.
 pub const GREATER: u8 = 120;
-/// The terminal of the mark `>>`, which is taken whole as itself, or in two halves as two closing marks.
+/// The terminal of `>>`, which is taken whole as itself, or in two halves as two closing brackets.
 pub const SHIFT: u8 = 121;
-/// The second half of a `>>` whose first half was taken as a closing mark. No token of a text has this kind.
+/// The second half of a `>>` whose first half was taken as a closing bracket. No token of a text has this kind.
 pub const SECOND: u8 = 122;
 /// What closes a list of types: a `>`, or a half of a `>>`. It stands in productions alone.
 pub const CLOSE: u8 = 123;
@@ -18,15 +18,15 @@ pub enum Symbol {
     Terminal(u8),
     /// A part of the grammar that has productions of its own.
     Nonterminal(u8),
-    /// Takes no token, and leaves an event.
-    Mark(u8),
+    /// Takes no token: an action, by its number.
+    Action(u8),
 }
 
-/// A mark that was passed, and how many tokens stood before it.
+/// An action that was passed, and how many tokens stood before it.
 #[derive(Clone, Copy)]
-pub struct Event {
-    pub mark: u8,
-    pub at: usize,
+pub struct ActionAt {
+    pub action: u8,
+    pub at: u32,
 }
 
 /// What became of a step with the next token.

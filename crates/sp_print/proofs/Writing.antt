@@ -1,9 +1,9 @@
 -- Words one behind the other.
-use Rattle.std.proofs.Common.{◌≡◌, ◌+◌, ◌-◌, ◌<◌, ◌≤◌, length, take, drop, get_or, arith, List, [], ◌∷◌, ◌++◌, Option, Some, None, Bool, true, false, ℕ, map, refl, ap, sym, ◌∙◌, append_assoc}
+use Rattle.std.proofs.Common.{◌≡◌, List, [], ◌∷◌, ◌++◌, Option, Some, None, Bool, true, false, ℕ, map, refl, ap, sym, ◌∙◌, append_assoc}
 use Rattle.sp_lex.specs.declared.kinds.TokenKind.{TokenKind}
 use Rattle.sp_print.specs.Words.{Word, kind_of, written}
 use Rattle.sp_print.specs.Page.{Page, page, gap, line, put, puts}
-use Rattle.std.proofs.lemmas.List.{at_drop_more, take_all, append-nil}
+use Rattle.std.proofs.lemmas.List.{append-nil}
 use Rattle.sp_ast.specs.Trees.{Tree, trees}
 use Rattle.sp_ast.specs.declared.forms.Form.{Form}
 use Rattle.sp_print.specs.declared.layouts.Frame.{Frame}
@@ -55,44 +55,40 @@ as_arguments form layout t p is e =
     first ∙ ap (λ q. write (part form q (part_of t)) p) (sym is)
 
 -- one more tree of several
-pub one_more : (by : Separator) (others : List Tree) (i : ℕ) (t : Tree) (p a b : Page) → i < length others → t ≡ get_or others i t
+pub one_more : (by : Separator) (left behind : List Tree) (t : Tree) (p a b : Page) → left ≡ t ∷ behind
     → a ≡ puts (map fixed (between by)) p → b ≡ write (anywhere (part_of t)) a
-    → write (followed by (parts_of (trees (drop (i + 1) others)))) b ≡ write (followed by (parts_of (trees (drop i others)))) p
-one_more by others i t p a b less at first second =
-    let rest : Writing = followed by (parts_of (trees (drop (i + 1) others))) in
-    let opened : write (followed by (parts_of (trees (drop i others)))) p ≡ write (followed by (parts_of (trees (t ∷ drop (i + 1) others)))) p =
-    at_drop_more (λ ts. write (followed by (parts_of (trees ts))) p) others i t less ∙ ap (λ x. write (followed by (parts_of (trees (x ∷ drop (i + 1) others)))) p) (sym at) in
+    → write (followed by (parts_of (trees behind))) b ≡ write (followed by (parts_of (trees left))) p
+one_more by left behind t p a b is first second =
+    let rest : Writing = followed by (parts_of (trees behind)) in
     ap (λ q. write rest q) (second ∙ ap (λ q. write (anywhere (part_of t)) q) first)
     ∙ sym (write_chain (anywhere (part_of t)) rest (puts (map fixed (between by)) p))
-    ∙ sym (write_chain (kinds (between by)) (chain (anywhere (part_of t)) rest) p) ∙ sym opened
+    ∙ sym (write_chain (kinds (between by)) (chain (anywhere (part_of t)) rest) p)
+    ∙ ap (λ ts. write (followed by (parts_of (trees ts))) p) (sym is)
 
 -- the first of several trees, and the others
-pub first_and_others : (by : Separator) (all : List Tree) (t : Tree) (p a b : Page) → 1 ≤ length all → t ≡ get_or all 0 t
-    → a ≡ write (anywhere (part_of t)) p → b ≡ write (followed by (parts_of (trees (take (length all - 1) (drop 1 all))))) a
+pub first_and_others : (by : Separator) (all others : List Tree) (t : Tree) (p a b : Page) → all ≡ t ∷ others
+    → a ≡ write (anywhere (part_of t)) p → b ≡ write (followed by (parts_of (trees others))) a
     → b ≡ write (listed by (parts_of (trees all))) p
-first_and_others by [] t p a b some at first second = absurd (omega arith)
-first_and_others by (x ∷ xs) t p a b some at first second =
-    let rest : take (length (x ∷ xs) - 1) (drop 1 (x ∷ xs)) ≡ xs = take_all (length (x ∷ xs) - 1) xs (omega arith) in
-    second ∙ ap (λ ts. write (followed by (parts_of (trees ts))) a) rest
-    ∙ ap (λ q. write (followed by (parts_of (trees xs))) q) (first ∙ ap (λ y. write (anywhere (part_of y)) p) at)
-    ∙ sym (write_chain (anywhere (part_of x)) (followed by (parts_of (trees xs))) p)
+first_and_others by all others t p a b is first second =
+    second ∙ ap (λ q. write (followed by (parts_of (trees others))) q) first
+    ∙ sym (write_chain (anywhere (part_of t)) (followed by (parts_of (trees others))) p)
+    ∙ ap (λ ts. write (listed by (parts_of (trees ts))) p) (sym is)
 
 -- all parts that are left
-pub all_laid : (form : Form) (piece : Piece) (by : Separator) (ts : List Tree) (p a : Page) → piece ≡ pieces.All by → a ≡ write (listed by (parts_of (trees ts))) p → IsLaid form piece ts p [] a
-all_laid form piece by ts p a at first behind =
+pub all_laid : (form : Form) (piece : Piece) (by : Separator) (ts left : List Tree) (p a : Page) → piece ≡ pieces.All by → left ≡ [] → a ≡ write (listed by (parts_of (trees ts))) p → IsLaid form piece ts p left a
+all_laid form piece by ts left p a at over first behind =
     ap (λ x. write (laid form (x ∷ behind) (parts_of (trees ts))) p) at
     ∙ write_chain (listed by (parts_of (trees ts))) (laid form behind []) p ∙ ap (λ q. write (laid form behind []) q) (sym first)
+    ∙ ap (λ us. write (laid form behind (parts_of (trees us))) a) (sym over)
 
 -- the next part
-pub part_laid : (form : Form) (piece : Piece) (layout : PartLayout) (ts : List Tree) (t : Tree) (p a : Page) → piece ≡ pieces.Part layout → 1 ≤ length ts → t ≡ get_or ts 0 t
-    → a ≡ write (part form layout (part_of t)) p → IsLaid form piece ts p (take (length ts - 1) (drop 1 ts)) a
-part_laid form piece layout [] t p a at more found first behind = absurd (omega arith)
-part_laid form piece layout (u ∷ ts) t p a at more found first behind =
-    let others : take (length (u ∷ ts) - 1) (drop 1 (u ∷ ts)) ≡ ts = take_all (length (u ∷ ts) - 1) ts (omega arith) in
-    ap (λ x. write (laid form (x ∷ behind) (parts_of (trees (u ∷ ts)))) p) at
-    ∙ write_chain (part form layout (part_of u)) (laid form behind (parts_of (trees ts))) p
-    ∙ ap (λ q. write (laid form behind (parts_of (trees ts))) q) (ap (λ v. write (part form layout (part_of v)) p) (sym found) ∙ sym first)
-    ∙ ap (λ vs. write (laid form behind (parts_of (trees vs))) a) (sym others)
+pub part_laid : (form : Form) (piece : Piece) (layout : PartLayout) (ts others : List Tree) (t : Tree) (p a : Page) → piece ≡ pieces.Part layout → ts ≡ t ∷ others
+    → a ≡ write (part form layout (part_of t)) p → IsLaid form piece ts p others a
+part_laid form piece layout ts others t p a at is first behind =
+    ap (λ us. write (laid form (piece ∷ behind) (parts_of (trees us))) p) is
+    ∙ ap (λ x. write (laid form (x ∷ behind) (parts_of (trees (t ∷ others)))) p) at
+    ∙ write_chain (part form layout (part_of t)) (laid form behind (parts_of (trees others))) p
+    ∙ ap (λ q. write (laid form behind (parts_of (trees others))) q) (sym first)
 
 -- a text before words stays before them
 put_behind : (w : Word) (front text : List ℕ) (last : Option TokenKind) → put w (page (front ++ text) last) ≡ page (front ++ (text ++ gap last (kind_of w) ++ written w)) (Some (kind_of w))
@@ -106,15 +102,13 @@ puts_behind (w ∷ ws) front text last =
     ap (λ q. let r : Page = puts ws q in r.text) (put_behind w front text last) ∙ puts_behind ws front (text ++ gap last (kind_of w) ++ written w) (Some (kind_of w))
 
 -- one more line
-pub one_line : (all : List Tree) (i : ℕ) (t : Tree) (p a : Page) → i < length all → t ≡ get_or all i t → p.last ≡ None → a ≡ write (spelled t) p
-    → (a.text ++ 10 ∷ []) ++ lines (trees (drop (i + 1) all)) ≡ p.text ++ lines (trees (drop i all))
-one_line all i t p a less at none is =
-    let rest : List ℕ = lines (trees (drop (i + 1) all)) in
+pub one_line : (left behind : List Tree) (t : Tree) (p a : Page) → left ≡ t ∷ behind → p.last ≡ None → a ≡ write (spelled t) p
+    → (a.text ++ 10 ∷ []) ++ lines (trees behind) ≡ p.text ++ lines (trees left)
+one_line left behind t p a is fresh said =
+    let rest : List ℕ = lines (trees behind) in
     let told : a.text ≡ p.text ++ (puts (spelled t None) (page [] None)).text =
-    ap (λ q. let r : Page = q in r.text) (is ∙ ap (λ l. puts (spelled t l) (page p.text l)) none)
+    ap (λ q. let r : Page = q in r.text) (said ∙ ap (λ l. puts (spelled t l) (page p.text l)) fresh)
     ∙ ap (λ front. (puts (spelled t None) (page front None)).text) (sym (append-nil p.text)) ∙ puts_behind (spelled t None) p.text [] None in
-    let opened : lines (trees (drop i all)) ≡ line (spelled t None) ++ rest =
-    at_drop_more (λ ts. lines (trees ts)) all i t less ∙ ap (λ x. line (spelled x None) ++ rest) (sym at) in
     ap (λ text. (text ++ 10 ∷ []) ++ rest) told
     ∙ ap (λ text. text ++ rest) (append_assoc p.text (puts (spelled t None) (page [] None)).text (10 ∷ []))
-    ∙ append_assoc p.text (line (spelled t None)) rest ∙ ap (λ text. p.text ++ text) (sym opened)
+    ∙ append_assoc p.text (line (spelled t None)) rest ∙ ap (λ ts. p.text ++ lines (trees ts)) (sym is)

@@ -3,13 +3,13 @@ use Rattle.std.specs.Prelude.{ℕ, ◌+◌, List, [], ◌∷◌, ◌++◌, Bool,
 use Rattle.sp_lex.specs.Elements.{ends_operand}
 use Rattle.sp_lex.specs.declared.kinds.TokenKind.{TokenKind}
 use Rattle.sp_lex.specs.declared.kinds.TokenKind.TheVariants as token
-use Rattle.sp_lex.specs.declared.kinds.Mark.TheVariants as mark
-use Rattle.sp_ast.specs.Operators.{level}
+use Rattle.sp_words.specs.declared.punctuation.Punctuation.TheVariants as punctuation
+use Rattle.sp_words.specs.Operators.{level}
 use Rattle.sp_ast.specs.Trees.{Tree, Trees, node, absent, row, none, more}
 use Rattle.sp_ast.specs.declared.forms.Form.{Form}
 use Rattle.sp_ast.specs.declared.forms.Form.TheVariants as form_is
 use Rattle.sp_ast.specs.declared.forms.ExprForm.TheVariants as expr_is
-use Rattle.sp_ast.specs.declared.operators.BinaryOp.TheVariants as binary
+use Rattle.sp_words.specs.declared.operators.BinaryOp.TheVariants as binary
 use Rattle.sp_print.specs.declared.layouts.Frame.{Frame}
 use Rattle.sp_print.specs.declared.layouts.Place.{Place}
 use Rattle.sp_print.specs.declared.layouts.Place.TheVariants as place
@@ -51,7 +51,7 @@ abbrev pub write : Writing → Page → Page
 write x p = puts (x p.last) p
 
 abbrev pub enclosed : Writing → Writing
-enclosed x = chain (kinds (token.Mark mark.LeftParen ∷ [])) (chain x (kinds (token.Mark mark.RightParen ∷ [])))
+enclosed x = chain (kinds (token.Punctuation punctuation.LeftParen ∷ [])) (chain x (kinds (token.Punctuation punctuation.RightParen ∷ [])))
 
 abbrev pub is_absent : Tree → Bool
 is_absent absent = true
@@ -167,7 +167,7 @@ part form (part_is.One at) x = at_place (least form at) (is_dividend form at) x.
 part form (part_is.Optional around) x = framed around x
 part form (part_is.Row by) x = x.in_row by
 part form part_is.Arguments x = if is_empty_row x.tree then nothing else enclosed (x.in_row separator.Comma)
-part form part_is.Hooks x = if is_empty_row x.tree then kinds (token.Mark mark.Semicolon ∷ []) else x.in_row separator.Nothing
+part form part_is.Hooks x = if is_empty_row x.tree then kinds (token.Punctuation punctuation.Semicolon ∷ []) else x.in_row separator.Nothing
 
 -- the pieces of a tree, with the parts that are left
 abbrev pub laid : Form → List Piece → List Part → Writing

@@ -2,7 +2,7 @@
 use Rattle.std.specs.Prelude.{ℕ, List, [], ◌∷◌, ◌++◌, Bool, true, false, Option, Some, None, ◌||◌, if◌then◌else◌}
 use Rattle.sp_lex.specs.declared.kinds.TokenKind.{TokenKind}
 use Rattle.sp_lex.specs.declared.kinds.TokenKind.TheVariants as token
-use Rattle.sp_lex.specs.declared.kinds.Mark.TheVariants as mark
+use Rattle.sp_words.specs.declared.punctuation.Punctuation.TheVariants as punctuation
 use Rattle.sp_print.specs.Words.{Word, written, kind_of}
 
 -- a text, and the kind of the last word on its line
@@ -15,7 +15,7 @@ page text last = record { text = text; last = last }
 
 -- whether the token is a `::`
 abbrev pub is_scope : TokenKind → Bool
-is_scope (token.Mark mark.ColonColon) = true
+is_scope (token.Punctuation punctuation.ColonColon) = true
 is_scope _ = false
 
 -- what stands between two words

@@ -2,7 +2,8 @@
 ghost use Rattle.std.specs.Prelude.{◌≡◌};
 ghost use Rattle.sp_print.specs.Layouts.{opening, closing, between};
 
-use sp_lex::{Attribute, Keyword, Mark, TokenKind};
+use sp_lex::TokenKind;
+use sp_words::{Keyword, Punctuation};
 
 /// Where an expression stands, which tells what must not stand there without parentheses.
 #[derive(Clone, Copy)]
@@ -100,24 +101,24 @@ impl Frame {
     {
         match self {
             Frame::Bare => &[],
-            Frame::Parentheses => &[TokenKind::Mark(Mark::LeftParen)],
-            Frame::Colon => &[TokenKind::Mark(Mark::Colon)],
-            Frame::Scope => &[TokenKind::Mark(Mark::ColonColon)],
-            Frame::Equal => &[TokenKind::Mark(Mark::Equal)],
-            Frame::UpTo => &[TokenKind::Mark(Mark::DotDot)],
-            Frame::Arrow => &[TokenKind::Mark(Mark::Arrow)],
+            Frame::Parentheses => &[TokenKind::Punctuation(Punctuation::LeftParen)],
+            Frame::Colon => &[TokenKind::Punctuation(Punctuation::Colon)],
+            Frame::Scope => &[TokenKind::Punctuation(Punctuation::ColonColon)],
+            Frame::Equal => &[TokenKind::Punctuation(Punctuation::Equal)],
+            Frame::UpTo => &[TokenKind::Punctuation(Punctuation::DotDot)],
+            Frame::Arrow => &[TokenKind::Punctuation(Punctuation::Arrow)],
             Frame::If => &[
                 TokenKind::Keyword(Keyword::If),
-                TokenKind::Mark(Mark::LeftParen),
+                TokenKind::Punctuation(Punctuation::LeftParen),
             ],
             Frame::Else => &[TokenKind::Keyword(Keyword::Else)],
             Frame::Default => &[
                 TokenKind::Keyword(Keyword::Default),
-                TokenKind::Mark(Mark::Colon),
+                TokenKind::Punctuation(Punctuation::Colon),
             ],
             Frame::Priority => &[
-                TokenKind::Attribute(Attribute::Priority),
-                TokenKind::Mark(Mark::Equal),
+                TokenKind::Priority,
+                TokenKind::Punctuation(Punctuation::Equal),
             ],
         }
     }
@@ -127,7 +128,7 @@ impl Frame {
         ensures { result.now ≡ closing self }
     {
         match self {
-            Frame::Parentheses | Frame::If => &[TokenKind::Mark(Mark::RightParen)],
+            Frame::Parentheses | Frame::If => &[TokenKind::Punctuation(Punctuation::RightParen)],
             _ => &[],
         }
     }
@@ -140,8 +141,8 @@ impl Separator {
     {
         match self {
             Separator::Nothing => &[],
-            Separator::Comma => &[TokenKind::Mark(Mark::Comma)],
-            Separator::Scope => &[TokenKind::Mark(Mark::ColonColon)],
+            Separator::Comma => &[TokenKind::Punctuation(Punctuation::Comma)],
+            Separator::Scope => &[TokenKind::Punctuation(Punctuation::ColonColon)],
             Separator::ElseIf => &[
                 TokenKind::Keyword(Keyword::Else),
                 TokenKind::Keyword(Keyword::If),

@@ -1,64 +1,61 @@
 // Which expressions stand in parentheses.
-ghost use Rattle.std.specs.Prelude.{◌≡◌, ◌||◌, nat_lt};
-ghost use Rattle.sp_ast.specs.Trees.{trees};
-ghost use Rattle.sp_ast.specs.declared.forms.Form.TheVariants as form_is;
-ghost use Rattle.sp_ast.specs.declared.forms.ExprForm.TheVariants as expr_is;
-ghost use Rattle.sp_print.specs.Canonical.{is_absent, is_empty_row, is_bare, form_level, level_of, operation_level, least, is_dividend, is_skip, divides_behind, last_divides, is_regex, divides, needs_parentheses};
+ghost use Rattle.std.specs.Prelude.{◌≡◌, ◌||◌, nat_lt, if◌then◌else◌};
+ghost use Rattle.sp_ast.specs.Trees.{in_row};
+ghost use Rattle.sp_print.specs.Canonical.{is_absent, is_empty_row, level_of, operation_level, least, is_dividend, divides_behind, is_regex, divides, needs_parentheses};
 
 use crate::layouts::Place;
-use sp_ast::{BinaryOp, ExprForm, Form, Node, Tree};
+use sp_ast::{ExprForm, ExprKind, ExprView, Form, Level, Members, Ref, TreeRef};
 use sp_lex::TokenKind;
+use sp_words::BinaryOp;
 
 /// Whether it is a part that is left out.
-pub(crate) fn is_absent(tree: &Tree) -> bool
+pub(crate) fn is_absent(tree: &TreeRef<'_>) -> bool
     ensures { result ≡ is_absent tree.now }
 {
-    match &tree.node {
-        Node::Absent => true,
-        Node::Row(_) | Node::Of { .. } => false,
+    match tree.level() {
+        Level::Absent => true,
+        Level::Row(_) | Level::Of(..) => false,
     }
 }
 
 /// Whether it is a row without members.
-pub(crate) fn is_empty_row(tree: &Tree) -> bool
+pub(crate) fn is_empty_row(tree: &TreeRef<'_>) -> bool
     ensures { result ≡ is_empty_row tree.now }
 {
-    match &tree.node {
-        Node::Row(parts) => parts.is_empty(),
-        Node::Absent | Node::Of { .. } => false,
+    match tree.level() {
+        Level::Row(parts) => parts.is_empty(),
+        Level::Absent | Level::Of(..) => false,
     }
 }
 
-/// Whether the parts of a `new` are a path and no arguments.
-fn is_bare(parts: &[Tree]) -> bool
-    ensures { result ≡ is_bare (trees parts.now) }
+/// How tightly an expression binds: operators by their level, a prefix by 13, `new` without arguments by 14, and all else
+/// by 15.
+fn expr_level(expr: &Ref<'_, ExprKind>) -> u8
+    ensures { result ≡ level_of expr.now }
 {
-    match parts.get(1) {
-        Some(arguments) => is_empty_row(arguments),
-        None => false,
-    }
-}
-
-/// How tightly a tree of this alternative binds.
-fn form_level(form: &Form, parts: &[Tree]) -> u8
-    ensures { result ≡ form_level form.now (trees parts.now) }
-{
-    match form {
-        Form::Expr(ExprForm::Choice) => 1,
-        Form::Expr(ExprForm::Binary(operator)) => operator.level(),
-        Form::Expr(ExprForm::Unary(_)) => 13,
-        Form::Expr(ExprForm::New) => { if is_bare(parts) { 14 } else { 15 } }
+    match expr.view() {
+        ExprView::Choice { .. } => 1,
+        ExprView::Binary(operator, ..) => operator.level(),
+        ExprView::Unary(..) => 13,
+        ExprView::New(_, arguments) => new_level(&arguments),
         _ => 15,
     }
 }
 
-/// How tightly a tree binds: operators by their level, a prefix by 13, `new` without arguments by 14, and all else by 15.
-fn level_of(tree: &Tree) -> u8
+/// How tightly `new` with these arguments binds.
+fn new_level(arguments: &Members<'_, ExprKind>) -> u8
+    ensures { result ≡ (if is_empty_row (in_row arguments.now) then 14 else 15) }
+{
+    if arguments.is_empty() { 14 } else { 15 }
+}
+
+/// How tightly a tree binds: an expression by what it is, and all else by 15.
+fn level_of(tree: &TreeRef<'_>) -> u8
     ensures { result ≡ level_of tree.now }
 {
-    match &tree.node {
-        Node::Of { form, parts, .. } => form_level(form, parts.as_slice()),
-        Node::Absent | Node::Row(_) => 15,
+    match tree.level() {
+        Level::Of(Form::Expr(_), ..) => expr_level(&Ref::new(tree.again())),
+        _ => 15,
     }
 }
 
@@ -97,82 +94,47 @@ pub(crate) fn is_dividend(form: &Form, place: Place) -> bool
     }
 }
 
-fn is_skip(tree: &Tree) -> bool
-    ensures { result ≡ is_skip tree.now }
+/// Whether a `/` behind a tree is read as a division, by the last token of it.
+fn divides_behind(tree: &TreeRef<'_>) -> bool
+    ensures { result ≡ divides_behind tree.now }
 {
-    match &tree.node {
-        Node::Of {
-            form: Form::Name(x),
-            ..
-        } => x.as_str() == "skip",
-        _ => false,
+    match tree.level() {
+        Level::Of(Form::Expr(_), ..) => last_divides(&Ref::new(tree.again())),
+        _ => true,
     }
 }
 
 /// Whether a `/` behind an expression is read as a division, by the last token of it.
 #[cycle(divides)]
-fn divides_behind(tree: &Tree) -> bool
-    ensures { result ≡ divides_behind tree.now }
+fn last_divides(expr: &Ref<'_, ExprKind>) -> bool
+    ensures { result ≡ divides_behind expr.now }
 {
-    match &tree.node {
-        Node::Of { form, parts, .. } => last_divides(form, parts.as_slice()),
-        Node::Absent | Node::Row(_) => true,
-    }
-}
-
-#[cycle(divides)]
-fn last_divides(form: &Form, parts: &[Tree]) -> bool
-    ensures { result ≡ last_divides form.now (trees parts.now) }
-{
-    match form {
-        Form::Expr(ExprForm::Itself | ExprForm::True | ExprForm::False | ExprForm::Regex(_)) =>
-            false,
-        Form::Expr(ExprForm::Member) => member_divides(parts),
-        Form::Expr(ExprForm::Unary(_)) => match parts.first() {
-            Some(operand) => closes(operand, 13),
-            None => true,
-        },
-        Form::Expr(ExprForm::Binary(operator)) => right_divides(*operator, parts),
+    match expr.view() {
+        ExprView::Itself | ExprView::True | ExprView::False | ExprView::Regex(_) => false,
+        ExprView::Member(_, name) => name.text() != "skip",
+        ExprView::Unary(_, operand) => closes(&operand, 13),
+        ExprView::Binary(operator, _, right) => closes(&right, operator.level() + 1),
         _ => true,
-    }
-}
-
-fn member_divides(parts: &[Tree]) -> bool
-    ensures { result ≡ last_divides (form_is.Expr expr_is.Member) (trees parts.now) }
-{
-    match parts.get(1) {
-        Some(name) => !is_skip(name),
-        None => true,
-    }
-}
-
-#[cycle(divides)]
-fn right_divides(operator: BinaryOp, parts: &[Tree]) -> bool
-    ensures { result ≡ last_divides (form_is.Expr (expr_is.Binary operator)) (trees parts.now) }
-{
-    match parts.get(1) {
-        Some(operand) => closes(operand, operator.level() + 1),
-        None => true,
     }
 }
 
 /// Whether a `/` behind an operand is read as a division: it stands in parentheses, or is itself such.
 #[cycle(divides)]
-fn closes(operand: &Tree, tight: u8) -> bool
+fn closes(operand: &Ref<'_, ExprKind>, tight: u8) -> bool
     ensures { result ≡ (nat_lt (level_of operand.now) tight || divides_behind operand.now) }
 {
-    if level_of(operand) < tight {
+    if expr_level(operand) < tight {
         return true;
     }
-    divides_behind(operand)
+    last_divides(operand)
 }
 
-fn is_regex(tree: &Tree) -> bool
+fn is_regex(tree: &TreeRef<'_>) -> bool
     ensures { result ≡ is_regex tree.now }
 {
-    match &tree.node {
-        Node::Of { form, .. } => matches!(form, Form::Expr(ExprForm::Regex(_))),
-        Node::Absent | Node::Row(_) => false,
+    match tree.level() {
+        Level::Of(form, ..) => matches!(form, Form::Expr(ExprForm::Regex(_))),
+        Level::Absent | Level::Row(_) => false,
     }
 }
 
@@ -191,7 +153,7 @@ fn divides(before: Option<TokenKind>) -> bool
 pub(crate) fn needs_parentheses(
     tight: u8,
     dividend: bool,
-    tree: &Tree,
+    tree: &TreeRef<'_>,
     before: Option<TokenKind>,
 ) -> bool
     ensures { result ≡ needs_parentheses tight dividend tree.now before }

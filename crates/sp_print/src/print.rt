@@ -2,7 +2,7 @@
 ghost use Rattle.std.specs.Prelude.{◌≡◌, ◌≤◌, ◌++◌, OnOk, IfOk, None};
 ghost use Rattle.sp_ast.specs.Trees.{trees, trees_size};
 ghost use Rattle.sp_print.specs.Page.{page};
-ghost use Rattle.sp_print.specs.Canonical.{write, spelled, laid, part, part_of, parts_of, framed, rowed, followed, listed, at_place, row_of, declarations, lines, canonical};
+ghost use Rattle.sp_print.specs.Canonical.{write, spelled, laid, part, part_of, parts_of, framed, rowed, followed, listed, at_place, lines, canonical};
 ghost use Rattle.sp_print.specs.Pieces.{IsLaid};
 
 use crate::layouts::{Frame, PartLayout, Piece, Separator};
@@ -10,23 +10,24 @@ use crate::own::put_own;
 use crate::parentheses::{is_absent, is_dividend, is_empty_row, least, needs_parentheses};
 use crate::tables::layout;
 use crate::writer::Writer;
-use sp_ast::{Form, Module, Node, Tree};
+use sp_ast::{DeclKind, Form, Level, Members, Module, Parts, TreeRef};
 use sp_base::{NoMemory, Text};
-use sp_lex::{Mark, TokenKind};
+use sp_lex::TokenKind;
+use sp_words::Punctuation;
 use std::alloc::Global;
 
-const OPEN: TokenKind = TokenKind::Mark(Mark::LeftParen);
+const OPEN: TokenKind = TokenKind::Punctuation(Punctuation::LeftParen);
 
-const CLOSE: TokenKind = TokenKind::Mark(Mark::RightParen);
+const CLOSE: TokenKind = TokenKind::Punctuation(Punctuation::RightParen);
 
 /// Puts a tree.
 #[cycle(put)]
-fn put_tree(writer: &mut Writer, tree: &Tree) -> Result<(), NoMemory>
+fn put_tree(writer: &mut Writer, tree: &TreeRef<'_>) -> Result<(), NoMemory>
     ensures { OnOk result (writer.new ≡ write (spelled tree.now) writer.old) }
 {
-    match &tree.node {
-        Node::Of { form, parts, .. } => put_pieces(writer, form, layout(form), parts.as_slice()),
-        Node::Absent | Node::Row(_) => Ok(()),
+    match tree.level() {
+        Level::Of(form, _, parts) => put_pieces(writer, form, layout(form), parts),
+        Level::Absent | Level::Row(_) => Ok(()),
     }
 }
 
@@ -36,10 +37,10 @@ fn put_pieces(
     writer: &mut Writer,
     form: &Form,
     pieces: &[Piece],
-    parts: &[Tree],
+    parts: Parts<'_>,
 ) -> Result<(), NoMemory>
     ensures { OnOk result (writer.new ≡ write
-        (laid form.now pieces.now (parts_of (trees parts.now))) writer.old) }
+        (laid form.now pieces.now (parts_of (trees parts.entry))) writer.old) }
 {
     let mut left = parts;
     for piece in pieces {
@@ -54,31 +55,33 @@ fn put_piece<'t>(
     writer: &mut Writer,
     form: &Form,
     piece: Piece,
-    parts: &'t [Tree],
-) -> Result<&'t [Tree], NoMemory>
-    ensures laid { IfOk result (λ left. IsLaid form.now piece parts.entry.now writer.old left.now
+    parts: Parts<'t>,
+) -> Result<Parts<'t>, NoMemory>
+    ensures laid { IfOk result (λ left. IsLaid form.now piece parts.entry writer.old left
         writer.new) }
-    ensures less { IfOk result (λ left. trees_size (trees left.now) ≤ trees_size
-        (trees parts.entry.now)) }
+    ensures less { IfOk result (λ left. trees_size (trees left) ≤ trees_size
+        (trees parts.entry)) }
 {
-    match (piece, parts) {
-        (Piece::Word(kind), _) => {
+    match piece {
+        Piece::Word(kind) => {
             writer.put_kind(kind)?;
             Ok(parts)
         }
-        (Piece::Own, _) => {
+        Piece::Own => {
             put_own(writer, form)?;
             Ok(parts)
         }
-        (Piece::All(by), _) => {
-            put_all(writer, by, parts)?;
-            Ok(&[])
+        Piece::All(by) => {
+            put_all(writer, by, &parts)?;
+            Ok(parts.end())
         }
-        (Piece::Part(_), []) => Ok(&[]),
-        (Piece::Part(layout), [part, others @ ..]) => {
-            put_part(writer, form, layout, part)?;
-            Ok(others)
-        }
+        Piece::Part(layout) => match parts.split_first() {
+            Some((part, others)) => {
+                put_part(writer, form, layout, &part)?;
+                Ok(others)
+            }
+            None => Ok(parts),
+        },
     }
 }
 
@@ -88,7 +91,7 @@ fn put_part(
     writer: &mut Writer,
     form: &Form,
     layout: PartLayout,
-    tree: &Tree,
+    tree: &TreeRef<'_>,
 ) -> Result<(), NoMemory>
     ensures { OnOk result (writer.new ≡ write (part form.now layout (part_of tree.now)) writer.old) }
 {
@@ -112,7 +115,7 @@ fn put_part(
         }
         PartLayout::Hooks => {
             if is_empty_row(tree) {
-                return writer.put_kind(TokenKind::Mark(Mark::Semicolon));
+                return writer.put_kind(TokenKind::Punctuation(Punctuation::Semicolon));
             }
             put_row(writer, Separator::Nothing, tree)
         }
@@ -121,7 +124,7 @@ fn put_part(
 
 /// Puts a part with what stands round it, unless it is left out.
 #[cycle(put)]
-fn put_framed(writer: &mut Writer, frame: Frame, tree: &Tree) -> Result<(), NoMemory>
+fn put_framed(writer: &mut Writer, frame: Frame, tree: &TreeRef<'_>) -> Result<(), NoMemory>
     ensures { OnOk result (writer.new ≡ write (framed frame (part_of tree.now)) writer.old) }
 {
     if is_absent(tree) {
@@ -135,44 +138,49 @@ fn put_framed(writer: &mut Writer, frame: Frame, tree: &Tree) -> Result<(), NoMe
 
 /// Puts the members of a row with what stands between them.
 #[cycle(put)]
-fn put_row(writer: &mut Writer, by: Separator, tree: &Tree) -> Result<(), NoMemory>
+fn put_row(writer: &mut Writer, by: Separator, tree: &TreeRef<'_>) -> Result<(), NoMemory>
     ensures { OnOk result (writer.new ≡ write (rowed tree.now by) writer.old) }
 {
-    match &tree.node {
-        Node::Row(parts) => put_all(writer, by, parts.as_slice()),
-        Node::Absent | Node::Of { .. } => Ok(()),
+    match tree.level() {
+        Level::Row(parts) => put_all(writer, by, &parts),
+        Level::Absent | Level::Of(..) => Ok(()),
     }
 }
 
 /// Puts trees with what stands between them.
 #[cycle(put)]
-fn put_all(writer: &mut Writer, by: Separator, all: &[Tree]) -> Result<(), NoMemory>
+fn put_all(writer: &mut Writer, by: Separator, all: &Parts<'_>) -> Result<(), NoMemory>
     ensures { OnOk result (writer.new ≡ write (listed by (parts_of (trees all.now))) writer.old) }
 {
-    let [first, others @ ..] = all else {
+    let Some((first, others)) = all.split_first() else {
         return Ok(());
     };
-    put_at(writer, 1, false, first)?;
+    put_at(writer, 1, false, &first)?;
     put_others(writer, by, others)?;
     Ok(())
 }
 
 /// Puts trees, each behind what stands between them.
 #[cycle(put)]
-fn put_others(writer: &mut Writer, by: Separator, others: &[Tree]) -> Result<(), NoMemory>
-    ensures { OnOk result (writer.new ≡ write (followed by (parts_of (trees others.now)))
+fn put_others(writer: &mut Writer, by: Separator, others: Parts<'_>) -> Result<(), NoMemory>
+    ensures { OnOk result (writer.new ≡ write (followed by (parts_of (trees others.entry)))
         writer.old) }
 {
     for tree in others {
         writer.put_kinds(by.kinds())?;
-        put_at(writer, 1, false, tree)?;
+        put_at(writer, 1, false, &tree)?;
     }
     Ok(())
 }
 
 /// Puts a tree at a place, in parentheses where it needs them.
 #[cycle(put)]
-fn put_at(writer: &mut Writer, tight: u8, dividend: bool, tree: &Tree) -> Result<(), NoMemory>
+fn put_at(
+    writer: &mut Writer,
+    tight: u8,
+    dividend: bool,
+    tree: &TreeRef<'_>,
+) -> Result<(), NoMemory>
     ensures { OnOk result (writer.new ≡ write (at_place tight dividend tree.now (spelled tree.now))
         writer.old) }
 {
@@ -185,38 +193,16 @@ fn put_at(writer: &mut Writer, tight: u8, dividend: bool, tree: &Tree) -> Result
     Ok(())
 }
 
-/// Puts trees, each as a line.
-fn put_lines(writer: &mut Writer, all: &[Tree]) -> Result<(), NoMemory>
+/// Puts declarations, each as a line.
+fn put_lines(writer: &mut Writer, all: Members<'_, DeclKind>) -> Result<(), NoMemory>
     requires { writer.old.last ≡ None }
-    ensures { OnOk result (writer.new ≡ page (writer.old.text ++ lines (trees all.now)) None) }
+    ensures { OnOk result (writer.new ≡ page (writer.old.text ++ lines (trees all.entry)) None) }
 {
-    for tree in all {
-        put_tree(writer, tree)?;
+    for declaration in all {
+        put_tree(writer, &declaration.lend())?;
         writer.end_line()?;
     }
     Ok(())
-}
-
-/// The declarations of a module.
-fn declarations(m: &Tree) -> &[Tree]
-    ensures { declarations m.now ≡ trees result.now }
-{
-    match &m.node {
-        Node::Of { parts, .. } => match parts.as_slice().get(1) {
-            Some(all) => row(all),
-            None => &[],
-        },
-        Node::Absent | Node::Row(_) => &[],
-    }
-}
-
-fn row(tree: &Tree) -> &[Tree]
-    ensures { row_of tree.now ≡ trees result.now }
-{
-    match &tree.node {
-        Node::Row(parts) => parts.as_slice(),
-        Node::Absent | Node::Of { .. } => &[],
-    }
 }
 
 /// The canonical text of a module: a line for its name and one for each declaration, the tokens of each with one space
@@ -224,9 +210,10 @@ fn row(tree: &Tree) -> &[Tree]
 pub fn print_module(alloc: Global, m: &Module) -> Result<Text, NoMemory>
     ensures { IfOk result (λ text. text ≡ canonical m.now) }
 {
+    let module = m.root();
     let mut writer = Writer::new(alloc);
-    put_tree(&mut writer, m.tree())?;
+    put_tree(&mut writer, &module.lend())?;
     writer.end_line()?;
-    put_lines(&mut writer, declarations(m.tree()))?;
+    put_lines(&mut writer, module.view().declarations)?;
     Text::new(alloc, writer.text())
 }

@@ -6,7 +6,8 @@ use crate::layouts::{Frame, PartLayout, Piece, Place, Separator};
 use sp_ast::{
     BaseForm, BodyForm, DeclForm, ExprForm, Form, GuardForm, ItemForm, PartForm, StmtForm, TypeForm,
 };
-use sp_lex::{Keyword, Mark, Property, TokenKind};
+use sp_lex::TokenKind;
+use sp_words::{Keyword, Property, Punctuation};
 
 const ALL_BY_COMMA: Piece = Piece::All(Separator::Comma);
 
@@ -154,43 +155,43 @@ const VOID: Piece = Piece::Word(TokenKind::Keyword(Keyword::Void));
 
 const WHILE: Piece = Piece::Word(TokenKind::Keyword(Keyword::While));
 
-const ARROW: Piece = Piece::Word(TokenKind::Mark(Mark::Arrow));
+const ARROW: Piece = Piece::Word(TokenKind::Punctuation(Punctuation::Arrow));
 
-const BAR: Piece = Piece::Word(TokenKind::Mark(Mark::Bar));
+const BAR: Piece = Piece::Word(TokenKind::Punctuation(Punctuation::Bar));
 
-const COLON: Piece = Piece::Word(TokenKind::Mark(Mark::Colon));
+const COLON: Piece = Piece::Word(TokenKind::Punctuation(Punctuation::Colon));
 
-const COMMA: Piece = Piece::Word(TokenKind::Mark(Mark::Comma));
+const COMMA: Piece = Piece::Word(TokenKind::Punctuation(Punctuation::Comma));
 
-const DOLLAR_DOLLAR: Piece = Piece::Word(TokenKind::Mark(Mark::DollarDollar));
+const DOLLAR_DOLLAR: Piece = Piece::Word(TokenKind::Punctuation(Punctuation::DollarDollar));
 
-const DOT: Piece = Piece::Word(TokenKind::Mark(Mark::Dot));
+const DOT: Piece = Piece::Word(TokenKind::Punctuation(Punctuation::Dot));
 
-const EQUAL: Piece = Piece::Word(TokenKind::Mark(Mark::Equal));
+const EQUAL: Piece = Piece::Word(TokenKind::Punctuation(Punctuation::Equal));
 
-const GREATER: Piece = Piece::Word(TokenKind::Mark(Mark::Greater));
+const GREATER: Piece = Piece::Word(TokenKind::Punctuation(Punctuation::Greater));
 
-const LEFT_BRACE: Piece = Piece::Word(TokenKind::Mark(Mark::LeftBrace));
+const LEFT_BRACE: Piece = Piece::Word(TokenKind::Punctuation(Punctuation::LeftBrace));
 
-const LEFT_BRACKET: Piece = Piece::Word(TokenKind::Mark(Mark::LeftBracket));
+const LEFT_BRACKET: Piece = Piece::Word(TokenKind::Punctuation(Punctuation::LeftBracket));
 
-const LEFT_PAREN: Piece = Piece::Word(TokenKind::Mark(Mark::LeftParen));
+const LEFT_PAREN: Piece = Piece::Word(TokenKind::Punctuation(Punctuation::LeftParen));
 
-const LESS: Piece = Piece::Word(TokenKind::Mark(Mark::Less));
+const LESS: Piece = Piece::Word(TokenKind::Punctuation(Punctuation::Less));
 
-const QUESTION: Piece = Piece::Word(TokenKind::Mark(Mark::Question));
+const QUESTION: Piece = Piece::Word(TokenKind::Punctuation(Punctuation::Question));
 
-const QUESTION_DOT: Piece = Piece::Word(TokenKind::Mark(Mark::QuestionDot));
+const QUESTION_DOT: Piece = Piece::Word(TokenKind::Punctuation(Punctuation::QuestionDot));
 
-const RIGHT_BRACE: Piece = Piece::Word(TokenKind::Mark(Mark::RightBrace));
+const RIGHT_BRACE: Piece = Piece::Word(TokenKind::Punctuation(Punctuation::RightBrace));
 
-const RIGHT_BRACKET: Piece = Piece::Word(TokenKind::Mark(Mark::RightBracket));
+const RIGHT_BRACKET: Piece = Piece::Word(TokenKind::Punctuation(Punctuation::RightBracket));
 
-const RIGHT_PAREN: Piece = Piece::Word(TokenKind::Mark(Mark::RightParen));
+const RIGHT_PAREN: Piece = Piece::Word(TokenKind::Punctuation(Punctuation::RightParen));
 
-const SEMICOLON: Piece = Piece::Word(TokenKind::Mark(Mark::Semicolon));
+const SEMICOLON: Piece = Piece::Word(TokenKind::Punctuation(Punctuation::Semicolon));
 
-const STAR: Piece = Piece::Word(TokenKind::Mark(Mark::Star));
+const STAR: Piece = Piece::Word(TokenKind::Punctuation(Punctuation::Star));
 
 const PERCENT_BYTE_ORDER: Piece = Piece::Word(TokenKind::Property(Property::ByteOrder));
 
@@ -451,9 +452,9 @@ pub(crate) fn layout(form: &Form) -> &'static [Piece]
 {
     match form {
         Form::Name(_) => &OWN_LAYOUT,
-        Form::Text(_) => &OWN_LAYOUT,
+        Form::String(_) => &OWN_LAYOUT,
         Form::Number(_) => &OWN_LAYOUT,
-        Form::Event(_) => &OWN_LAYOUT,
+        Form::HookName(_) => &OWN_LAYOUT,
         Form::Path => &PATH_LAYOUT,
         Form::Expr(ExprForm::Path) => &EXPR_PATH_LAYOUT,
         Form::Expr(ExprForm::Itself) => &EXPR_ITSELF_LAYOUT,

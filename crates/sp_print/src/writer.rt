@@ -5,7 +5,8 @@ ghost use Rattle.sp_print.specs.Page.{page, put, puts, gap, is_scope};
 
 use itoa::Buffer;
 use sp_base::NoMemory;
-use sp_lex::{Mark, TokenKind};
+use sp_lex::TokenKind;
+use sp_words::Punctuation;
 use std::alloc::Global;
 use std::marker::Model;
 
@@ -148,7 +149,7 @@ impl Writer {
 fn is_scope(kind: TokenKind) -> bool
     ensures { result ≡ is_scope kind }
 {
-    matches!(kind, TokenKind::Mark(Mark::ColonColon))
+    matches!(kind, TokenKind::Punctuation(Punctuation::ColonColon))
 }
 
 /// Puts a byte as it stands in a literal.

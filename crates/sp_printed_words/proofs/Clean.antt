@@ -94,19 +94,19 @@ chars_clean : (cs : List ℕ) → all_scalars cs ≡ true → AllByRecursion (λ
 chars_clean [] h = tt
 chars_clean (c ∷ cs) h = let parts = both _ (all_scalars cs) h in (char_clean c parts.0 (nat_lt c 128) refl, chars_clean cs parts.1)
 
--- a text between two marks
-marked_clean : (a b : ℕ) (x : List ℕ) → is_clean a ≡ true → is_clean b ≡ true → IsClean x → IsClean (a ∷ x ++ b ∷ [])
-marked_clean a b x first last clean = clean_append (a ∷ []) (x ++ b ∷ []) (clean_byte a first) (clean_append x (b ∷ []) clean (clean_byte b last))
+-- a text between two delimiters
+punctuation_clean : (a b : ℕ) (x : List ℕ) → is_clean a ≡ true → is_clean b ≡ true → IsClean x → IsClean (a ∷ x ++ b ∷ [])
+punctuation_clean a b x first last clean = clean_append (a ∷ []) (x ++ b ∷ []) (clean_byte a first) (clean_append x (b ∷ []) clean (clean_byte b last))
 
 written_clean : (w : Word) → IsSound w → HasNoZero w → IsClean (written w)
 written_clean (fixed kind) sound zero = clean_text (spelling kind) (spelling_clean kind)
 written_clean (name x) sound zero = clean_all x (all_of (λ b. is_word b ≡ true) (λ b. is_clean b ≡ true) x word_clean sound.1)
 written_clean (number n) sound zero = clean_all (decimal n) (all_of (λ b. is_ascii_digit b ≡ true) (λ b. is_clean b ≡ true) (decimal n) digit_clean (decimal_digits n sound))
-written_clean (text x) sound zero = marked_clean 34 34 (flat_map shown_char (chars x)) refl refl (clean_each shown_char (chars x) (chars_clean (chars x) (scalars-chars x sound)))
+written_clean (text x) sound zero = punctuation_clean 34 34 (flat_map shown_char (chars x)) refl refl (clean_each shown_char (chars x) (chars_clean (chars x) (scalars-chars x sound)))
 written_clean (bytes x) sound zero =
     clean_append (98 ∷ []) (34 ∷ flat_map shown_byte x ++ 34 ∷ []) (clean_byte 98 refl)
-    (marked_clean 34 34 (flat_map shown_byte x) refl refl (clean_each shown_byte x (all_of (λ c. c < 256) (λ c. IsClean (shown_byte c)) x (λ c h. clean_text (shown_byte c) (shown_clean c h)) sound)))
-written_clean (regex x) sound zero = marked_clean 47 47 x refl refl (sound.2, zero)
+    (punctuation_clean 34 34 (flat_map shown_byte x) refl refl (clean_each shown_byte x (all_of (λ c. c < 256) (λ c. IsClean (shown_byte c)) x (λ c h. clean_text (shown_byte c) (shown_clean c h)) sound)))
+written_clean (regex x) sound zero = punctuation_clean 47 47 x refl refl (sound.2, zero)
 
 gap_by : (none : Bool) → IsClean (cond none [] (32 ∷ []))
 gap_by true = clean_nil

@@ -22,7 +22,7 @@ use Rattle.sp_printed_words.specs.Read.{text_of, AreThese}
 use Rattle.sp_printed_words.specs.Sound.{is_fixed, read_as, IsSound, AreSound, HaveNoZero}
 use Rattle.sp_printed_words.proofs.Clean.{IsClean, text_clean}
 use Rattle.sp_printed_words.proofs.Lines.{tokens_in, lines_read}
-use Rattle.sp_printed_words.proofs.Worth.{between_marks, number_worth}
+use Rattle.sp_printed_words.proofs.Worth.{between_delimiters, number_worth}
 
 fixed_right : (kind : TokenKind) (its : List ℕ) (m : MKind) → is_fixed kind ≡ true → ¬ IsOwnFault kind its m
 fixed_right token.Number its m is fault = cc
@@ -39,7 +39,7 @@ word_right (name x) m sound fault = name_right (word_kind x) x m sound.2 fault
 word_right (number n) m sound fault = let high : 2 ^ 64 ≤ number_value (written (number n)) = fault.1 in let worth = number_worth n sound in absurd (omega (arith, high, worth, sound))
 word_right (text x) m sound fault = fault
 word_right (bytes x) m sound fault = fault
-word_right (regex x) m sound fault = sound.1 (subst (λ y. ¬ IsRegexText y) (between_marks 47 47 x) fault.1)
+word_right (regex x) m sound fault = sound.1 (subst (λ y. ¬ IsRegexText y) (between_delimiters 47 47 x) fault.1)
 
 deep_only : (w : Word) (its : List ℕ) (t : Token) (nesting : _) (m : MKind) → IsSound w → t.kind ≡ read_as w → its ≡ written w → IsTokenFault its nesting t m → m ≡ module_kind.TooDeep
 deep_only w its t nesting m sound kind_is bytes_are (inl own) = absurd (word_right w m sound (subst (λ k. IsOwnFault k (written w) m) kind_is (subst (λ b. IsOwnFault t.kind b m) bytes_are own)))

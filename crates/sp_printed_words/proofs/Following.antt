@@ -4,7 +4,7 @@ use Rattle.std.specs.List.{AllByRecursion}
 use Rattle.sp_lex.specs.Elements.{ends_operand}
 use Rattle.sp_lex.specs.declared.kinds.TokenKind.{TokenKind}
 use Rattle.sp_lex.specs.declared.kinds.TokenKind.TheVariants as token
-use Rattle.sp_lex.specs.declared.kinds.Mark.TheVariants as mark
+use Rattle.sp_words.specs.declared.punctuation.Punctuation.TheVariants as punctuation
 use Rattle.sp_lex.specs.Signs.{word_kind}
 use Rattle.sp_literals.specs.Values.{IsName}
 use Rattle.sp_ast.specs.Trees.{Tree, Trees, node, none, more}
@@ -84,14 +84,14 @@ chain_goes P Q R x y one two k r agree p =
 
 -- a token that may stand behind any
 abbrev pub plain_kind : TokenKind → Bool
-plain_kind (token.Mark mark.Slash) = false
-plain_kind (token.Mark mark.ColonColon) = false
+plain_kind (token.Punctuation punctuation.Slash) = false
+plain_kind (token.Punctuation punctuation.ColonColon) = false
 plain_kind token.Regex = false
 plain_kind _ = true
 
 plain_may : (r kind : TokenKind) → plain_kind kind ≡ true → may_follow (Some r) kind ≡ true
-plain_may r (token.Mark mark.Slash) e = cc
-plain_may r (token.Mark mark.ColonColon) e = cc
+plain_may r (token.Punctuation punctuation.Slash) e = cc
+plain_may r (token.Punctuation punctuation.ColonColon) e = cc
 plain_may r token.Regex e = cc
 plain_may r kind e = refl
 
@@ -124,10 +124,10 @@ kinds_goes : (P : Option TokenKind → Type 0) (ks : List TokenKind) → plain_k
 kinds_goes P ks e k r agree p = (plain_placed ks k r e agree, tt)
 
 -- in parentheses anything may stand that may stand behind a (
-enclosed_goes : (P Q R : Option TokenKind → Type 0) (x : Writing) → P (Some (token.Mark mark.LeftParen)) → R (Some (token.Mark mark.RightParen)) → Goes P x Q → Goes Any (enclosed x) R
+enclosed_goes : (P Q R : Option TokenKind → Type 0) (x : Writing) → P (Some (token.Punctuation punctuation.LeftParen)) → R (Some (token.Punctuation punctuation.RightParen)) → Goes P x Q → Goes Any (enclosed x) R
 enclosed_goes P Q R x p last go =
-    chain_goes Any P R (kinds (token.Mark mark.LeftParen ∷ [])) (chain x (kinds (token.Mark mark.RightParen ∷ []))) (kind_goes Any P (token.Mark mark.LeftParen) refl p)
-    (chain_goes P Q R x (kinds (token.Mark mark.RightParen ∷ [])) go (kind_goes Q R (token.Mark mark.RightParen) refl last))
+    chain_goes Any P R (kinds (token.Punctuation punctuation.LeftParen ∷ [])) (chain x (kinds (token.Punctuation punctuation.RightParen ∷ []))) (kind_goes Any P (token.Punctuation punctuation.LeftParen) refl p)
+    (chain_goes P Q R x (kinds (token.Punctuation punctuation.RightParen ∷ [])) go (kind_goes Q R (token.Punctuation punctuation.RightParen) refl last))
 
 -- a regular expression
 abbrev is_slashed : Tree → Bool
@@ -177,12 +177,12 @@ module _ (tight : ℕ) (dividend : Bool) (t : Tree) (P Q : Option TokenKind → 
   abbrev IsBare : Option TokenKind → Type 0
   IsBare k = needs_parentheses tight dividend t k ≡ false
 
-  place_by : (needs : Bool) (k r : Option TokenKind) → Agree k r → (needs ≡ false → Before t r) → (needs ≡ false → (s : Option TokenKind) → After t s → Q s) → Q (Some (token.Mark mark.RightParen))
+  place_by : (needs : Bool) (k r : Option TokenKind) → Agree k r → (needs ≡ false → Before t r) → (needs ≡ false → (s : Option TokenKind) → After t s → Q s) → Q (Some (token.Punctuation punctuation.RightParen))
       → ArePlaced r (cond needs (enclosed (spelled t) k) (spelled t k)) × Q (last_read r (cond needs (enclosed (spelled t) k) (spelled t k)))
   place_by true k r agree start end last = enclosed_goes (Before t) (After t) Q (spelled t) (λ is. refl) last ready.0 k r agree tt
   place_by false k r agree start end last = let h = ready.0 k r agree (start refl) in (h.0, end refl (last_read r (spelled t k)) h.1)
 
-  pub place_goes : ((k r : Option TokenKind) → Agree k r → P r → IsBare k → Before t r) → ((k : Option TokenKind) → IsBare k → (s : Option TokenKind) → After t s → Q s) → Q (Some (token.Mark mark.RightParen))
+  pub place_goes : ((k r : Option TokenKind) → Agree k r → P r → IsBare k → Before t r) → ((k : Option TokenKind) → IsBare k → (s : Option TokenKind) → After t s → Q s) → Q (Some (token.Punctuation punctuation.RightParen))
       → Goes P (at_place tight dividend t (spelled t)) Q
   place_goes start end last k r agree p = place_by (needs_parentheses tight dividend t k) k r agree (start k r agree p) (end k) last
 
@@ -220,7 +220,7 @@ framed_goes around t e ready base =
     (chain_goes Any Any Any (kinds (opening around)) (chain (anywhere (part_of t)) (kinds (closing around))) (kinds_goes Any (opening around) h.0)
     (chain_goes Any Any Any (anywhere (part_of t)) (kinds (closing around)) (anywhere_goes t ready base) (kinds_goes Any (closing around) h.1)))
 
-pub arguments_goes : (P : Option TokenKind → Type 0) (form : Form) (t : Tree) → P (Some (token.Mark mark.RightParen)) → IsReady t → Goes P (part form layout_is.Arguments (part_of t)) P
+pub arguments_goes : (P : Option TokenKind → Type 0) (form : Form) (t : Tree) → P (Some (token.Punctuation punctuation.RightParen)) → IsReady t → Goes P (part form layout_is.Arguments (part_of t)) P
 arguments_goes P form t last ready =
     by_test P P (is_empty_row t) nothing (enclosed (rowed t separator.Comma)) (nothing_goes P)
     (λ k r agree p. enclosed_goes Any Any P (rowed t separator.Comma) tt last (ready.1 separator.Comma refl) k r agree tt)
@@ -244,7 +244,7 @@ part_goes form (layout_is.One at) t e ready base =
 part_goes form (layout_is.Optional around) t e ready base = framed_goes around t e ready base
 part_goes form (layout_is.Row by) t e ready base = ready.1 by e
 part_goes form layout_is.Arguments t e ready base = arguments_goes Any form t tt ready
-part_goes form layout_is.Hooks t e ready base = by_test Any Any (is_empty_row t) (kinds (token.Mark mark.Semicolon ∷ [])) (rowed t separator.Nothing) (kinds_goes Any (token.Mark mark.Semicolon ∷ []) refl) (ready.1 separator.Nothing refl)
+part_goes form layout_is.Hooks t e ready base = by_test Any Any (is_empty_row t) (kinds (token.Punctuation punctuation.Semicolon ∷ [])) (rowed t separator.Nothing) (kinds_goes Any (token.Punctuation punctuation.Semicolon ∷ []) refl) (ready.1 separator.Nothing refl)
 
 pub laid_goes : (form : Form) (ps : List Piece) (ts : Trees) → plain_pieces ps ≡ true → Goes Any (these (own_words form)) Any → AreReady ts → HaveNoRegexBase ts → Goes Any (laid form ps (parts_of ts)) Any
 laid_goes form [] ts e own ready bases = nothing_goes Any

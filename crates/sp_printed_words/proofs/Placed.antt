@@ -4,7 +4,7 @@ use Rattle.std.specs.List.{AllByRecursion}
 use Rattle.sp_lex.specs.Elements.{ends_operand}
 use Rattle.sp_lex.specs.declared.kinds.TokenKind.{TokenKind}
 use Rattle.sp_lex.specs.declared.kinds.TokenKind.TheVariants as token
-use Rattle.sp_lex.specs.declared.kinds.Mark.TheVariants as mark
+use Rattle.sp_words.specs.declared.punctuation.Punctuation.TheVariants as punctuation
 use Rattle.sp_lex.specs.Signs.{word_kind}
 use Rattle.sp_literals.specs.Values.{IsName}
 use Rattle.sp_ast.specs.Trees.{Tree, Trees, node, absent, row, none, more}
@@ -29,12 +29,12 @@ use Rattle.std.specs.List.{find}
 use Rattle.sp_lex.specs.Signs.{is_spelled}
 use Rattle.sp_lex.specs.Spellings.{reserved_words}
 use Rattle.sp_lex.specs.declared.kinds.Absent.TheVariants as absent_word
-use Rattle.sp_lex.specs.declared.kinds.Keyword.TheVariants as keyword
+use Rattle.sp_words.specs.declared.keywords.Keyword.TheVariants as keyword
 use Rattle.sp_base.specs.declared.places.Span.{Span}
-use Rattle.sp_ast.specs.declared.operators.BinaryOp.{BinaryOp}
-use Rattle.sp_ast.specs.declared.operators.BinaryOp.TheVariants as binary
-use Rattle.sp_ast.specs.declared.operators.UnaryOp.{UnaryOp}
-use Rattle.sp_ast.specs.Operators.{level}
+use Rattle.sp_words.specs.declared.operators.BinaryOp.{BinaryOp}
+use Rattle.sp_words.specs.declared.operators.BinaryOp.TheVariants as binary
+use Rattle.sp_words.specs.declared.operators.UnaryOp.{UnaryOp}
+use Rattle.sp_words.specs.Operators.{level}
 use Rattle.sp_ast.specs.declared.forms.DeclForm.{DeclForm}
 use Rattle.sp_print.specs.Own.{binary_token}
 use Rattle.sp_print.specs.declared.layouts.Place.{Place}
@@ -74,11 +74,11 @@ name_goes P (node (form_is.Name x) span ts) is tells k r agree p =
 name_goes P t is tells k r agree p = cc
 
 -- a :: may stand behind what ends an operand
-scope_may : (r : Option TokenKind) → Ends r → may_follow r (token.Mark mark.ColonColon) ≡ true
-scope_may (Some (token.Mark mark.Colon)) end = cc
+scope_may : (r : Option TokenKind) → Ends r → may_follow r (token.Punctuation punctuation.ColonColon) ≡ true
+scope_may (Some (token.Punctuation punctuation.Colon)) end = cc
 scope_may r end = refl
 
-scope_goes : Goes Ends (kinds (token.Mark mark.ColonColon ∷ [])) Any
+scope_goes : Goes Ends (kinds (token.Punctuation punctuation.ColonColon ∷ [])) Any
 scope_goes k r agree end = ((scope_may r end, tt), tt)
 
 followed_ids : (ts : Trees) → AreIds ts → Goes Ends (followed separator.Scope (parts_of ts)) Ends
@@ -135,7 +135,7 @@ dividend_goes t is ready base =
     (λ k bare. let h = neither (nat_lt (level_of t) 12) (true && not (divides_behind t)) (is_regex t && divides k) bare in bound_ends t 12 refl is h.0 (true_of (divides_behind t) h.1))
 
 -- where a / and a regular expression may stand
-slash_may : (k r : Option TokenKind) → Agree k r → Ends r → may_follow r (token.Mark mark.Slash) ≡ true
+slash_may : (k r : Option TokenKind) → Agree k r → Ends r → may_follow r (token.Punctuation punctuation.Slash) ≡ true
 slash_may (Some k) (Some r) agree end = end
 slash_may None r agree end = absurd agree
 slash_may (Some k) None agree end = absurd agree
@@ -220,8 +220,8 @@ member_stands (more t none) p span k r agree before = let is : false ≡ true = 
 member_stands (more t (more n ts)) p span k r agree before =
     let form = form_is.Expr expr_is.Member in
     let last : Option TokenKind → Type 0 = λ r. not (is_skip n) ≡ true → Ends r in
-    chain_goes Any Any last (part form (layout_is.One place.Object) (part_of t)) (chain (kinds (token.Mark mark.Dot ∷ [])) (chain (anywhere (part_of n)) nothing)) (part_goes form (layout_is.One place.Object) t refl p.ready.0 p.bases.0)
-    (chain_goes Any Any last (kinds (token.Mark mark.Dot ∷ [])) (chain (anywhere (part_of n)) nothing) (kind_goes Any Any (token.Mark mark.Dot) refl tt)
+    chain_goes Any Any last (part form (layout_is.One place.Object) (part_of t)) (chain (kinds (token.Punctuation punctuation.Dot ∷ [])) (chain (anywhere (part_of n)) nothing)) (part_goes form (layout_is.One place.Object) t refl p.ready.0 p.bases.0)
+    (chain_goes Any Any last (kinds (token.Punctuation punctuation.Dot ∷ [])) (chain (anywhere (part_of n)) nothing) (kind_goes Any Any (token.Punctuation punctuation.Dot) refl tt)
     (chain_goes Any last last (anywhere (part_of n)) nothing (name_goes Any n p.wanted p.tells.1.0) (nothing_goes last))) k r agree tt
 
 set_member_stands : (ts : Trees) → Parts (form_is.Expr expr_is.SetMember) ts → Stands (form_is.Expr expr_is.SetMember) ts
@@ -229,8 +229,8 @@ set_member_stands none p span k r agree before = absurd p.wanted
 set_member_stands (more t none) p span k r agree before = absurd p.wanted
 set_member_stands (more t (more n ts)) p span k r agree before =
     let form = form_is.Expr expr_is.SetMember in
-    let h = chain_goes Any Any Ends (part form (layout_is.One place.Object) (part_of t)) (chain (kinds (token.Mark mark.QuestionDot ∷ [])) (chain (anywhere (part_of n)) nothing)) (part_goes form (layout_is.One place.Object) t refl p.ready.0 p.bases.0)
-    (chain_goes Any Any Ends (kinds (token.Mark mark.QuestionDot ∷ [])) (chain (anywhere (part_of n)) nothing) (kind_goes Any Any (token.Mark mark.QuestionDot) refl tt)
+    let h = chain_goes Any Any Ends (part form (layout_is.One place.Object) (part_of t)) (chain (kinds (token.Punctuation punctuation.QuestionDot ∷ [])) (chain (anywhere (part_of n)) nothing)) (part_goes form (layout_is.One place.Object) t refl p.ready.0 p.bases.0)
+    (chain_goes Any Any Ends (kinds (token.Punctuation punctuation.QuestionDot ∷ [])) (chain (anywhere (part_of n)) nothing) (kind_goes Any Any (token.Punctuation punctuation.QuestionDot) refl tt)
     (chain_goes Any Ends Ends (anywhere (part_of n)) nothing (id_goes Any n p.wanted) (nothing_goes Ends))) k r agree tt in
     (h.0, λ end. h.1)
 
@@ -305,21 +305,21 @@ field_goes (more label none) p = plain_stands form_is.Field (more label none) re
 field_goes (more label (more base ts)) p =
     let rest = piece.Part (layout_is.Row separator.Nothing) ∷ piece.Part (layout_is.Row separator.Nothing) ∷ piece.Part (layout_is.Optional frame.If) ∷ piece.Part (layout_is.Optional frame.Arrow) ∷ piece.Part layout_is.Hooks ∷ [] in
     let behind = laid form_is.Field rest (parts_of ts) in
-    chain_goes Any Any Any (framed frame.Bare (part_of label)) (chain (kinds (token.Mark mark.Colon ∷ [])) (chain (anywhere (part_of base)) behind)) (framed_goes frame.Bare label refl p.ready.0 p.bases.0)
-    (based (token.Mark mark.Colon) base behind refl refl p.ready.1.0 (laid_goes form_is.Field rest ts refl (no_own form_is.Field refl) p.ready.1.1 p.bases.1))
+    chain_goes Any Any Any (framed frame.Bare (part_of label)) (chain (kinds (token.Punctuation punctuation.Colon ∷ [])) (chain (anywhere (part_of base)) behind)) (framed_goes frame.Bare label refl p.ready.0 p.bases.0)
+    (based (token.Punctuation punctuation.Colon) base behind refl refl p.ready.1.0 (laid_goes form_is.Field rest ts refl (no_own form_is.Field refl) p.ready.1.1 p.bases.1))
 
 group_goes : (ts : Trees) → Parts (form_is.Base base_is.Group) ts → Goes Any (laid (form_is.Base base_is.Group) (layout (form_is.Base base_is.Group)) (parts_of ts)) Any
 group_goes none p = plain_stands (form_is.Base base_is.Group) none refl tt p
 group_goes (more base ts) p =
     let form = form_is.Base base_is.Group in
-    let rest = piece.Part (layout_is.Row separator.Nothing) ∷ piece.Part (layout_is.Row separator.Nothing) ∷ piece.Word (token.Mark mark.RightParen) ∷ [] in
-    based (token.Mark mark.LeftParen) base (laid form rest (parts_of ts)) refl refl p.ready.0 (laid_goes form rest ts refl (no_own form refl) p.ready.1 p.bases)
+    let rest = piece.Part (layout_is.Row separator.Nothing) ∷ piece.Part (layout_is.Row separator.Nothing) ∷ piece.Word (token.Punctuation punctuation.RightParen) ∷ [] in
+    based (token.Punctuation punctuation.LeftParen) base (laid form rest (parts_of ts)) refl refl p.ready.0 (laid_goes form rest ts refl (no_own form refl) p.ready.1 p.bases)
 
--- the hook of a path, with or without an event
-event_goes : (t : Tree) → IsReady t → is_regex_base t ≡ false → Goes Ends (framed frame.Scope (part_of t)) Any
-event_goes t ready base =
-    by_test Ends Any (is_absent t) nothing (chain (kinds (token.Mark mark.ColonColon ∷ [])) (chain (anywhere (part_of t)) nothing)) (λ k r agree end. (tt, tt))
-    (chain_goes Ends Any Any (kinds (token.Mark mark.ColonColon ∷ [])) (chain (anywhere (part_of t)) nothing) scope_goes
+-- the hook of a path, with or without the name of a hook
+hook_name_goes : (t : Tree) → IsReady t → is_regex_base t ≡ false → Goes Ends (framed frame.Scope (part_of t)) Any
+hook_name_goes t ready base =
+    by_test Ends Any (is_absent t) nothing (chain (kinds (token.Punctuation punctuation.ColonColon ∷ [])) (chain (anywhere (part_of t)) nothing)) (λ k r agree end. (tt, tt))
+    (chain_goes Ends Any Any (kinds (token.Punctuation punctuation.ColonColon ∷ [])) (chain (anywhere (part_of t)) nothing) scope_goes
     (chain_goes Any Any Any (anywhere (part_of t)) nothing (anywhere_goes t ready base) (nothing_goes Any)))
 
 hook_goes : (ts : Trees) → AreReady ts → HaveNoRegexBase ts → Goes Ends (laid (form_is.Decl decl_is.On) (piece.Part (layout_is.Optional frame.Scope) ∷ piece.Part (layout_is.One place.Anywhere) ∷ []) (parts_of ts)) Any
@@ -327,7 +327,7 @@ hook_goes none ready bases = λ k r agree end. (tt, tt)
 hook_goes (more t ts) ready bases =
     let form = form_is.Decl decl_is.On in
     let rest = piece.Part (layout_is.One place.Anywhere) ∷ [] in
-    chain_goes Ends Any Any (framed frame.Scope (part_of t)) (laid form rest (parts_of ts)) (event_goes t ready.0 bases.0) (laid_goes form rest ts refl (no_own form refl) ready.1 bases.1)
+    chain_goes Ends Any Any (framed frame.Scope (part_of t)) (laid form rest (parts_of ts)) (hook_name_goes t ready.0 bases.0) (laid_goes form rest ts refl (no_own form refl) ready.1 bases.1)
 
 on_goes : (ts : Trees) → Parts (form_is.Decl decl_is.On) ts → Goes Any (laid (form_is.Decl decl_is.On) (layout (form_is.Decl decl_is.On)) (parts_of ts)) Any
 on_goes none p = let is : false ≡ true = p.wanted in absurd cc
@@ -359,10 +359,10 @@ mutual
   trees_ready (more t ts) tells formed = (tree_ready t tells.0 formed.0, trees_ready ts tells.1 formed.1)
 
 -- a line that begins with a word
-behind : (t : Tree) → TellsOnly IsSound t → IsFormed t → ArePlaced (Some (token.Mark mark.Semicolon)) (spelled t (Some (token.Mark mark.Semicolon)))
-behind t tells formed = ((tree_ready t tells formed).0 (Some (token.Mark mark.Semicolon)) (Some (token.Mark mark.Semicolon)) (λ free. free) (λ is. refl)).0
+behind : (t : Tree) → TellsOnly IsSound t → IsFormed t → ArePlaced (Some (token.Punctuation punctuation.Semicolon)) (spelled t (Some (token.Punctuation punctuation.Semicolon)))
+behind t tells formed = ((tree_ready t tells formed).0 (Some (token.Punctuation punctuation.Semicolon)) (Some (token.Punctuation punctuation.Semicolon)) (λ free. free) (λ is. refl)).0
 
-declaration_placed : (form : DeclForm) (span : Span) (ts : Trees) → ArePlaced (Some (token.Mark mark.Semicolon)) (spelled (node (form_is.Decl form) span ts) (Some (token.Mark mark.Semicolon))) → ArePlaced None (spelled (node (form_is.Decl form) span ts) None)
+declaration_placed : (form : DeclForm) (span : Span) (ts : Trees) → ArePlaced (Some (token.Punctuation punctuation.Semicolon)) (spelled (node (form_is.Decl form) span ts) (Some (token.Punctuation punctuation.Semicolon))) → ArePlaced None (spelled (node (form_is.Decl form) span ts) None)
 declaration_placed decl_is.Import span ts h = (refl, h.1)
 declaration_placed decl_is.ByteOrder span ts h = (refl, h.1)
 declaration_placed decl_is.Version span ts h = (refl, h.1)

@@ -8,9 +8,9 @@ use Rattle.sp_lex.specs.Elements.{element_at, literal_at}
 use Rattle.sp_lex.specs.Literals.{char_len, literal_len}
 use Rattle.sp_lex.specs.Readings.{token_at}
 use Rattle.sp_lex.specs.Signs.{word_kind}
-use Rattle.sp_lex.specs.declared.kinds.Hook.TheVariants as hook
-use Rattle.sp_lex.specs.declared.kinds.Keyword.TheVariants as keyword
-use Rattle.sp_lex.specs.declared.kinds.Mark.TheVariants as mark
+use Rattle.sp_words.specs.declared.words.HookName.TheVariants as hook
+use Rattle.sp_words.specs.declared.keywords.Keyword.TheVariants as keyword
+use Rattle.sp_words.specs.declared.punctuation.Punctuation.TheVariants as punctuation
 use Rattle.sp_lex.specs.declared.kinds.TokenKind.TheVariants as token
 use Rattle.sp_print.specs.Words.{Word, fixed, name, number, bytes, regex}
 use Rattle.sp_regex.specs.Syntax.{alternatives, pieces, once, plain_byte, no_piece, no_alternative}
@@ -19,13 +19,13 @@ use Rattle.sp_printed_words.specs.Sound.{AreSound, IsSound, IsRegexWord, IsNameT
 use Rattle.sp_printed_words.proofs.Lines.{tokens_in}
 
 abbrev header : List Word
-header = fixed (token.Keyword keyword.Module) ∷ name (codes "M") ∷ fixed (token.Mark mark.Semicolon) ∷ []
+header = fixed (token.Keyword keyword.Module) ∷ name (codes "M") ∷ fixed (token.Punctuation punctuation.Semicolon) ∷ []
 
 -- a path to a hook, a division, and a regular expression, with the word skip as a name
 abbrev body : List Word
 body =
-    fixed (token.Keyword keyword.On) ∷ name (codes "U") ∷ fixed (token.Mark mark.ColonColon) ∷ fixed (token.Hook hook.Init) ∷ name (codes "skip")
-    ∷ fixed (token.Mark mark.Equal) ∷ number 12 ∷ fixed (token.Mark mark.Slash) ∷ fixed (token.Mark mark.LeftParen) ∷ regex (codes "a") ∷ fixed (token.Mark mark.Comma) ∷ bytes (1 ∷ 34 ∷ []) ∷ []
+    fixed (token.Keyword keyword.On) ∷ name (codes "U") ∷ fixed (token.Punctuation punctuation.ColonColon) ∷ fixed (token.Hook hook.Init) ∷ name (codes "skip")
+    ∷ fixed (token.Punctuation punctuation.Equal) ∷ number 12 ∷ fixed (token.Punctuation punctuation.Slash) ∷ fixed (token.Punctuation punctuation.LeftParen) ∷ regex (codes "a") ∷ fixed (token.Punctuation punctuation.Comma) ∷ bytes (1 ∷ 34 ∷ []) ∷ []
 
 name_m : IsNameText (codes "M")
 unfolding word_kind
@@ -59,6 +59,6 @@ printed : text_of (header ∷ body ∷ []) ≡ codes "module M ;\non U::%init sk
 unfolding digits
 printed = refl
 
-tokens : tokens_in 0 (header ∷ []) ≡ token_at (token.Keyword keyword.Module) 0 6 ∷ token_at token.Id 7 1 ∷ token_at (token.Mark mark.Semicolon) 9 1 ∷ []
+tokens : tokens_in 0 (header ∷ []) ≡ token_at (token.Keyword keyword.Module) 0 6 ∷ token_at token.Id 7 1 ∷ token_at (token.Punctuation punctuation.Semicolon) 9 1 ∷ []
 unfolding word_kind
 tokens = refl

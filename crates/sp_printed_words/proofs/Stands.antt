@@ -6,19 +6,22 @@ use Rattle.std.proofs.lemmas.Fmt.{decimal_nonempty}
 use Rattle.sp_lex.specs.Bytes.{is_letter, is_word}
 use Rattle.sp_lex.specs.Elements.{ends_operand, element_at, sign_at, token_of}
 use Rattle.sp_lex.specs.Signs.{word_kind}
-use Rattle.sp_lex.specs.Spellings.{spelling, keyword_text, mark_text, attribute_text, property_text, hook_text}
+use Rattle.sp_words.specs.Words.{integer_text, attribute_text, property_text, hook_text}
+use Rattle.sp_words.specs.declared.words.AttributeName.{AttributeName}
+use Rattle.sp_words.specs.declared.words.HookName.{HookName}
+use Rattle.sp_words.specs.Keywords.{keyword_text}
+use Rattle.sp_words.specs.Punctuation.{punctuation_text}
+use Rattle.sp_lex.specs.Spellings.{spelling}
 use Rattle.sp_lex.specs.declared.kinds.TokenKind.{TokenKind}
 use Rattle.sp_lex.specs.declared.kinds.TokenKind.TheVariants as token
-use Rattle.sp_lex.specs.declared.kinds.Mark.{Mark}
-use Rattle.sp_lex.specs.declared.kinds.Mark.TheVariants as mark
-use Rattle.sp_lex.specs.declared.kinds.Attribute.{Attribute}
-use Rattle.sp_lex.specs.declared.kinds.Property.{Property}
-use Rattle.sp_lex.specs.declared.kinds.Hook.{Hook}
+use Rattle.sp_words.specs.declared.punctuation.Punctuation.{Punctuation}
+use Rattle.sp_words.specs.declared.punctuation.Punctuation.TheVariants as punctuation
+use Rattle.sp_words.specs.declared.words.Property.{Property}
 use Rattle.sp_literals.specs.Values.{IsName}
 use Rattle.sp_print.specs.Page.{is_scope, gap}
 use Rattle.sp_print.specs.Words.{Word, fixed, name, number, text, bytes, regex, written, kind_of}
 use Rattle.sp_printed_words.specs.Sound.{is_fixed, is_colon, read_as, may_follow, ArePlaced, AreSound, IsSound}
-use Rattle.sp_printed_words.proofs.Fixed.{mark_space, mark_feed, mark_scope, attribute_space, attribute_feed, attribute_scope, property_space, property_feed, property_scope, hook_space, hook_feed, hook_scope, scope_any, mark_sign, attribute_sign, property_sign, hook_sign, keyword_kind, keyword_letter, keyword_word}
+use Rattle.sp_printed_words.proofs.Fixed.{punctuation_space, punctuation_feed, punctuation_scope, attribute_space, attribute_feed, attribute_scope, priority_space, priority_feed, priority_scope, property_space, property_feed, property_scope, hook_space, hook_feed, hook_scope, scope_any, punctuation_sign, attribute_sign, priority_sign, property_sign, hook_sign, keyword_kind, keyword_letter, keyword_word, integer_kind, integer_letter, integer_word}
 use Rattle.sp_printed_words.proofs.Letters.{word_ends, number_ends, all_of_prefix, decimal_digits}
 use Rattle.sp_printed_words.proofs.Literal.{text_stands, bytes_stands, regex_more}
 
@@ -37,12 +40,12 @@ pub data Follows : Bool → List ℕ → Type 0 where
 abbrev pub IsBefore : TokenKind → List ℕ → Type 0
 IsBefore kind rest = (is_scope kind ≡ true) ⊎ Follows (is_colon kind) rest
 
-slash_divides : (before : Option TokenKind) (m : Mark) (divides : Bool) → Knows before divides → may_follow before (token.Mark m) ≡ true → m ≡ mark.Slash → divides ≡ true
-slash_divides None m divides knows may is = let no : false ≡ true = ap (λ k. may_follow None (token.Mark k)) (sym is) ∙ may in cc
-slash_divides (Some kind) m divides knows may is = knows ∙ ap (λ k. may_follow (Some kind) (token.Mark k)) (sym is) ∙ may
+slash_divides : (before : Option TokenKind) (m : Punctuation) (divides : Bool) → Knows before divides → may_follow before (token.Punctuation m) ≡ true → m ≡ punctuation.Slash → divides ≡ true
+slash_divides None m divides knows may is = let no : false ≡ true = ap (λ k. may_follow None (token.Punctuation k)) (sym is) ∙ may in cc
+slash_divides (Some kind) m divides knows may is = knows ∙ ap (λ k. may_follow (Some kind) (token.Punctuation k)) (sym is) ∙ may
 
-double_colon : (m : Mark) (rest : List ℕ) → is_scope (token.Mark m) ≡ true → sign_at (mark_text m ++ rest) ≡ token_of (token.Mark m) (Some (length (mark_text m)))
-double_colon mark.ColonColon rest h = scope_any rest
+double_colon : (m : Punctuation) (rest : List ℕ) → is_scope (token.Punctuation m) ≡ true → sign_at (punctuation_text m ++ rest) ≡ token_of (token.Punctuation m) (Some (length (punctuation_text m)))
+double_colon punctuation.ColonColon rest h = scope_any rest
 double_colon _ rest h = cc
 
 -- what holds before each of them
@@ -52,19 +55,23 @@ by_end P colon (c ∷ more) space feed scope spaced = space more
 by_end P colon (c ∷ more) space feed scope ended = feed more
 by_end P colon (c ∷ more) space feed scope (scoped other) = scope other more
 
-mark_before : (m : Mark) (rest : List ℕ) → IsBefore (token.Mark m) rest → sign_at (mark_text m ++ rest) ≡ token_of (token.Mark m) (Some (length (mark_text m)))
-mark_before m rest (inl scope) = double_colon m rest scope
-mark_before m rest (inr f) = by_end (λ rest. sign_at (mark_text m ++ rest) ≡ token_of (token.Mark m) (Some (length (mark_text m)))) (is_colon (token.Mark m)) rest (mark_space m) (mark_feed m) (λ other more. mark_scope m more other) f
+punctuation_before : (m : Punctuation) (rest : List ℕ) → IsBefore (token.Punctuation m) rest → sign_at (punctuation_text m ++ rest) ≡ token_of (token.Punctuation m) (Some (length (punctuation_text m)))
+punctuation_before m rest (inl scope) = double_colon m rest scope
+punctuation_before m rest (inr f) = by_end (λ rest. sign_at (punctuation_text m ++ rest) ≡ token_of (token.Punctuation m) (Some (length (punctuation_text m)))) (is_colon (token.Punctuation m)) rest (punctuation_space m) (punctuation_feed m) (λ other more. punctuation_scope m more other) f
 
-attribute_before : (a : Attribute) (rest : List ℕ) → IsBefore (token.Attribute a) rest → sign_at (attribute_text a ++ rest) ≡ token_of (token.Attribute a) (Some (length (attribute_text a)))
+attribute_before : (a : AttributeName) (rest : List ℕ) → IsBefore (token.Attribute a) rest → sign_at (attribute_text a ++ rest) ≡ token_of (token.Attribute a) (Some (length (attribute_text a)))
 attribute_before a rest (inl scope) = cc
 attribute_before a rest (inr f) = by_end (λ rest. sign_at (attribute_text a ++ rest) ≡ token_of (token.Attribute a) (Some (length (attribute_text a)))) false rest (attribute_space a) (attribute_feed a) (λ other. attribute_scope a) f
+
+priority_before : (rest : List ℕ) → IsBefore token.Priority rest → sign_at (spelling token.Priority ++ rest) ≡ token_of token.Priority (Some 9)
+priority_before rest (inl scope) = cc
+priority_before rest (inr f) = by_end (λ rest. sign_at (spelling token.Priority ++ rest) ≡ token_of token.Priority (Some 9)) false rest priority_space priority_feed (λ other. priority_scope) f
 
 property_before : (a : Property) (rest : List ℕ) → IsBefore (token.Property a) rest → sign_at (property_text a ++ rest) ≡ token_of (token.Property a) (Some (length (property_text a)))
 property_before a rest (inl scope) = cc
 property_before a rest (inr f) = by_end (λ rest. sign_at (property_text a ++ rest) ≡ token_of (token.Property a) (Some (length (property_text a)))) false rest (property_space a) (property_feed a) (λ other. property_scope a) f
 
-hook_before : (a : Hook) (rest : List ℕ) → IsBefore (token.Hook a) rest → sign_at (hook_text a ++ rest) ≡ token_of (token.Hook a) (Some (length (hook_text a)))
+hook_before : (a : HookName) (rest : List ℕ) → IsBefore (token.Hook a) rest → sign_at (hook_text a ++ rest) ≡ token_of (token.Hook a) (Some (length (hook_text a)))
 hook_before a rest (inl scope) = cc
 hook_before a rest (inr f) = by_end (λ rest. sign_at (hook_text a ++ rest) ≡ token_of (token.Hook a) (Some (length (hook_text a)))) false rest (hook_space a) (hook_feed a) (λ other. hook_scope a) f
 
@@ -90,8 +97,12 @@ fixed_stands : (kind : TokenKind) (divides : Bool) (before : Option TokenKind) (
 fixed_stands (token.Keyword k) divides before rest is knows may ends =
     word_before (keyword_text k) (token.Keyword k) rest divides (keyword_letter k) (all_of_prefix is_word (keyword_text k) (keyword_word k)) refl ends
     ∙ ap (λ kind. token_of kind (Some (length (keyword_text k)))) (keyword_kind k)
-fixed_stands (token.Mark m) divides before rest is knows may ends = mark_sign m divides rest (slash_divides before m divides knows may) ∙ mark_before m rest ends
+fixed_stands (token.Integer i) divides before rest is knows may ends =
+    word_before (integer_text i) (token.Integer i) rest divides (integer_letter i) (all_of_prefix is_word (integer_text i) (integer_word i)) refl ends
+    ∙ ap (λ kind. token_of kind (Some (length (integer_text i)))) (integer_kind i)
+fixed_stands (token.Punctuation m) divides before rest is knows may ends = punctuation_sign m divides rest (slash_divides before m divides knows may) ∙ punctuation_before m rest ends
 fixed_stands (token.Attribute a) divides before rest is knows may ends = attribute_sign a divides rest ∙ attribute_before a rest ends
+fixed_stands token.Priority divides before rest is knows may ends = priority_sign divides rest ∙ priority_before rest ends
 fixed_stands (token.Property a) divides before rest is knows may ends = property_sign a divides rest ∙ property_before a rest ends
 fixed_stands (token.Hook a) divides before rest is knows may ends = hook_sign a divides rest ∙ hook_before a rest ends
 fixed_stands _ divides before rest is knows may ends = cc
@@ -140,7 +151,7 @@ same_scope (name x) sound = sym (name_no_scope (word_kind x) sound.2)
 same_scope _ sound = refl
 
 scope_kind : (before : TokenKind) (kind : TokenKind) (more : List ℕ) → is_scope kind ≡ true → may_follow (Some before) kind ≡ true → Follows (is_colon before) (spelling kind ++ more)
-scope_kind before (token.Mark mark.ColonColon) more is may = scoped (not_true (is_colon before) may)
+scope_kind before (token.Punctuation punctuation.ColonColon) more is may = scoped (not_true (is_colon before) may)
 scope_kind before _ more is may = cc
 
 -- a :: behind a word

@@ -3,7 +3,7 @@ use Rattle.std.proofs.Common.{◌≡◌, List, [], ◌∷◌, ◌++◌, Bool, tr
 use Rattle.std.specs.List.{AllByRecursion}
 use Rattle.sp_lex.specs.declared.kinds.TokenKind.{TokenKind}
 use Rattle.sp_lex.specs.declared.kinds.TokenKind.TheVariants as token
-use Rattle.sp_lex.specs.declared.kinds.Mark.TheVariants as mark
+use Rattle.sp_words.specs.declared.punctuation.Punctuation.TheVariants as punctuation
 use Rattle.sp_ast.specs.Trees.{Tree, Trees, node, absent, row, none, more}
 use Rattle.sp_ast.specs.declared.forms.Form.{Form}
 use Rattle.sp_print.specs.declared.layouts.Frame.{Frame}
@@ -67,8 +67,8 @@ module _ (P : Word → Type 0) (of_fixed : (k : TokenKind) → is_fixed k ≡ tr
 
   enclosed_holds : (x : Writing) → Writes x → Writes (enclosed x)
   enclosed_holds x all =
-      chain_holds (kinds (token.Mark mark.LeftParen ∷ [])) (chain x (kinds (token.Mark mark.RightParen ∷ []))) (kinds_holds (token.Mark mark.LeftParen ∷ []) refl)
-      (chain_holds x (kinds (token.Mark mark.RightParen ∷ [])) all (kinds_holds (token.Mark mark.RightParen ∷ []) refl))
+      chain_holds (kinds (token.Punctuation punctuation.LeftParen ∷ [])) (chain x (kinds (token.Punctuation punctuation.RightParen ∷ []))) (kinds_holds (token.Punctuation punctuation.LeftParen ∷ []) refl)
+      (chain_holds x (kinds (token.Punctuation punctuation.RightParen ∷ [])) all (kinds_holds (token.Punctuation punctuation.RightParen ∷ []) refl))
 
   by_test : (b : Bool) (xs ys : List Word) → AllByRecursion P xs → AllByRecursion P ys → AllByRecursion P (cond b xs ys)
   by_test true xs ys first second = first
@@ -109,7 +109,7 @@ module _ (P : Word → Type 0) (of_fixed : (k : TokenKind) → is_fixed k ≡ tr
   part_holds form (part_is.Optional around) x all = framed_holds around x all
   part_holds form (part_is.Row by) x all = all.1 by
   part_holds form part_is.Arguments x all = writing_by (is_empty_row x.tree) nothing (enclosed (x.in_row separator.Comma)) (λ before. tt) (enclosed_holds (x.in_row separator.Comma) (all.1 separator.Comma))
-  part_holds form part_is.Hooks x all = writing_by (is_empty_row x.tree) (kinds (token.Mark mark.Semicolon ∷ [])) (x.in_row separator.Nothing) (kinds_holds (token.Mark mark.Semicolon ∷ []) refl) (all.1 separator.Nothing)
+  part_holds form part_is.Hooks x all = writing_by (is_empty_row x.tree) (kinds (token.Punctuation punctuation.Semicolon ∷ [])) (x.in_row separator.Nothing) (kinds_holds (token.Punctuation punctuation.Semicolon ∷ []) refl) (all.1 separator.Nothing)
 
   laid_holds : (form : Form) (ps : List Piece) (xs : List Part) → pieces_fixed ps ≡ true → AllByRecursion P (own_words form) → AllByRecursion IsPart xs → Writes (laid form ps xs)
   laid_holds form [] xs is own all = λ before. tt

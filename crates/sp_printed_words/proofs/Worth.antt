@@ -108,8 +108,8 @@ encodes_each [] = refl
 encodes_each (c ∷ cs) = ap (λ l. encode_utf8 c ++ l) (encodes_each cs)
 
 -- what stands between the first byte and the last
-pub between_marks : (a b : ℕ) (x : List ℕ) → between (a ∷ x ++ b ∷ []) ≡ x
-between_marks a b x =
+pub between_delimiters : (a b : ℕ) (x : List ℕ) → between (a ∷ x ++ b ∷ []) ≡ x
+between_delimiters a b x =
     let long : length (a ∷ x ++ b ∷ []) - 2 ≡ length x = simp length-append (omega arith) in
     ap (λ n. take n (x ++ b ∷ [])) long ∙ take-append_seam x (b ∷ [])
 
@@ -117,11 +117,11 @@ decoded_whole : (x v : List ℕ) → StandFor x v → decoded x ≡ v
 decoded_whole x v stands = ap decoded (sym (append-nil x)) ∙ stands [] ∙ append-nil v
 
 bytes_worth : (x : List ℕ) → AllByRecursion (λ c. c < 256) x → bytes_value (written (bytes x)) ≡ x
-bytes_worth x small = ap decoded (between_marks 34 34 (flat_map shown_byte x)) ∙ decoded_whole (flat_map shown_byte x) (flat_map (λ c. c ∷ []) x) (stand_all shown_byte (λ c. c ∷ []) x (all_bytes x small)) ∙ one_each x
+bytes_worth x small = ap decoded (between_delimiters 34 34 (flat_map shown_byte x)) ∙ decoded_whole (flat_map shown_byte x) (flat_map (λ c. c ∷ []) x) (stand_all shown_byte (λ c. c ∷ []) x (all_bytes x small)) ∙ one_each x
 
 text_worth : (x : List ℕ) → IsUtf8 x → string_value (written (text x)) ≡ x
 text_worth x utf8 =
-    ap decoded (between_marks 34 34 (flat_map shown_char (chars x)))
+    ap decoded (between_delimiters 34 34 (flat_map shown_char (chars x)))
     ∙ decoded_whole (flat_map shown_char (chars x)) (flat_map encode_utf8 (chars x)) (stand_all shown_char encode_utf8 (chars x) (all_chars (chars x)))
     ∙ encodes_each (chars x) ∙ encodes-chars x utf8
 
@@ -152,4 +152,4 @@ word_worth (name x) sound = refl
 word_worth (number n) sound = number_worth n sound
 word_worth (text x) sound = text_worth x sound
 word_worth (bytes x) sound = bytes_worth x sound
-word_worth (regex x) sound = between_marks 47 47 x
+word_worth (regex x) sound = between_delimiters 47 47 x

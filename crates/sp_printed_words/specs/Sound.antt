@@ -5,7 +5,7 @@ use Rattle.std.specs.Str.{IsUtf8}
 use Rattle.sp_lex.specs.Bytes.{is_letter, is_word}
 use Rattle.sp_lex.specs.Elements.{ends_operand, token_of, element_at}
 use Rattle.sp_lex.specs.Signs.{word_kind}
-use Rattle.sp_lex.specs.declared.kinds.Mark.TheVariants as mark
+use Rattle.sp_words.specs.declared.punctuation.Punctuation.TheVariants as punctuation
 use Rattle.sp_lex.specs.declared.kinds.TokenKind.{TokenKind}
 use Rattle.sp_lex.specs.declared.kinds.TokenKind.TheVariants as token
 use Rattle.sp_literals.specs.Values.{IsName}
@@ -15,8 +15,10 @@ use Rattle.sp_regex.specs.Syntax.{IsRegexText}
 -- whether all tokens of the kind have one text, and the profile has them
 abbrev pub is_fixed : TokenKind → Bool
 is_fixed (token.Keyword k) = true
-is_fixed (token.Mark m) = true
+is_fixed (token.Integer i) = true
+is_fixed (token.Punctuation m) = true
 is_fixed (token.Attribute a) = true
+is_fixed token.Priority = true
 is_fixed (token.Property p) = true
 is_fixed (token.Hook h) = true
 is_fixed _ = false
@@ -45,17 +47,17 @@ IsSound (bytes x) = AllByRecursion (λ byte. byte < 256) x
 IsSound (regex x) = IsRegexWord x
 
 abbrev pub is_colon : TokenKind → Bool
-is_colon (token.Mark mark.Colon) = true
+is_colon (token.Punctuation punctuation.Colon) = true
 is_colon _ = false
 
 -- Whether a token of the kind may stand behind the one before on its line: a / only where it divides, a regular
 -- expression only where a / wouldn't divide, and neither at the beginning of a line, where the line before decides;
 -- a :: has no space before it, so it can't stand behind a colon.
 abbrev pub may_follow : Option TokenKind → TokenKind → Bool
-may_follow (Some before) (token.Mark mark.Slash) = ends_operand before
+may_follow (Some before) (token.Punctuation punctuation.Slash) = ends_operand before
 may_follow (Some before) token.Regex = not (ends_operand before)
-may_follow (Some before) (token.Mark mark.ColonColon) = not (is_colon before)
-may_follow None (token.Mark mark.Slash) = false
+may_follow (Some before) (token.Punctuation punctuation.ColonColon) = not (is_colon before)
+may_follow None (token.Punctuation punctuation.Slash) = false
 may_follow None token.Regex = false
 may_follow before kind = true
 

@@ -6,7 +6,7 @@ ghost use Rattle.sp_runs.specs.Runs.{IsRefused};
 ghost use Rattle.sp_read_expr.specs.Reading.{IsTreeRead};
 
 use sp_ast::{BoundedTree, Expr, Stmt, TypeTree};
-use sp_build::{build, every_text_is_built};
+use sp_build::{build, every_phrase_is_built};
 use sp_grammar::Start;
 use sp_lex::{ReadFault, Tokens};
 use sp_runs::read_from;
@@ -27,9 +27,9 @@ pub fn read_tree(
     ensures refused { IfErr result (OnDiag (λ span kind. IsRefused start tokens.now.list at
         (length tokens.now.text) span kind)) }
 {
-    every_text_is_built();
+    every_phrase_is_built();
     let parsed = read_from(alloc, tokens, start, at)?;
-    let tree = build(alloc, tokens, at as usize, parsed.events.as_slice())?;
+    let tree = build(alloc, tokens, at as usize, parsed.actions.as_slice())?;
     Ok((tree, parsed.to))
 }
 

@@ -4,17 +4,25 @@
 // text is refused the answer is the refusal's number and its byte.
 #![tactic(auto)]
 
-use sp_ast::{Node, Tree};
+use sp_ast::{Level, Parts, TreeRef};
+use sp_base::Span;
 use sp_lex::{ReadFault, lex};
 use sp_read_expr::{read_expr, read_stmt, read_type};
 use std::alloc::{AllocError, Global};
 use std::io;
 
-/// The slice of the text on which a tree stands.
-fn slice_of<'t>(text: &'t str, tree: &Tree) -> &'t str {
-    let span = tree.span();
+/// A slice of the text.
+fn slice_of<'t>(text: &'t str, span: Span) -> &'t str {
     text.get(span.from as usize..span.to as usize)
         .unwrap_or("?")
+}
+
+/// The slice of the text on which a tree stands, if it has one.
+fn slice<'t>(text: &'t str, tree: &TreeRef<'_>) -> &'t str {
+    match tree.level() {
+        Level::Of(_, span, _) => slice_of(text, span),
+        Level::Absent | Level::Row(_) => "?",
+    }
 }
 
 /// Two words with what stands between them, if there is a first one.
@@ -27,44 +35,44 @@ fn joined(alloc: Global, words: &str, word: &str) -> Result<String, AllocError> 
 }
 
 /// The slices of trees, one behind the other.
-fn slices(alloc: Global, text: &str, trees: &[Tree]) -> Result<String, AllocError> {
+fn slices(alloc: Global, text: &str, trees: Parts<'_>) -> Result<String, AllocError> {
     let mut words = String::new(alloc);
     for tree in trees {
-        words = joined(alloc, words.as_str(), slice_of(text, tree))?;
+        words = joined(alloc, words.as_str(), slice(text, &tree))?;
     }
     Ok(words)
 }
 
 /// A part by its slice, a row by those of its parts.
-fn part(alloc: Global, text: &str, tree: &Tree) -> Result<String, AllocError> {
-    match &tree.node {
-        Node::Absent => format!(in alloc; "-"),
-        Node::Row(row) => {
-            let inside = slices(alloc, text, row.as_slice())?;
+fn part(alloc: Global, text: &str, tree: &TreeRef<'_>) -> Result<String, AllocError> {
+    match tree.level() {
+        Level::Absent => format!(in alloc; "-"),
+        Level::Row(row) => {
+            let inside = slices(alloc, text, row)?;
             format!(in alloc; "[{inside}]")
         }
-        Node::Of { .. } => {
-            let slice = slice_of(text, tree);
+        Level::Of(_, span, _) => {
+            let slice = slice_of(text, span);
             format!(in alloc; "{slice}")
         }
     }
 }
 
 /// The parts, one behind the other.
-fn parts(alloc: Global, text: &str, trees: &[Tree]) -> Result<String, AllocError> {
+fn parts(alloc: Global, text: &str, trees: Parts<'_>) -> Result<String, AllocError> {
     let mut words = String::new(alloc);
     for tree in trees {
-        let word = part(alloc, text, tree)?;
+        let word = part(alloc, text, &tree)?;
         words = joined(alloc, words.as_str(), word.as_str())?;
     }
     Ok(words)
 }
 
 /// The parts of the tree in the form of the lines.
-fn told(alloc: Global, text: &str, tree: &Tree) -> Result<String, ReadFault> {
-    let said = match &tree.node {
-        Node::Of { parts: inside, .. } => parts(alloc, text, inside.as_slice()),
-        Node::Row(_) | Node::Absent => format!(in alloc; "?"),
+fn told(alloc: Global, text: &str, tree: &TreeRef<'_>) -> Result<String, ReadFault> {
+    let said = match tree.level() {
+        Level::Of(_, _, inside) => parts(alloc, text, inside),
+        Level::Row(_) | Level::Absent => format!(in alloc; "?"),
     };
     said.map_err(|_| ReadFault::NoMemory)
 }
@@ -75,15 +83,15 @@ fn read(alloc: Global, what: &str, text: &str) -> Result<String, ReadFault> {
     match what {
         "type" => {
             let (tree, _) = read_type(alloc, &tokens, 0)?;
-            told(alloc, text, tree.tree())
+            told(alloc, text, &tree.lend())
         }
         "stmt" => {
             let (tree, _) = read_stmt(alloc, &tokens, 0)?;
-            told(alloc, text, tree.tree())
+            told(alloc, text, &tree.lend())
         }
         _ => {
             let (tree, _) = read_expr(alloc, &tokens, 0)?;
-            told(alloc, text, tree.tree())
+            told(alloc, text, &tree.lend())
         }
     }
 }

@@ -10,11 +10,11 @@ use Rattle.sp_lex.specs.Readings.{InOrder}
 use Rattle.sp_lex.specs.declared.tokens.ReadFault.{ReadFault}
 use Rattle.sp_lex.specs.declared.tokens.ReadFault.TheVariants as fault
 use Rattle.sp_lex.specs.declared.tokens.Token.{Token}
-use Rattle.sp_parser.specs.declared.symbol.Event.{Event}
+use Rattle.sp_parser.specs.declared.symbol.ActionAt.{ActionAt}
 use Rattle.sp_grammar.specs.declared.language.Start.TheVariants.{Module}
 use Rattle.sp_grammar.specs.Sentences.{IsSentence}
 use Rattle.sp_runs.specs.Kinds.{numbers_of}
-use Rattle.sp_runs.specs.Runs.{IsLongestRun, IsText, IsRead, IsRefused, refused_at, refused_with, unexpected}
+use Rattle.sp_runs.specs.Runs.{IsLongestRun, IsPhrase, IsRead, IsRefused, refused_at, refused_with, unexpected}
 use Rattle.sp_runs.proofs.Longest.{numbers_length, inside_of}
 use Rattle.sp_runs.proofs.Unique.{one_longest, one_derivation}
 use Rattle.sp_ast.specs.Trees.{Tree}
@@ -26,28 +26,28 @@ use Rattle.sp_read_unit.specs.Modules.{IsModule, IsModuleText, IsModuleRefused}
 all_numbers : (tokens : List Token) → take (length tokens) (numbers_of tokens) ≡ numbers_of tokens
 all_numbers tokens = let same : length (numbers_of tokens) ≡ length tokens = numbers_length tokens in take_all (length tokens) (numbers_of tokens) (omega arith)
 
-text_of_module : (tokens : List Token) (marks : List Event) → IsModule tokens marks → IsText Module tokens (length tokens) marks
-text_of_module tokens marks d = subst (λ w. IsSentence Module w marks) (sym (all_numbers tokens)) d
+text_of_module : (tokens : List Token) (actions : List ActionAt) → IsModule tokens actions → IsPhrase Module tokens (length tokens) actions
+text_of_module tokens actions d = subst (λ w. IsSentence Module w actions) (sym (all_numbers tokens)) d
 
-longest_of_module : (tokens : List Token) (marks : List Event) → IsModule tokens marks → IsLongestRun Module tokens (length tokens)
-longest_of_module tokens marks d = record {
+longest_of_module : (tokens : List Token) (actions : List ActionAt) → IsModule tokens actions → IsLongestRun Module tokens (length tokens)
+longest_of_module tokens actions d = record {
   within = let same : length (numbers_of tokens) ≡ length tokens = numbers_length tokens in omega arith;
-  begins = ([], marks, tt, subst (λ w. IsSentence Module w marks) (sym (append-nil (take (length tokens) (numbers_of tokens)) ∙ all_numbers tokens)) d);
+  begins = ([], actions, tt, subst (λ w. IsSentence Module w actions) (sym (append-nil (take (length tokens) (numbers_of tokens)) ∙ all_numbers tokens)) d);
   stops = λ h. absurd (let same : length (numbers_of tokens) ≡ length tokens = numbers_length tokens in omega arith);
 }
 
-pub one_module : (tokens : List Token) (first second : List Event) → IsModule tokens first → IsModule tokens second → first ≡ second
+pub one_module : (tokens : List Token) (first second : List ActionAt) → IsModule tokens first → IsModule tokens second → first ≡ second
 one_module tokens first second p q = one_derivation Module tokens (length tokens) first second (text_of_module tokens first p) (text_of_module tokens second q)
 
 -- a shorter longest run, or one that is no text, belongs to no module
 pub none_with_rest : (tokens : List Token) (m : ℕ) → IsLongestRun Module tokens m → m < length tokens → IsModuleText tokens → ⊥
-none_with_rest tokens m l less (marks, d) =
-    let same : m ≡ length tokens = one_longest Module tokens m (length tokens) l (longest_of_module tokens marks d) in
+none_with_rest tokens m l less (actions, d) =
+    let same : m ≡ length tokens = one_longest Module tokens m (length tokens) l (longest_of_module tokens actions d) in
     omega arith
 
-none_without_text : (tokens : List Token) (m : ℕ) → IsLongestRun Module tokens m → ((marks : List Event) → IsText Module tokens m marks → ⊥) → IsModuleText tokens → ⊥
-none_without_text tokens m l none (marks, d) =
-    none marks (subst (λ n. IsText Module tokens n marks) (sym (one_longest Module tokens m (length tokens) l (longest_of_module tokens marks d))) (text_of_module tokens marks d))
+none_without_text : (tokens : List Token) (m : ℕ) → IsLongestRun Module tokens m → ((actions : List ActionAt) → IsPhrase Module tokens m actions → ⊥) → IsModuleText tokens → ⊥
+none_without_text tokens m l none (actions, d) =
+    none actions (subst (λ n. IsPhrase Module tokens n actions) (sym (one_longest Module tokens m (length tokens) l (longest_of_module tokens actions d))) (text_of_module tokens actions d))
 
 -- what is refused as a run from the front is refused as a module
 pub module_refused : (tokens : List Token) (end : ℕ) (span : Span) (kind : MKind) → IsRefused Module tokens 0 end span kind → IsModuleRefused tokens end span kind
@@ -66,9 +66,9 @@ left_at (t ∷ tokens) zero token less is = ap (λ u. u ∷ tokens) (sym is)
 left_at (t ∷ tokens) (suc to) token less is = left_at tokens to token (omega arith) is
 
 -- a module's text with tokens behind it is refused at the first of them
-pub left_over_refused : (tokens : List Token) (end to : ℕ) (token : Token) (marks : List Event) (f : ReadFault) → to < length tokens → token ≡ get_or tokens to token → IsRead Module tokens 0 marks to
+pub left_over_refused : (tokens : List Token) (end to : ℕ) (token : Token) (actions : List ActionAt) (f : ReadFault) → to < length tokens → token ≡ get_or tokens to token → IsRead Module tokens 0 actions to
     → f ≡ fault.Diag token.span (unexpected token.kind) → OnDiag (λ span kind. IsModuleRefused tokens end span kind) f
-left_over_refused tokens end to token marks f less at (m, is, l, text) e =
+left_over_refused tokens end to token actions f less at (m, is, l, text) e =
     let front : to ≡ m = omega arith in
     let next : drop m tokens ≡ token ∷ drop (suc to) tokens = ap (λ j. drop j tokens) (sym front) ∙ left_at tokens to token less at in
     subst (λ f. OnDiag (λ span kind. IsModuleRefused tokens end span kind) f) (sym e)
@@ -86,7 +86,7 @@ passed_on (Ok v) fault P is by = tt
 passed_on (Err e) fault P is by = subst (λ f. P f) (sym is) by
 
 -- what is read from the front
-pub run_of_tree : (lexed : Lexed) (t : Tree) (to : ℕ) (r : IsTreeRead Module lexed 0 t to) → IsRead Module lexed.list 0 r.marks to
+pub run_of_tree : (lexed : Lexed) (t : Tree) (to : ℕ) (r : IsTreeRead Module lexed 0 t to) → IsRead Module lexed.list 0 r.actions to
 run_of_tree lexed t to r = (r.count, r.behind, r.longest, r.text)
 
 get_any : (tokens : List Token) (i : ℕ) (d e : Token) → i < length tokens → get_or tokens i d ≡ get_or tokens i e
@@ -102,4 +102,4 @@ left_inside tokens list end to d f same less order e =
 pub left_refused : (lexed : Lexed) (list : List Token) (end to : ℕ) (d : Token) (t : Tree) (f : ReadFault) → list ≡ lexed.list → to < length lexed.list → IsTreeRead Module lexed 0 t to
     → f ≡ fault.Diag (get_or list to d).span (unexpected (get_or list to d).kind) → OnDiag (λ span kind. IsModuleRefused lexed.list end span kind) f
 left_refused lexed list end to d t f same less r e =
-    left_over_refused lexed.list end to (get_or lexed.list to d) r.marks f less (get_any lexed.list to d (get_or lexed.list to d) less) (run_of_tree lexed t to r) (e ∙ ap (λ ts. fault.Diag (get_or ts to d).span (unexpected (get_or ts to d).kind)) same)
+    left_over_refused lexed.list end to (get_or lexed.list to d) r.actions f less (get_any lexed.list to d (get_or lexed.list to d) less) (run_of_tree lexed t to r) (e ∙ ap (λ ts. fault.Diag (get_or ts to d).span (unexpected (get_or ts to d).kind)) same)

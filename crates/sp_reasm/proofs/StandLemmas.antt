@@ -8,7 +8,7 @@ use Rattle.sp_reasm.specs.Owners.{Owner, Data, Lost, Op, Write, Gap, Skip, byte_
 use Rattle.sp_reasm.specs.Notes.{before_notes, told, before_runs, runs, owners_from}
 use Rattle.sp_reasm.specs.Laws.{OwnersStay, HeadStays, BelowStays, HeadIsFree, NoHole, numbered, losses, all_covered, DeliveredOnce, AreApart, items_of, found, RunsApart, RunsFind}
 
-all-append : (stand : Stand) (ops more : List Op) → after_all stand (ops ++ more) ≡ after_all (after_all stand ops) more
+pub all-append : (stand : Stand) (ops more : List Op) → after_all stand (ops ++ more) ≡ after_all (after_all stand ops) more
 all-append stand [] more = refl
 all-append stand (op ∷ ops) more = all-append (after stand op) ops more
 
@@ -20,7 +20,7 @@ owner_stays stand (op ∷ ops) q o h =
 pub owners_stay : OwnersStay
 owners_stay ops more q o h = ap (λ stand. stand.owner q) (all-append nothing ops more) ∙ owner_stays (stand_of ops) more q o h
 
-first_is_past : (f : ℕ → Option Owner) (q n : ℕ) → q ≤ first_without f q n
+pub first_is_past : (f : ℕ → Option Owner) (q n : ℕ) → q ≤ first_without f q n
 first_is_past f q zero = omega arith
 first_is_past f q (suc n) = by_owner (f q) (first_is_past f (suc q) n)
   where
@@ -28,7 +28,7 @@ first_is_past f q (suc n) = by_owner (f q) (first_is_past f (suc q) n)
     by_owner None rest = omega arith
     by_owner (Some o) rest = omega (arith, rest)
 
-start_is_past : (stand : Stand) (op : Op) → stand.head ≤ start_of stand op
+pub start_is_past : (stand : Stand) (op : Op) → stand.head ≤ start_of stand op
 start_is_past stand (Write at bytes) = omega arith
 start_is_past stand (Gap at len) = omega arith
 start_is_past stand (Skip to) = omega arith
@@ -69,12 +69,12 @@ none = None
 abbrev pub IsBounded : Stand → Type 0
 IsBounded stand = (q : ℕ) → stand.end ≤ q → stand.owner q ≡ None
 
-byte_past : (bytes : List ℕ) (n : ℕ) → length bytes ≤ n → byte_at bytes n ≡ None
+pub byte_past : (bytes : List ℕ) (n : ℕ) → length bytes ≤ n → byte_at bytes n ≡ None
 byte_past [] n h = refl
 byte_past (b ∷ bytes) zero h = absurd (omega (arith, h))
 byte_past (b ∷ bytes) (suc n) h = byte_past bytes n (omega (arith, h))
 
-covering_past : (op : Op) (q : ℕ) → end_of op ≤ q → covering op q ≡ None
+pub covering_past : (op : Op) (q : ℕ) → end_of op ≤ q → covering op q ≡ None
 covering_past (Write at []) q h = same (nat_le at q)
   where
     same : (b : Bool) → cond b none none ≡ none
@@ -101,7 +101,7 @@ covering_past (Gap at (suc len)) q h = by_test (nat_le at q)
         ap (λ b. cond b (Some Lost) None) (lt-leb (suc q) (at + suc len) (omega (arith, h, is)))
 covering_past (Skip to) q h = refl
 
-bounded_after : (stand : Stand) (op : Op) → IsBounded stand → IsBounded (after stand op)
+pub bounded_after : (stand : Stand) (op : Op) → IsBounded stand → IsBounded (after stand op)
 bounded_after stand op bounded q h =
     let old : stand.owner q ≡ None = bounded q (omega (arith, h)) in
     let own : covering op q ≡ None = covering_past op q (omega (arith, h)) in
@@ -205,7 +205,7 @@ module _ {X : Type 0} where
           let gap : run.0 + length run.1 < next.0 = apart.0 in
           (omega arith, (omega (arith, same, more, gap), apart.1))
 
-  runs_apart : (at : ℕ) (xs : List (Option X)) → BeginsFrom at (runs at xs) × AreApart (runs at xs)
+  pub runs_apart : (at : ℕ) (xs : List (Option X)) → BeginsFrom at (runs at xs) × AreApart (runs at xs)
   runs_apart at [] = (tt, tt)
   runs_apart at (None ∷ xs) = let rest = runs_apart (suc at) xs in (later at (runs (suc at) xs) rest.0, rest.1)
   runs_apart at (Some x ∷ xs) = let rest = runs_apart (suc at) xs in joined_apart at x (runs (suc at) xs) rest.0 rest.1

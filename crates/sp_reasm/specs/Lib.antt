@@ -3,3 +3,9 @@ pub mod Notes
 pub mod Sink
 pub mod Rows
 pub mod Laws
+pub mod Pieces
+pub mod Listed
+pub mod Overlays
+pub mod Filling
+pub mod State
+pub mod Settling

@@ -1,5 +1,5 @@
 // What reassembly tells.
-use sp_base::{ByteList, PKind};
+use sp_base::{ByteList, NoMemory, PKind};
 
 /// A call of a sink's hook, or data for its connected units. Each `seq` is a sequence number.
 #[derive(Drop)]
@@ -39,4 +39,15 @@ pub enum ReasmFault {
     /// A run error. The call changes nothing.
     Run(PKind),
     NoMemory,
+}
+
+impl From<NoMemory> for ReasmFault {
+    ghost use Rattle.std.specs.Prelude.{◌≡◌};
+    ghost use Rattle.sp_reasm.specs.declared.notes.ReasmFault.TheVariants as fault_is;
+
+    ghost from_gives = { λ _ fault. fault ≡ fault_is.NoMemory };
+
+    fn from(_: NoMemory) -> Self {
+        ReasmFault::NoMemory
+    }
 }

@@ -1,8 +1,8 @@
 -- A text byte by byte: what is left behind a byte makes what was left before it.
 use Rattle.std.proofs.Common.{◌≡◌, ℕ, zero, suc, ◌+◌, ◌≤◌, ◌==◌, Bool, true, false, List, [], ◌∷◌, length, Option, Some, None, refl, sym, ap, ◌∙◌, inl, inr, subst, arith, nat_lt, if◌then◌else◌}
 use Rattle.std.proofs.lemmas.Bool.{eqb-true, ltb-true}
-use Rattle.sp_regex.specs.declared.bytes.Mark.{Mark}
-use Rattle.sp_regex.specs.declared.bytes.Mark.TheVariants as mark
+use Rattle.sp_regex.specs.declared.bytes.ByteRole.{ByteRole}
+use Rattle.sp_regex.specs.declared.bytes.ByteRole.TheVariants as role
 use Rattle.sp_regex.specs.declared.escape.EscapePlace.{EscapePlace}
 use Rattle.sp_regex.specs.declared.escape.EscapePlace.TheVariants as escape_at
 use Rattle.sp_regex.specs.declared.escape.EscapeStep.{EscapeStep}
@@ -16,7 +16,7 @@ use Rattle.sp_regex.specs.declared.class.ClassReader.{ClassReader}
 use Rattle.sp_regex.specs.declared.reader.Mode.{Mode}
 use Rattle.sp_regex.specs.declared.reader.Mode.TheVariants.{Start, Atom, Piece, Escape, Class, Bounds}
 use Rattle.sp_regex.specs.Trees.{Syntax, byte, any, class, empty, followed, never, either, repeat}
-use Rattle.sp_regex.specs.Bytes.{mark_of}
+use Rattle.sp_regex.specs.Bytes.{role_of}
 use Rattle.sp_regex.specs.Escapes.{escape_step}
 use Rattle.sp_regex.specs.Bounds.{bounds_step}
 use Rattle.sp_regex.specs.Class.{Outcome, goes, ends, refused, class_step, reader}
@@ -28,35 +28,35 @@ use Rattle.sp_regex.proofs.BoundsLaws.{BoundsFit, start_count, bounds_back, boun
 use Rattle.sp_regex.proofs.ClassLaws.{open_class, ClassFit, class_back, class_ends}
 use Rattle.sp_regex.proofs.StepLaws.{Pieces, AfterAtom, AtomThen, Closes, ModeRest, Left, atom_piece, regex_close}
 
--- the byte of a mark
-abbrev code : Mark → ℕ → ℕ
-code mark.Dot b = 46
-code mark.ClassOpen b = 91
-code mark.GroupOpen b = 40
-code mark.GroupClose b = 41
-code mark.Bar b = 124
-code mark.Star b = 42
-code mark.Plus b = 43
-code mark.Question b = 63
-code mark.BoundsOpen b = 123
-code mark.Backslash b = 92
-code mark.Misplaced b = b
-code mark.Plain b = b
+-- the byte of a metacharacter
+abbrev code : ByteRole → ℕ → ℕ
+code role.Dot b = 46
+code role.ClassOpen b = 91
+code role.GroupOpen b = 40
+code role.GroupClose b = 41
+code role.Bar b = 124
+code role.Star b = 42
+code role.Plus b = 43
+code role.Question b = 63
+code role.BoundsOpen b = 123
+code role.Backslash b = 92
+code role.Misplaced b = b
+code role.Plain b = b
 
-code_if : (b c : ℕ) (m n : Mark) → (b ≡ c → code m b ≡ b) → code n b ≡ b → code (if b == c then m else n) b ≡ b
+code_if : (b c : ℕ) (m n : ByteRole) → (b ≡ c → code m b ≡ b) → code n b ≡ b → code (if b == c then m else n) b ≡ b
 code_if b c m n f g = chosen (b == c) m n (λ e. f (eqb-true b c e)) g
   where
-    chosen : (t : Bool) (m n : Mark) → (t ≡ true → code m b ≡ b) → code n b ≡ b → code (if t then m else n) b ≡ b
+    chosen : (t : Bool) (m n : ByteRole) → (t ≡ true → code m b ≡ b) → code n b ≡ b → code (if t then m else n) b ≡ b
     chosen true m n f g = f refl
     chosen false m n f g = g
 
-code_of : (b : ℕ) → code (mark_of b) b ≡ b
+code_of : (b : ℕ) → code (role_of b) b ≡ b
 code_of b =
     code_if b 46 _ _ sym (code_if b 91 _ _ sym (code_if b 40 _ _ sym (code_if b 41 _ _ sym (code_if b 124 _ _ sym
     (code_if b 42 _ _ sym (code_if b 43 _ _ sym (code_if b 63 _ _ sym (code_if b 123 _ _ sym (code_if b 92 _ _ sym
     (code_if b 93 _ _ (λ e. refl) (code_if b 125 _ _ (λ e. refl) (code_if b 47 _ _ (λ e. refl) (code_if b 94 _ _ (λ e. refl) (code_if b 36 _ _ (λ e. refl) refl))))))))))))))
 
-is_code : (m : Mark) (b : ℕ) → mark_of b ≡ m → code m b ≡ b
+is_code : (m : ByteRole) (b : ℕ) → role_of b ≡ m → code m b ≡ b
 is_code m b e = ap (λ m. code m b) (sym e) ∙ code_of b
 
 -- the open groups are at most 64, and the numbers of an escape, a class or bounds are such that one goes on from there
@@ -92,31 +92,31 @@ group_back os e p c t w (k, h, r) = closed k os e p c t w (omega arith) (regex_c
     closed : (k : ℕ) (os : List Opened) (e p : Syntax) (c : ClassReader) (t : Syntax) (w : List ℕ) → suc k + length os ≡ 64 → (r : Syntax) × (v : List ℕ) × IsRegex k r w v × Closes k (opened e p ∷ os) t r v → LeftAs os (AtAtom e p) t (40 ∷ w)
     closed k os e p c t w h (r, v, x, (u, g, y)) = (suc k, h, (r, u, group (subst (λ l. IsRegex k r w l) g x), y))
 
-start_back : (os : List Opened) (e p : Syntax) (m : Mode) (c : ClassReader) (i : Mark) (b : ℕ) (d : State) → length os ≤ 64 → mark_of b ≡ i → start_step (state os (opened e p) m c) i b ≡ Some d → Makes d os (AtAtom e p) b
-start_back os e p m c mark.Plain b d fit g s =
+start_back : (os : List Opened) (e p : Syntax) (m : Mode) (c : ClassReader) (i : ByteRole) (b : ℕ) (d : State) → length os ≤ 64 → role_of b ≡ i → start_step (state os (opened e p) m c) i b ≡ Some d → Makes d os (AtAtom e p) b
+start_back os e p m c role.Plain b d fit g s =
     let f : state os (opened e p) (Atom (byte b)) c ≡ d = cc in
     subst (λ d. Makes d os (AtAtom e p) b) f ((fit, tt), λ t w l. (l.0, l.1, (byte b, w, plain_byte g, l.2)))
-start_back os e p m c mark.Dot b d fit g s =
+start_back os e p m c role.Dot b d fit g s =
     let f : state os (opened e p) (Atom any) c ≡ d = cc in
-    subst (λ b. Makes d os (AtAtom e p) b) (is_code mark.Dot b g) (subst (λ d. Makes d os (AtAtom e p) 46) f ((fit, tt), λ t w l. (l.0, l.1, (any, w, any_byte, l.2))))
-start_back os e p m c mark.ClassOpen b d fit g s =
+    subst (λ b. Makes d os (AtAtom e p) b) (is_code role.Dot b g) (subst (λ d. Makes d os (AtAtom e p) 46) f ((fit, tt), λ t w l. (l.0, l.1, (any, w, any_byte, l.2))))
+start_back os e p m c role.ClassOpen b d fit g s =
     let f : state os (opened e p) Class (reader false [] class_at.Open) ≡ d = cc in
-    subst (λ b. Makes d os (AtAtom e p) b) (is_code mark.ClassOpen b g) (subst (λ d. Makes d os (AtAtom e p) 91) f ((fit, (refl, refl)), λ t w l. (l.0, l.1, (class l.2.0 l.2.1, l.2.2, byte_class (open_class l.2.3), l.2.4))))
-start_back os e p m c mark.GroupOpen b d fit g s = elim (picks (nat_lt (length os) 64) _ _ _ s) [
+    subst (λ b. Makes d os (AtAtom e p) b) (is_code role.ClassOpen b g) (subst (λ d. Makes d os (AtAtom e p) 91) f ((fit, (refl, refl)), λ t w l. (l.0, l.1, (class l.2.0 l.2.1, l.2.2, byte_class (open_class l.2.3), l.2.4))))
+start_back os e p m c role.GroupOpen b d fit g s = elim (picks (nat_lt (length os) 64) _ _ _ s) [
   | inl h ↦ (let f : state (opened e p ∷ os) (opened never empty) Start c ≡ d = cc in let less = ltb-true (length os) 64 h.0 in
-      subst (λ b. Makes d os (AtAtom e p) b) (is_code mark.GroupOpen b g) (subst (λ d. Makes d os (AtAtom e p) 40) f ((omega arith, tt), λ t w l. group_back os e p c t w l)))
+      subst (λ b. Makes d os (AtAtom e p) b) (is_code role.GroupOpen b g) (subst (λ d. Makes d os (AtAtom e p) 40) f ((omega arith, tt), λ t w l. group_back os e p c t w l)))
   | inr h ↦ cc
 ]
-start_back os e p m c mark.Backslash b d fit g s =
+start_back os e p m c role.Backslash b d fit g s =
     let f : state os (opened e p) (Escape escape_at.Start) c ≡ d = cc in
-    subst (λ b. Makes d os (AtAtom e p) b) (is_code mark.Backslash b g) (subst (λ d. Makes d os (AtAtom e p) 92) f ((fit, tt), λ t w l. (l.0, l.1, (byte l.2.0, l.2.1, escaped_byte l.2.2, l.2.3))))
-start_back os e p m c mark.Bar b d fit g s = cc
-start_back os e p m c mark.GroupClose b d fit g s = cc
-start_back os e p m c mark.Star b d fit g s = cc
-start_back os e p m c mark.Plus b d fit g s = cc
-start_back os e p m c mark.Question b d fit g s = cc
-start_back os e p m c mark.BoundsOpen b d fit g s = cc
-start_back os e p m c mark.Misplaced b d fit g s = cc
+    subst (λ b. Makes d os (AtAtom e p) b) (is_code role.Backslash b g) (subst (λ d. Makes d os (AtAtom e p) 92) f ((fit, tt), λ t w l. (l.0, l.1, (byte l.2.0, l.2.1, escaped_byte l.2.2, l.2.3))))
+start_back os e p m c role.Bar b d fit g s = cc
+start_back os e p m c role.GroupClose b d fit g s = cc
+start_back os e p m c role.Star b d fit g s = cc
+start_back os e p m c role.Plus b d fit g s = cc
+start_back os e p m c role.Question b d fit g s = cc
+start_back os e p m c role.BoundsOpen b d fit g s = cc
+start_back os e p m c role.Misplaced b d fit g s = cc
 
 -- an atom is a further piece, or the first of a further alternative
 further_piece : (k : ℕ) (Q : Syntax → List ℕ → Type 0) (e p : Syntax) (w : List ℕ) → AtomThen k Q e p w → Pieces k Q e p w
@@ -141,54 +141,54 @@ end_back (o ∷ os) e p m c d fit s =
     let f : state os o (Atom (either e p)) c ≡ d = cc in
     subst (λ d. Makes d (o ∷ os) (AtPieces e p) 41) f ((omega arith, tt), λ t w l. close_back l.0 o os e p c t w (omega arith) l.1 l.2)
 
-piece_start : (os : List Opened) (e p : Syntax) (m : Mode) (c : ClassReader) (i : Mark) (b : ℕ) (d : State) → length os ≤ 64 → mark_of b ≡ i → start_step (state os (opened e p) m c) i b ≡ Some d → Makes d os (AtPieces e p) b
+piece_start : (os : List Opened) (e p : Syntax) (m : Mode) (c : ClassReader) (i : ByteRole) (b : ℕ) (d : State) → length os ≤ 64 → role_of b ≡ i → start_step (state os (opened e p) m c) i b ≡ Some d → Makes d os (AtPieces e p) b
 piece_start os e p m c i b d fit g s =
     let k = start_back os e p m c i b d fit g s in
     (k.0, λ t w l. let h = k.1 t w l in (h.0, h.1, further_piece h.0 (Closes h.0 os t) e p (b ∷ w) h.2))
 
-piece_back : (os : List Opened) (e p : Syntax) (m : Mode) (c : ClassReader) (i : Mark) (b : ℕ) (d : State) → length os ≤ 64 → mark_of b ≡ i → piece_step (state os (opened e p) m c) i b ≡ Some d → Makes d os (AtPieces e p) b
-piece_back os e p m c mark.Bar b d fit g s =
+piece_back : (os : List Opened) (e p : Syntax) (m : Mode) (c : ClassReader) (i : ByteRole) (b : ℕ) (d : State) → length os ≤ 64 → role_of b ≡ i → piece_step (state os (opened e p) m c) i b ≡ Some d → Makes d os (AtPieces e p) b
+piece_back os e p m c role.Bar b d fit g s =
     let f : state os (opened (either e p) empty) Start c ≡ d = cc in
-    subst (λ b. Makes d os (AtPieces e p) b) (is_code mark.Bar b g) (subst (λ d. Makes d os (AtPieces e p) 124) f ((fit, tt), λ t w l. (l.0, l.1, further_alternative l.0 (Closes l.0 os t) e p w l.2)))
-piece_back os e p m c mark.GroupClose b d fit g s = subst (λ b. Makes d os (AtPieces e p) b) (is_code mark.GroupClose b g) (end_back os e p m c d fit s)
-piece_back os e p m c mark.Plain b d fit g s = piece_start os e p m c mark.Plain b d fit g s
-piece_back os e p m c mark.Dot b d fit g s = piece_start os e p m c mark.Dot b d fit g s
-piece_back os e p m c mark.ClassOpen b d fit g s = piece_start os e p m c mark.ClassOpen b d fit g s
-piece_back os e p m c mark.GroupOpen b d fit g s = piece_start os e p m c mark.GroupOpen b d fit g s
-piece_back os e p m c mark.Backslash b d fit g s = piece_start os e p m c mark.Backslash b d fit g s
-piece_back os e p m c mark.Star b d fit g s = cc
-piece_back os e p m c mark.Plus b d fit g s = cc
-piece_back os e p m c mark.Question b d fit g s = cc
-piece_back os e p m c mark.BoundsOpen b d fit g s = cc
-piece_back os e p m c mark.Misplaced b d fit g s = cc
+    subst (λ b. Makes d os (AtPieces e p) b) (is_code role.Bar b g) (subst (λ d. Makes d os (AtPieces e p) 124) f ((fit, tt), λ t w l. (l.0, l.1, further_alternative l.0 (Closes l.0 os t) e p w l.2)))
+piece_back os e p m c role.GroupClose b d fit g s = subst (λ b. Makes d os (AtPieces e p) b) (is_code role.GroupClose b g) (end_back os e p m c d fit s)
+piece_back os e p m c role.Plain b d fit g s = piece_start os e p m c role.Plain b d fit g s
+piece_back os e p m c role.Dot b d fit g s = piece_start os e p m c role.Dot b d fit g s
+piece_back os e p m c role.ClassOpen b d fit g s = piece_start os e p m c role.ClassOpen b d fit g s
+piece_back os e p m c role.GroupOpen b d fit g s = piece_start os e p m c role.GroupOpen b d fit g s
+piece_back os e p m c role.Backslash b d fit g s = piece_start os e p m c role.Backslash b d fit g s
+piece_back os e p m c role.Star b d fit g s = cc
+piece_back os e p m c role.Plus b d fit g s = cc
+piece_back os e p m c role.Question b d fit g s = cc
+piece_back os e p m c role.BoundsOpen b d fit g s = cc
+piece_back os e p m c role.Misplaced b d fit g s = cc
 
-after_piece : (os : List Opened) (e p a : Syntax) (m : Mode) (c : ClassReader) (i : Mark) (b : ℕ) (d : State) → length os ≤ 64 → mark_of b ≡ i → piece_step (state os (opened e (followed p a)) m c) i b ≡ Some d → Makes d os (AfterOne e p a) b
+after_piece : (os : List Opened) (e p a : Syntax) (m : Mode) (c : ClassReader) (i : ByteRole) (b : ℕ) (d : State) → length os ≤ 64 → role_of b ≡ i → piece_step (state os (opened e (followed p a)) m c) i b ≡ Some d → Makes d os (AfterOne e p a) b
 after_piece os e p a m c i b d fit g s = let k = piece_back os e (followed p a) m c i b d fit g s in (k.0, λ t w l. let h = k.1 t w l in (h.0, h.1, inl h.2))
 
 counted_back : (os : List Opened) (e p a : Syntax) (c : ClassReader) (n : ℕ) (i : Option ℕ) (b : ℕ) → length os ≤ 64 → ((w : List ℕ) → IsCount n i (b ∷ w) w) → Makes (state os (opened e (followed p (repeat n i a))) Piece c) os (AfterOne e p a) b
 counted_back os e p a c n i b fit x = ((fit, tt), λ t w l. (l.0, l.1, inr (n, i, w, x w, l.2)))
 
-after_back : (os : List Opened) (e p a : Syntax) (m : Mode) (c : ClassReader) (i : Mark) (b : ℕ) (d : State) → length os ≤ 64 → mark_of b ≡ i → atom_step (state os (opened e p) m c) a i b ≡ Some d → Makes d os (AfterOne e p a) b
-after_back os e p a m c mark.Star b d fit g s =
+after_back : (os : List Opened) (e p a : Syntax) (m : Mode) (c : ClassReader) (i : ByteRole) (b : ℕ) (d : State) → length os ≤ 64 → role_of b ≡ i → atom_step (state os (opened e p) m c) a i b ≡ Some d → Makes d os (AfterOne e p a) b
+after_back os e p a m c role.Star b d fit g s =
     let f : state os (opened e (followed p (repeat 0 None a))) Piece c ≡ d = cc in
-    subst (λ b. Makes d os (AfterOne e p a) b) (is_code mark.Star b g) (subst (λ d. Makes d os (AfterOne e p a) 42) f (counted_back os e p a c 0 None 42 fit (λ w. star)))
-after_back os e p a m c mark.Plus b d fit g s =
+    subst (λ b. Makes d os (AfterOne e p a) b) (is_code role.Star b g) (subst (λ d. Makes d os (AfterOne e p a) 42) f (counted_back os e p a c 0 None 42 fit (λ w. star)))
+after_back os e p a m c role.Plus b d fit g s =
     let f : state os (opened e (followed p (repeat 1 None a))) Piece c ≡ d = cc in
-    subst (λ b. Makes d os (AfterOne e p a) b) (is_code mark.Plus b g) (subst (λ d. Makes d os (AfterOne e p a) 43) f (counted_back os e p a c 1 None 43 fit (λ w. plus)))
-after_back os e p a m c mark.Question b d fit g s =
+    subst (λ b. Makes d os (AfterOne e p a) b) (is_code role.Plus b g) (subst (λ d. Makes d os (AfterOne e p a) 43) f (counted_back os e p a c 1 None 43 fit (λ w. plus)))
+after_back os e p a m c role.Question b d fit g s =
     let f : state os (opened e (followed p (repeat 0 (Some 1) a))) Piece c ≡ d = cc in
-    subst (λ b. Makes d os (AfterOne e p a) b) (is_code mark.Question b g) (subst (λ d. Makes d os (AfterOne e p a) 63) f (counted_back os e p a c 0 (Some 1) 63 fit (λ w. question)))
-after_back os e p a m c mark.BoundsOpen b d fit g s =
+    subst (λ b. Makes d os (AfterOne e p a) b) (is_code role.Question b g) (subst (λ d. Makes d os (AfterOne e p a) 63) f (counted_back os e p a c 0 (Some 1) 63 fit (λ w. question)))
+after_back os e p a m c role.BoundsOpen b d fit g s =
     let f : state os (opened e p) (Bounds a bounds_at.Start) c ≡ d = cc in
-    subst (λ b. Makes d os (AfterOne e p a) b) (is_code mark.BoundsOpen b g) (subst (λ d. Makes d os (AfterOne e p a) 123) f ((fit, tt), λ t w l. (l.0, l.1, inr (l.2.0, l.2.1, l.2.2, start_count l.2.3, l.2.4))))
-after_back os e p a m c mark.Bar b d fit g s = after_piece os e p a m c mark.Bar b d fit g s
-after_back os e p a m c mark.GroupClose b d fit g s = after_piece os e p a m c mark.GroupClose b d fit g s
-after_back os e p a m c mark.Plain b d fit g s = after_piece os e p a m c mark.Plain b d fit g s
-after_back os e p a m c mark.Dot b d fit g s = after_piece os e p a m c mark.Dot b d fit g s
-after_back os e p a m c mark.ClassOpen b d fit g s = after_piece os e p a m c mark.ClassOpen b d fit g s
-after_back os e p a m c mark.GroupOpen b d fit g s = after_piece os e p a m c mark.GroupOpen b d fit g s
-after_back os e p a m c mark.Backslash b d fit g s = after_piece os e p a m c mark.Backslash b d fit g s
-after_back os e p a m c mark.Misplaced b d fit g s = cc
+    subst (λ b. Makes d os (AfterOne e p a) b) (is_code role.BoundsOpen b g) (subst (λ d. Makes d os (AfterOne e p a) 123) f ((fit, tt), λ t w l. (l.0, l.1, inr (l.2.0, l.2.1, l.2.2, start_count l.2.3, l.2.4))))
+after_back os e p a m c role.Bar b d fit g s = after_piece os e p a m c role.Bar b d fit g s
+after_back os e p a m c role.GroupClose b d fit g s = after_piece os e p a m c role.GroupClose b d fit g s
+after_back os e p a m c role.Plain b d fit g s = after_piece os e p a m c role.Plain b d fit g s
+after_back os e p a m c role.Dot b d fit g s = after_piece os e p a m c role.Dot b d fit g s
+after_back os e p a m c role.ClassOpen b d fit g s = after_piece os e p a m c role.ClassOpen b d fit g s
+after_back os e p a m c role.GroupOpen b d fit g s = after_piece os e p a m c role.GroupOpen b d fit g s
+after_back os e p a m c role.Backslash b d fit g s = after_piece os e p a m c role.Backslash b d fit g s
+after_back os e p a m c role.Misplaced b d fit g s = cc
 
 -- a step to a state, and what is left there, make what was left before in this mode
 abbrev Back : State → List Opened → Opened → ClassReader → Mode → ℕ → Type 0
@@ -222,9 +222,9 @@ bounded_back os e p a c x (bounds_to.Ends n) b d fit has g s =
 bounded_back os e p a c x bounds_to.Refused b d fit has g s = cc
 
 mode_back : (os : List Opened) (e p : Syntax) (m : Mode) (c : ClassReader) (b : ℕ) (d : State) → length os ≤ 64 → ModeFit m c → b ≤ 255 → mode_step (state os (opened e p) m c) m b ≡ Some d → Back d os (opened e p) c m b
-mode_back os e p Start c b d fit has le s = start_back os e p Start c (mark_of b) b d fit refl s
-mode_back os e p (Atom a) c b d fit has le s = after_back os e p a (Atom a) c (mark_of b) b d fit refl s
-mode_back os e p Piece c b d fit has le s = piece_back os e p Piece c (mark_of b) b d fit refl s
+mode_back os e p Start c b d fit has le s = start_back os e p Start c (role_of b) b d fit refl s
+mode_back os e p (Atom a) c b d fit has le s = after_back os e p a (Atom a) c (role_of b) b d fit refl s
+mode_back os e p Piece c b d fit has le s = piece_back os e p Piece c (role_of b) b d fit refl s
 mode_back os e p (Escape x) c b d fit has le s = escaped_back os e p c x (escape_step x b) b d fit refl s
 mode_back os e p Class c b d fit has le s = classed_back os e p c (class_step c b) b d fit has le refl s
 mode_back os e p (Bounds a x) c b d fit has le s = bounded_back os e p a c x (bounds_step x b) b d fit has refl s

@@ -3,8 +3,8 @@ use Rattle.std.proofs.Common.{◌≡◌, ℕ, ◌+◌, ◌-◌, ◌*◌, ◌<◌
 use Rattle.std.proofs.lemmas.Bool.{eqb-true, leb-true, le-leb, cond-true, cond_both, and_parts, and_from, or_parts, or_from, or_right, or_left, not-true, not_from_false, ltb-true, ltb-false, false_from_ne_true, both_ways}
 use Rattle.std.proofs.lemmas.Bool.Decides.{nat_tests}
 use Rattle.sp_regex.specs.declared.bytes.ByteRange.{ByteRange}
-use Rattle.sp_regex.specs.declared.bytes.ClassMark.{ClassMark}
-use Rattle.sp_regex.specs.declared.bytes.ClassMark.TheVariants as mark
+use Rattle.sp_regex.specs.declared.bytes.ClassByteRole.{ClassByteRole}
+use Rattle.sp_regex.specs.declared.bytes.ClassByteRole.TheVariants as role
 use Rattle.sp_regex.specs.declared.escape.EscapePlace.{EscapePlace}
 use Rattle.sp_regex.specs.declared.escape.EscapePlace.TheVariants as at
 use Rattle.sp_regex.specs.declared.escape.EscapeStep.{EscapeStep}
@@ -12,7 +12,7 @@ use Rattle.sp_regex.specs.declared.escape.EscapeStep.TheVariants as step
 use Rattle.sp_regex.specs.declared.class.ClassPlace.{ClassPlace}
 use Rattle.sp_regex.specs.declared.class.ClassPlace.TheVariants.{Open, Empty, Items, After, From, Escape, EscapeTo}
 use Rattle.sp_regex.specs.declared.class.ClassReader.{ClassReader}
-use Rattle.sp_regex.specs.Bytes.{class_mark_of, is_within, is_covered, hex_value}
+use Rattle.sp_regex.specs.Bytes.{class_role_of, is_within, is_covered, hex_value}
 use Rattle.sp_regex.specs.Room.{is_left}
 use Rattle.sp_regex.specs.Trees.{range_of}
 use Rattle.sp_regex.specs.Escapes.{escape_step}
@@ -110,33 +110,33 @@ abbrev pub Taken : ClassReader → ℕ → Bool → List ByteRange → List ℕ 
 Taken c b m ss w u o = ((d : ClassReader) × (o ≡ goes d) × class_rest d m ss w u) ⊎ ((d : ClassReader) × (o ≡ ends d) × (d.negated ≡ m) × (d.ranges ≡ ss) × (w ≡ u))
 
 -- the byte may be the first of an item
-abbrev IsFirst : ClassMark → Type 0
-IsFirst mark.Plain = Unit {0}
-IsFirst mark.Caret = Unit {0}
-IsFirst mark.Backslash = Unit {0}
+abbrev IsFirst : ClassByteRole → Type 0
+IsFirst role.Plain = Unit {0}
+IsFirst role.Caret = Unit {0}
+IsFirst role.Backslash = Unit {0}
 IsFirst _ = ⊥
 
-more_is_item : (c : ClassReader) (m : ClassMark) (b : ℕ) → IsFirst m → more_step c m b ≡ item_step c m b
-more_is_item c mark.Plain b i = refl
-more_is_item c mark.Caret b i = refl
-more_is_item c mark.Backslash b i = refl
-more_is_item c mark.Close b i = absurd i
-more_is_item c mark.Dash b i = absurd i
-more_is_item c mark.Misplaced b i = absurd i
+more_is_item : (c : ClassReader) (m : ClassByteRole) (b : ℕ) → IsFirst m → more_step c m b ≡ item_step c m b
+more_is_item c role.Plain b i = refl
+more_is_item c role.Caret b i = refl
+more_is_item c role.Backslash b i = refl
+more_is_item c role.Close b i = absurd i
+more_is_item c role.Dash b i = absurd i
+more_is_item c role.Misplaced b i = absurd i
 
-after_is_item : (c : ClassReader) (f : ℕ) (m : ClassMark) (b : ℕ) → IsFirst m → after_step c f m b ≡ item_step (with_range c (range_of f f)) m b
-after_is_item c f mark.Plain b i = refl
-after_is_item c f mark.Caret b i = refl
-after_is_item c f mark.Backslash b i = refl
-after_is_item c f mark.Close b i = absurd i
-after_is_item c f mark.Dash b i = absurd i
-after_is_item c f mark.Misplaced b i = absurd i
+after_is_item : (c : ClassReader) (f : ℕ) (m : ClassByteRole) (b : ℕ) → IsFirst m → after_step c f m b ≡ item_step (with_range c (range_of f f)) m b
+after_is_item c f role.Plain b i = refl
+after_is_item c f role.Caret b i = refl
+after_is_item c f role.Backslash b i = refl
+after_is_item c f role.Close b i = absurd i
+after_is_item c f role.Dash b i = absurd i
+after_is_item c f role.Misplaced b i = absurd i
 
-open_is_item : (c : ClassReader) (m : ClassMark) (b : ℕ) → (m ≡ mark.Caret → ⊥) → open_step c m b ≡ item_step c m b
-open_is_item c mark.Caret b i = absurd (i refl)
+open_is_item : (c : ClassReader) (m : ClassByteRole) (b : ℕ) → (m ≡ role.Caret → ⊥) → open_step c m b ≡ item_step c m b
+open_is_item c role.Caret b i = absurd (i refl)
 open_is_item c m b i = refl
 
-caret_is : (b : ℕ) → class_mark_of b ≡ mark.Caret → b ≡ 94
+caret_is : (b : ℕ) → class_role_of b ≡ role.Caret → b ≡ 94
 caret_is b e = elim (picks (b == 94) _ _ _ e) [
   | inl h ↦ eqb-true b 94 h.0
   | inr h ↦
@@ -160,17 +160,17 @@ caret_is b e = elim (picks (b == 94) _ _ _ e) [
 ]
 
 -- a byte before an item
-first_mark : {n : Bool} {rs ss : List ByteRange} {b : ℕ} {w u : List ℕ} → FirstRest n rs ss (b ∷ w) u → IsFirst (class_mark_of b)
-first_mark (first (plain e) r) = subst IsFirst (sym e) tt
-first_mark (first (caret e) r) = subst IsFirst (sym e) tt
-first_mark (first (escaped (short e)) r) = tt
-first_mark (first (escaped (hex e)) r) = tt
+first_role : {n : Bool} {rs ss : List ByteRange} {b : ℕ} {w u : List ℕ} → FirstRest n rs ss (b ∷ w) u → IsFirst (class_role_of b)
+first_role (first (plain e) r) = subst IsFirst (sym e) tt
+first_role (first (caret e) r) = subst IsFirst (sym e) tt
+first_role (first (escaped (short e)) r) = tt
+first_role (first (escaped (hex e)) r) = tt
 
 byte_after : {ss : List ByteRange} {w u : List ℕ} → (n : Bool) (rs : List ByteRange) (p : ClassPlace) (b : ℕ) → AfterRest n rs b ss w u → first_step (reader n rs p) b ≡ goes (reader n rs (After b))
 byte_after n rs p b (alone r) = cond-true (leaves (reader n rs p) (range_of b b)) _ _ (room rs n p b b b (omega arith) r)
 byte_after n rs p b (ranged (to {t = t} c le r)) = cond-true (leaves (reader n rs p) (range_of b b)) _ _ (room rs n p b t b le r)
 
-item_forth : {n : Bool} {rs ss : List ByteRange} {b : ℕ} {w u : List ℕ} → (p : ClassPlace) → FirstRest n rs ss (b ∷ w) u → Taken (reader n rs p) b n ss w u (item_step (reader n rs p) (class_mark_of b) b)
+item_forth : {n : Bool} {rs ss : List ByteRange} {b : ℕ} {w u : List ℕ} → (p : ClassPlace) → FirstRest n rs ss (b ∷ w) u → Taken (reader n rs p) b n ss w u (item_step (reader n rs p) (class_role_of b) b)
 item_forth {n} {rs} {ss} {b} p (first (plain e) r) = inl (reader n rs (After b), ap (λ m. item_step (reader n rs p) m b) e ∙ byte_after n rs p b r, (refl, r))
 item_forth {n} {rs} {ss} {b} p (first (caret e) r) = inl (reader n rs (After b), ap (λ m. item_step (reader n rs p) m b) e ∙ byte_after n rs p b r, (refl, r))
 item_forth {n} {rs} p (first (escaped (short e)) r) = inl (reader n rs (Escape at.Start), refl, (refl, begun (short e) r))
@@ -179,29 +179,29 @@ item_forth {n} {rs} p (first (escaped (hex e)) r) = inl (reader n rs (Escape at.
 range_taken : {ss : List ByteRange} {w u : List ℕ} → (n : Bool) (rs : List ByteRange) (p : ClassPlace) (f t : ℕ) → f ≤ t → ItemsRest n (rs ++ range_of f t ∷ []) ss w u → range_step (reader n rs p) f t ≡ goes (reader n (rs ++ range_of f t ∷ []) Items)
 range_taken n rs p f t le r = cond-true (nat_le f t && leaves (reader n rs p) (range_of f t)) _ _ (and_from (nat_le f t) _ (le-leb f t le) (room rs n p f t t (omega arith) r))
 
-to_forth : {n : Bool} {rs ss : List ByteRange} {f b : ℕ} {w u : List ℕ} → (p : ClassPlace) → ToRest n rs f ss (b ∷ w) u → Taken (reader n rs p) b n ss w u (to_step (reader n rs p) f (class_mark_of b) b)
+to_forth : {n : Bool} {rs ss : List ByteRange} {f b : ℕ} {w u : List ℕ} → (p : ClassPlace) → ToRest n rs f ss (b ∷ w) u → Taken (reader n rs p) b n ss w u (to_step (reader n rs p) f (class_role_of b) b)
 to_forth {n} {rs} {ss} {f} {b} p (to (plain e) le r) = inl (reader n (rs ++ range_of f b ∷ []) Items, ap (λ m. to_step (reader n rs p) f m b) e ∙ range_taken n rs p f b le r, (refl, r))
 to_forth {n} {rs} {ss} {f} {b} p (to (caret e) le r) = inl (reader n (rs ++ range_of f b ∷ []) Items, ap (λ m. to_step (reader n rs p) f m b) e ∙ range_taken n rs p f b le r, (refl, r))
 to_forth {n} {rs} {ss} {f} p (to (escaped (short e)) le r) = inl (reader n rs (EscapeTo f at.Start), refl, (refl, begun_to (short e) le r))
 to_forth {n} {rs} {ss} {f} p (to (escaped (hex e)) le r) = inl (reader n rs (EscapeTo f at.Start), refl, (refl, begun_to (hex e) le r))
 
-more_forth : {n : Bool} {rs ss : List ByteRange} {b : ℕ} {w u : List ℕ} → (p : ClassPlace) → ItemsRest n rs ss (b ∷ w) u → Taken (reader n rs p) b n ss w u (more_step (reader n rs p) (class_mark_of b) b)
+more_forth : {n : Bool} {rs ss : List ByteRange} {b : ℕ} {w u : List ℕ} → (p : ClassPlace) → ItemsRest n rs ss (b ∷ w) u → Taken (reader n rs p) b n ss w u (more_step (reader n rs p) (class_role_of b) b)
 more_forth {n} {rs} p (items no_item h) = inr (reader n rs p, refl, refl, refl, refl)
 more_forth {n} {rs} {ss} {b} {w} {u} p (items (one_item i m) h) =
     let r = item_first i (items m h) in
-    subst (λ o. Taken (reader n rs p) b n ss w u o) (sym (more_is_item (reader n rs p) (class_mark_of b) b (first_mark r))) (item_forth p r)
+    subst (λ o. Taken (reader n rs p) b n ss w u o) (sym (more_is_item (reader n rs p) (class_role_of b) b (first_role r))) (item_forth p r)
 
-after_forth : {n : Bool} {rs ss : List ByteRange} {f b : ℕ} {w u : List ℕ} → (p : ClassPlace) → AfterRest n rs f ss (b ∷ w) u → Taken (reader n rs p) b n ss w u (after_step (reader n rs p) f (class_mark_of b) b)
+after_forth : {n : Bool} {rs ss : List ByteRange} {f b : ℕ} {w u : List ℕ} → (p : ClassPlace) → AfterRest n rs f ss (b ∷ w) u → Taken (reader n rs p) b n ss w u (after_step (reader n rs p) f (class_role_of b) b)
 after_forth {n} {rs} {ss} {f} p (alone (items no_item h)) = inr (reader n (rs ++ range_of f f ∷ []) p, refl, refl, refl, refl)
 after_forth {n} {rs} {ss} {f} {b} {w} {u} p (alone (items (one_item i m) h)) =
     let r = item_first i (items m h) in
-    subst (λ o. Taken (reader n rs p) b n ss w u o) (sym (after_is_item (reader n rs p) f (class_mark_of b) b (first_mark r))) (item_forth p r)
+    subst (λ o. Taken (reader n rs p) b n ss w u o) (sym (after_is_item (reader n rs p) f (class_role_of b) b (first_role r))) (item_forth p r)
 after_forth {n} {rs} {ss} {f} p (ranged r) = inl (reader n rs (From f), refl, (refl, r))
 
-open_forth : {n m : Bool} {rs ss : List ByteRange} {b : ℕ} {w u : List ℕ} → (p : ClassPlace) → OpenRest n rs m ss (b ∷ w) u → Taken (reader n rs p) b m ss w u (open_step (reader n rs p) (class_mark_of b) b)
+open_forth : {n m : Bool} {rs ss : List ByteRange} {b : ℕ} {w u : List ℕ} → (p : ClassPlace) → OpenRest n rs m ss (b ∷ w) u → Taken (reader n rs p) b m ss w u (open_step (reader n rs p) (class_role_of b) b)
 open_forth {n} {m} {rs} p (negates r) = inl (reader true rs Empty, refl, (refl, r))
 open_forth {n} {m} {rs} {ss} {b} {w} {u} p (keeps free r) =
-    subst (λ o. Taken (reader n rs p) b n ss w u o) (sym (open_is_item (reader n rs p) (class_mark_of b) b (λ e. free w (ap (λ x. x ∷ w) (caret_is b e))))) (item_forth p r)
+    subst (λ o. Taken (reader n rs p) b n ss w u o) (sym (open_is_item (reader n rs p) (class_role_of b) b (λ e. free w (ap (λ x. x ∷ w) (caret_is b e))))) (item_forth p r)
 
 escaped_forth : {n : Bool} {rs ss : List ByteRange} {e : EscapePlace} {b : ℕ} {w u : List ℕ} → (p : ClassPlace) → EscapeRest n rs e ss (b ∷ w) u → Taken (reader n rs p) b n ss w u (escaped_step (reader n rs p) (escape_step e b))
 escaped_forth {n} {rs} {ss} {e} {b} {w} {u} p (begun {b = c} {v = v} x r) = elim (escape_forth e b c w v x) [
@@ -289,7 +289,7 @@ leaves_has true rs p f t le small h =
     is_covered-push rs (range_of f t) w.0 ∙ or_from (is_covered rs w.0) _ (not-true _ parts.0) (not-true _ parts.1) in
     (w.0, w.1, not_from_false _ out)
 
-backslash_is : (b : ℕ) → class_mark_of b ≡ mark.Backslash → b ≡ 92
+backslash_is : (b : ℕ) → class_role_of b ≡ role.Backslash → b ≡ 92
 backslash_is b e = elim (picks (b == 94) _ _ _ e) [
   | inl h ↦ cc
   | inr h ↦
@@ -312,7 +312,7 @@ backslash_is b e = elim (picks (b == 94) _ _ _ e) [
       ]
 ]
 
-dash_is : (b : ℕ) → class_mark_of b ≡ mark.Dash → b ≡ 45
+dash_is : (b : ℕ) → class_role_of b ≡ role.Dash → b ≡ 45
 dash_is b e = elim (picks (b == 94) _ _ _ e) [
   | inl h ↦ cc
   | inr h ↦
@@ -335,7 +335,7 @@ dash_is b e = elim (picks (b == 94) _ _ _ e) [
       ]
 ]
 
-close_is : (b : ℕ) → class_mark_of b ≡ mark.Close → b ≡ 93
+close_is : (b : ℕ) → class_role_of b ≡ role.Close → b ≡ 93
 close_is b e = elim (picks (b == 94) _ _ _ e) [
   | inl h ↦ cc
   | inr h ↦
@@ -383,15 +383,15 @@ FirstAt n rs b ss w u = FirstRest n rs ss (b ∷ w) u
 escape_first : {n : Bool} {rs ss : List ByteRange} {w u : List ℕ} → EscapeRest n rs at.Start ss w u → FirstRest n rs ss (92 ∷ w) u
 escape_first (begun x r) = first (escaped x) r
 
-item_makes : (n : Bool) (rs : List ByteRange) (p : ClassPlace) (m : ClassMark) (b : ℕ) (d : ClassReader) → Room n rs → b ≤ 255 → class_mark_of b ≡ m → item_step (reader n rs p) m b ≡ goes d → Makes d n (FirstAt n rs b)
-item_makes n rs p mark.Plain b d has le e s = let k = first_makes n rs p b d le s in (k.0, λ m ss w u r. let h = k.1 m ss w u r in (h.0, first (plain e) h.1))
-item_makes n rs p mark.Caret b d has le e s = let k = first_makes n rs p b d le s in (k.0, λ m ss w u r. let h = k.1 m ss w u r in (h.0, first (caret e) h.1))
-item_makes n rs p mark.Backslash b d has le e s =
+item_makes : (n : Bool) (rs : List ByteRange) (p : ClassPlace) (m : ClassByteRole) (b : ℕ) (d : ClassReader) → Room n rs → b ≤ 255 → class_role_of b ≡ m → item_step (reader n rs p) m b ≡ goes d → Makes d n (FirstAt n rs b)
+item_makes n rs p role.Plain b d has le e s = let k = first_makes n rs p b d le s in (k.0, λ m ss w u r. let h = k.1 m ss w u r in (h.0, first (plain e) h.1))
+item_makes n rs p role.Caret b d has le e s = let k = first_makes n rs p b d le s in (k.0, λ m ss w u r. let h = k.1 m ss w u r in (h.0, first (caret e) h.1))
+item_makes n rs p role.Backslash b d has le e s =
     let f : reader n rs (Escape at.Start) ≡ d = cc in
     subst (λ d. Makes d n (FirstAt n rs b)) f ((tt, has), λ m ss w u r. (r.0, subst (λ x. FirstRest n rs ss (x ∷ w) u) (sym (backslash_is b e)) (escape_first r.1)))
-item_makes n rs p mark.Close b d has le e s = cc
-item_makes n rs p mark.Dash b d has le e s = cc
-item_makes n rs p mark.Misplaced b d has le e s = cc
+item_makes n rs p role.Close b d has le e s = cc
+item_makes n rs p role.Dash b d has le e s = cc
+item_makes n rs p role.Misplaced b d has le e s = cc
 
 -- a step to a reader, and what is left there, make what was left before
 abbrev pub Back : ClassPlace → Bool → List ByteRange → ℕ → ClassReader → Type 0
@@ -403,61 +403,61 @@ first_items f = more_items (first_item f)
     more_items : {n : Bool} {rs ss : List ByteRange} {w u : List ℕ} → (p : (r : ByteRange) × (v : List ℕ) × IsItem r w v × ItemsRest n (rs ++ r ∷ []) ss v u) → ItemsRest n rs ss w u
     more_items (r, v, i, items m h) = items (one_item i m) h
 
-open_other : (n : Bool) (rs : List ByteRange) (m : ClassMark) (b : ℕ) (d : ClassReader) → PlaceFit Open n rs → b ≤ 255 → class_mark_of b ≡ m → (m ≡ mark.Caret → ⊥) → item_step (reader n rs Open) m b ≡ goes d → Back Open n rs b d
+open_other : (n : Bool) (rs : List ByteRange) (m : ClassByteRole) (b : ℕ) (d : ClassReader) → PlaceFit Open n rs → b ≤ 255 → class_role_of b ≡ m → (m ≡ role.Caret → ⊥) → item_step (reader n rs Open) m b ≡ goes d → Back Open n rs b d
 open_other n rs m b d fit le e ne s =
     let k = item_makes n rs Open m b d (none_room n rs fit.1) le e s in
-    let free : (w : List ℕ) → NoCaret (b ∷ w) = λ w v g. ne (sym e ∙ ap class_mark_of (let f : b ≡ 94 = cc in f)) in
+    let free : (w : List ℕ) → NoCaret (b ∷ w) = λ w v g. ne (sym e ∙ ap class_role_of (let f : b ≡ 94 = cc in f)) in
     (k.0, λ m ss w u r. let h = k.1 m ss w u r in subst (λ j. OpenRest n rs j ss (b ∷ w) u) (sym h.0) (keeps (free w) h.1))
 
-open_back : (n : Bool) (rs : List ByteRange) (m : ClassMark) (b : ℕ) (d : ClassReader) → PlaceFit Open n rs → b ≤ 255 → class_mark_of b ≡ m → open_step (reader n rs Open) m b ≡ goes d → Back Open n rs b d
-open_back n rs mark.Caret b d fit le e s =
+open_back : (n : Bool) (rs : List ByteRange) (m : ClassByteRole) (b : ℕ) (d : ClassReader) → PlaceFit Open n rs → b ≤ 255 → class_role_of b ≡ m → open_step (reader n rs Open) m b ≡ goes d → Back Open n rs b d
+open_back n rs role.Caret b d fit le e s =
     let f : reader true rs Empty ≡ d = cc in
     subst (λ d. Back Open n rs b d) f ((refl, fit.1), λ m ss w u r. subst (λ x. OpenRest n rs m ss (x ∷ w) u) (sym (caret_is b e)) (subst (λ k. OpenRest n rs k ss (94 ∷ w) u) (sym r.0) (negates r.1)))
-open_back n rs mark.Plain b d fit le e s = open_other n rs mark.Plain b d fit le e (λ h. cc) s
-open_back n rs mark.Backslash b d fit le e s = open_other n rs mark.Backslash b d fit le e (λ h. cc) s
-open_back n rs mark.Close b d fit le e s = cc
-open_back n rs mark.Dash b d fit le e s = cc
-open_back n rs mark.Misplaced b d fit le e s = cc
+open_back n rs role.Plain b d fit le e s = open_other n rs role.Plain b d fit le e (λ h. cc) s
+open_back n rs role.Backslash b d fit le e s = open_other n rs role.Backslash b d fit le e (λ h. cc) s
+open_back n rs role.Close b d fit le e s = cc
+open_back n rs role.Dash b d fit le e s = cc
+open_back n rs role.Misplaced b d fit le e s = cc
 
 -- further items: an item has to come, or the class ends
-more_other : (n : Bool) (rs : List ByteRange) (p : ClassPlace) (m : ClassMark) (b : ℕ) (d : ClassReader) → Room n rs → b ≤ 255 → class_mark_of b ≡ m → item_step (reader n rs p) m b ≡ goes d → Makes d n (λ ss w u. ItemsRest n rs ss (b ∷ w) u)
+more_other : (n : Bool) (rs : List ByteRange) (p : ClassPlace) (m : ClassByteRole) (b : ℕ) (d : ClassReader) → Room n rs → b ≤ 255 → class_role_of b ≡ m → item_step (reader n rs p) m b ≡ goes d → Makes d n (λ ss w u. ItemsRest n rs ss (b ∷ w) u)
 more_other n rs p m b d has le e s = let k = item_makes n rs p m b d has le e s in (k.0, λ m ss w u r. let h = k.1 m ss w u r in (h.0, first_items h.1))
 
-more_back : (n : Bool) (rs : List ByteRange) (p : ClassPlace) (m : ClassMark) (b : ℕ) (d : ClassReader) → Room n rs → b ≤ 255 → class_mark_of b ≡ m → more_step (reader n rs p) m b ≡ goes d → Makes d n (λ ss w u. ItemsRest n rs ss (b ∷ w) u)
-more_back n rs p mark.Plain b d has le e s = more_other n rs p mark.Plain b d has le e s
-more_back n rs p mark.Caret b d has le e s = more_other n rs p mark.Caret b d has le e s
-more_back n rs p mark.Backslash b d has le e s = more_other n rs p mark.Backslash b d has le e s
-more_back n rs p mark.Close b d has le e s = cc
-more_back n rs p mark.Dash b d has le e s = cc
-more_back n rs p mark.Misplaced b d has le e s = cc
+more_back : (n : Bool) (rs : List ByteRange) (p : ClassPlace) (m : ClassByteRole) (b : ℕ) (d : ClassReader) → Room n rs → b ≤ 255 → class_role_of b ≡ m → more_step (reader n rs p) m b ≡ goes d → Makes d n (λ ss w u. ItemsRest n rs ss (b ∷ w) u)
+more_back n rs p role.Plain b d has le e s = more_other n rs p role.Plain b d has le e s
+more_back n rs p role.Caret b d has le e s = more_other n rs p role.Caret b d has le e s
+more_back n rs p role.Backslash b d has le e s = more_other n rs p role.Backslash b d has le e s
+more_back n rs p role.Close b d has le e s = cc
+more_back n rs p role.Dash b d has le e s = cc
+more_back n rs p role.Misplaced b d has le e s = cc
 
-after_other : (n : Bool) (rs : List ByteRange) (f : ℕ) (m : ClassMark) (b : ℕ) (d : ClassReader) → PlaceFit (After f) n rs → b ≤ 255 → class_mark_of b ≡ m → more_step (reader n (rs ++ range_of f f ∷ []) (After f)) m b ≡ goes d → Back (After f) n rs b d
+after_other : (n : Bool) (rs : List ByteRange) (f : ℕ) (m : ClassByteRole) (b : ℕ) (d : ClassReader) → PlaceFit (After f) n rs → b ≤ 255 → class_role_of b ≡ m → more_step (reader n (rs ++ range_of f f ∷ []) (After f)) m b ≡ goes d → Back (After f) n rs b d
 after_other n rs f m b d fit le e s =
     let k = more_back n (rs ++ range_of f f ∷ []) (After f) m b d (has_room n _ fit.1) le e s in
     (k.0, λ m ss w u r. let h = k.1 m ss w u r in (h.0, alone h.1))
 
-after_back : (n : Bool) (rs : List ByteRange) (f : ℕ) (m : ClassMark) (b : ℕ) (d : ClassReader) → PlaceFit (After f) n rs → b ≤ 255 → class_mark_of b ≡ m → after_step (reader n rs (After f)) f m b ≡ goes d → Back (After f) n rs b d
-after_back n rs f mark.Dash b d fit le e s =
+after_back : (n : Bool) (rs : List ByteRange) (f : ℕ) (m : ClassByteRole) (b : ℕ) (d : ClassReader) → PlaceFit (After f) n rs → b ≤ 255 → class_role_of b ≡ m → after_step (reader n rs (After f)) f m b ≡ goes d → Back (After f) n rs b d
+after_back n rs f role.Dash b d fit le e s =
     let g : reader n rs (From f) ≡ d = cc in
     subst (λ d. Back (After f) n rs b d) g (fit, λ m ss w u r. (r.0, subst (λ x. AfterRest n rs f ss (x ∷ w) u) (sym (dash_is b e)) (ranged r.1)))
-after_back n rs f mark.Plain b d fit le e s = after_other n rs f mark.Plain b d fit le e s
-after_back n rs f mark.Caret b d fit le e s = after_other n rs f mark.Caret b d fit le e s
-after_back n rs f mark.Backslash b d fit le e s = after_other n rs f mark.Backslash b d fit le e s
-after_back n rs f mark.Close b d fit le e s = cc
-after_back n rs f mark.Misplaced b d fit le e s = cc
+after_back n rs f role.Plain b d fit le e s = after_other n rs f role.Plain b d fit le e s
+after_back n rs f role.Caret b d fit le e s = after_other n rs f role.Caret b d fit le e s
+after_back n rs f role.Backslash b d fit le e s = after_other n rs f role.Backslash b d fit le e s
+after_back n rs f role.Close b d fit le e s = cc
+after_back n rs f role.Misplaced b d fit le e s = cc
 
 escape_to : {n : Bool} {rs ss : List ByteRange} {f : ℕ} {w u : List ℕ} → EscapeToRest n rs f at.Start ss w u → ToRest n rs f ss (92 ∷ w) u
 escape_to (begun_to x le r) = to (escaped x) le r
 
-to_back : (n : Bool) (rs : List ByteRange) (f : ℕ) (m : ClassMark) (b : ℕ) (d : ClassReader) → PlaceFit (From f) n rs → class_mark_of b ≡ m → to_step (reader n rs (From f)) f m b ≡ goes d → Back (From f) n rs b d
-to_back n rs f mark.Plain b d fit e s = let k = range_makes n rs (From f) f b d fit.0 s in (k.1.0, λ m ss w u r. let h = k.1.1 m ss w u r in (h.0, to (plain e) k.0 h.1))
-to_back n rs f mark.Caret b d fit e s = let k = range_makes n rs (From f) f b d fit.0 s in (k.1.0, λ m ss w u r. let h = k.1.1 m ss w u r in (h.0, to (caret e) k.0 h.1))
-to_back n rs f mark.Backslash b d fit e s =
+to_back : (n : Bool) (rs : List ByteRange) (f : ℕ) (m : ClassByteRole) (b : ℕ) (d : ClassReader) → PlaceFit (From f) n rs → class_role_of b ≡ m → to_step (reader n rs (From f)) f m b ≡ goes d → Back (From f) n rs b d
+to_back n rs f role.Plain b d fit e s = let k = range_makes n rs (From f) f b d fit.0 s in (k.1.0, λ m ss w u r. let h = k.1.1 m ss w u r in (h.0, to (plain e) k.0 h.1))
+to_back n rs f role.Caret b d fit e s = let k = range_makes n rs (From f) f b d fit.0 s in (k.1.0, λ m ss w u r. let h = k.1.1 m ss w u r in (h.0, to (caret e) k.0 h.1))
+to_back n rs f role.Backslash b d fit e s =
     let g : reader n rs (EscapeTo f at.Start) ≡ d = cc in
     subst (λ d. Back (From f) n rs b d) g ((fit.0, fit.1, tt, refl), λ m ss w u r. (r.0, subst (λ x. ToRest n rs f ss (x ∷ w) u) (sym (backslash_is b e)) (escape_to r.1)))
-to_back n rs f mark.Close b d fit e s = cc
-to_back n rs f mark.Dash b d fit e s = cc
-to_back n rs f mark.Misplaced b d fit e s = cc
+to_back n rs f role.Close b d fit e s = cc
+to_back n rs f role.Dash b d fit e s = cc
+to_back n rs f role.Misplaced b d fit e s = cc
 
 escape_more : {n : Bool} {rs ss : List ByteRange} {b : ℕ} {w u : List ℕ} → (p q : EscapePlace) → escape_step p b ≡ step.Goes q → EscapeRest n rs q ss w u → EscapeRest n rs p ss (b ∷ w) u
 escape_more {b = b} {w = w} p q e (begun {b = c} {v = v} x r) = begun (escape_back p q b c w v e x) r
@@ -491,11 +491,11 @@ escaped_to_back n rs f p b d (step.Ends t) fit e s =
 escaped_to_back n rs f p b d step.Refused fit e s = cc
 
 pub class_back : (n : Bool) (rs : List ByteRange) (p : ClassPlace) (b : ℕ) (d : ClassReader) → PlaceFit p n rs → b ≤ 255 → place_step (reader n rs p) p b ≡ goes d → Back p n rs b d
-class_back n rs Open b d fit le s = open_back n rs (class_mark_of b) b d fit le refl s
-class_back n rs Empty b d fit le s = item_makes n rs Empty (class_mark_of b) b d (none_room n rs fit.1) le refl s
-class_back n rs Items b d fit le s = more_back n rs Items (class_mark_of b) b d (has_room n rs fit) le refl s
-class_back n rs (After f) b d fit le s = after_back n rs f (class_mark_of b) b d fit le refl s
-class_back n rs (From f) b d fit le s = to_back n rs f (class_mark_of b) b d fit refl s
+class_back n rs Open b d fit le s = open_back n rs (class_role_of b) b d fit le refl s
+class_back n rs Empty b d fit le s = item_makes n rs Empty (class_role_of b) b d (none_room n rs fit.1) le refl s
+class_back n rs Items b d fit le s = more_back n rs Items (class_role_of b) b d (has_room n rs fit) le refl s
+class_back n rs (After f) b d fit le s = after_back n rs f (class_role_of b) b d fit le refl s
+class_back n rs (From f) b d fit le s = to_back n rs f (class_role_of b) b d fit refl s
 class_back n rs (Escape p) b d fit le s = escaped_back n rs p b d (escape_step p b) fit le refl s
 class_back n rs (EscapeTo f p) b d fit le s = escaped_to_back n rs f p b d (escape_step p b) fit refl s
 
@@ -505,29 +505,29 @@ no_first_end n rs p b d s = elim (picks (leaves (reader n rs p) (range_of b b)) 
 no_range_end : (n : Bool) (rs : List ByteRange) (p : ClassPlace) (f t : ℕ) (d : ClassReader) → range_step (reader n rs p) f t ≡ ends d → ⊥
 no_range_end n rs p f t d s = elim (picks (nat_le f t && leaves (reader n rs p) (range_of f t)) _ _ _ s) [ inl h ↦ cc | inr h ↦ cc ]
 
-no_item_end : (n : Bool) (rs : List ByteRange) (p : ClassPlace) (m : ClassMark) (b : ℕ) (d : ClassReader) → item_step (reader n rs p) m b ≡ ends d → ⊥
-no_item_end n rs p mark.Plain b d s = no_first_end n rs p b d s
-no_item_end n rs p mark.Caret b d s = no_first_end n rs p b d s
-no_item_end n rs p mark.Backslash b d s = cc
-no_item_end n rs p mark.Close b d s = cc
-no_item_end n rs p mark.Dash b d s = cc
-no_item_end n rs p mark.Misplaced b d s = cc
+no_item_end : (n : Bool) (rs : List ByteRange) (p : ClassPlace) (m : ClassByteRole) (b : ℕ) (d : ClassReader) → item_step (reader n rs p) m b ≡ ends d → ⊥
+no_item_end n rs p role.Plain b d s = no_first_end n rs p b d s
+no_item_end n rs p role.Caret b d s = no_first_end n rs p b d s
+no_item_end n rs p role.Backslash b d s = cc
+no_item_end n rs p role.Close b d s = cc
+no_item_end n rs p role.Dash b d s = cc
+no_item_end n rs p role.Misplaced b d s = cc
 
-no_open_end : (n : Bool) (rs : List ByteRange) (p : ClassPlace) (m : ClassMark) (b : ℕ) (d : ClassReader) → open_step (reader n rs p) m b ≡ ends d → ⊥
-no_open_end n rs p mark.Plain b d s = no_first_end n rs p b d s
-no_open_end n rs p mark.Caret b d s = cc
-no_open_end n rs p mark.Backslash b d s = cc
-no_open_end n rs p mark.Close b d s = cc
-no_open_end n rs p mark.Dash b d s = cc
-no_open_end n rs p mark.Misplaced b d s = cc
+no_open_end : (n : Bool) (rs : List ByteRange) (p : ClassPlace) (m : ClassByteRole) (b : ℕ) (d : ClassReader) → open_step (reader n rs p) m b ≡ ends d → ⊥
+no_open_end n rs p role.Plain b d s = no_first_end n rs p b d s
+no_open_end n rs p role.Caret b d s = cc
+no_open_end n rs p role.Backslash b d s = cc
+no_open_end n rs p role.Close b d s = cc
+no_open_end n rs p role.Dash b d s = cc
+no_open_end n rs p role.Misplaced b d s = cc
 
-no_to_end : (n : Bool) (rs : List ByteRange) (p : ClassPlace) (f : ℕ) (m : ClassMark) (b : ℕ) (d : ClassReader) → to_step (reader n rs p) f m b ≡ ends d → ⊥
-no_to_end n rs p f mark.Plain b d s = no_range_end n rs p f b d s
-no_to_end n rs p f mark.Caret b d s = no_range_end n rs p f b d s
-no_to_end n rs p f mark.Backslash b d s = cc
-no_to_end n rs p f mark.Close b d s = cc
-no_to_end n rs p f mark.Dash b d s = cc
-no_to_end n rs p f mark.Misplaced b d s = cc
+no_to_end : (n : Bool) (rs : List ByteRange) (p : ClassPlace) (f : ℕ) (m : ClassByteRole) (b : ℕ) (d : ClassReader) → to_step (reader n rs p) f m b ≡ ends d → ⊥
+no_to_end n rs p f role.Plain b d s = no_range_end n rs p f b d s
+no_to_end n rs p f role.Caret b d s = no_range_end n rs p f b d s
+no_to_end n rs p f role.Backslash b d s = cc
+no_to_end n rs p f role.Close b d s = cc
+no_to_end n rs p f role.Dash b d s = cc
+no_to_end n rs p f role.Misplaced b d s = cc
 
 no_escaped_end : (n : Bool) (rs : List ByteRange) (p : ClassPlace) (x : EscapeStep) (d : ClassReader) → escaped_step (reader n rs p) x ≡ ends d → ⊥
 no_escaped_end n rs p (step.Goes q) d s = cc
@@ -539,33 +539,33 @@ no_escaped_to_end n rs p f (step.Goes q) d s = elim (picks (can_end (reader n rs
 no_escaped_to_end n rs p f (step.Ends t) d s = no_range_end n rs p f t d s
 no_escaped_to_end n rs p f step.Refused d s = cc
 
-more_ends : (n : Bool) (rs : List ByteRange) (p : ClassPlace) (m : ClassMark) (b : ℕ) (d : ClassReader) → class_mark_of b ≡ m → more_step (reader n rs p) m b ≡ ends d → (b ≡ 93) × (reader n rs p ≡ d)
-more_ends n rs p mark.Close b d e s = let f : reader n rs p ≡ d = cc in (close_is b e, f)
-more_ends n rs p mark.Plain b d e s = absurd (no_first_end n rs p b d s)
-more_ends n rs p mark.Caret b d e s = absurd (no_first_end n rs p b d s)
-more_ends n rs p mark.Backslash b d e s = cc
-more_ends n rs p mark.Dash b d e s = cc
-more_ends n rs p mark.Misplaced b d e s = cc
+more_ends : (n : Bool) (rs : List ByteRange) (p : ClassPlace) (m : ClassByteRole) (b : ℕ) (d : ClassReader) → class_role_of b ≡ m → more_step (reader n rs p) m b ≡ ends d → (b ≡ 93) × (reader n rs p ≡ d)
+more_ends n rs p role.Close b d e s = let f : reader n rs p ≡ d = cc in (close_is b e, f)
+more_ends n rs p role.Plain b d e s = absurd (no_first_end n rs p b d s)
+more_ends n rs p role.Caret b d e s = absurd (no_first_end n rs p b d s)
+more_ends n rs p role.Backslash b d e s = cc
+more_ends n rs p role.Dash b d e s = cc
+more_ends n rs p role.Misplaced b d e s = cc
 
-after_ends : (n : Bool) (rs : List ByteRange) (p : ClassPlace) (f : ℕ) (m : ClassMark) (b : ℕ) (d : ClassReader) → class_mark_of b ≡ m → after_step (reader n rs p) f m b ≡ ends d → (b ≡ 93) × (reader n (rs ++ range_of f f ∷ []) p ≡ d)
-after_ends n rs p f mark.Dash b d e s = cc
-after_ends n rs p f mark.Close b d e s = more_ends n (rs ++ range_of f f ∷ []) p mark.Close b d e s
-after_ends n rs p f mark.Plain b d e s = more_ends n (rs ++ range_of f f ∷ []) p mark.Plain b d e s
-after_ends n rs p f mark.Caret b d e s = more_ends n (rs ++ range_of f f ∷ []) p mark.Caret b d e s
-after_ends n rs p f mark.Backslash b d e s = cc
-after_ends n rs p f mark.Misplaced b d e s = cc
+after_ends : (n : Bool) (rs : List ByteRange) (p : ClassPlace) (f : ℕ) (m : ClassByteRole) (b : ℕ) (d : ClassReader) → class_role_of b ≡ m → after_step (reader n rs p) f m b ≡ ends d → (b ≡ 93) × (reader n (rs ++ range_of f f ∷ []) p ≡ d)
+after_ends n rs p f role.Dash b d e s = cc
+after_ends n rs p f role.Close b d e s = more_ends n (rs ++ range_of f f ∷ []) p role.Close b d e s
+after_ends n rs p f role.Plain b d e s = more_ends n (rs ++ range_of f f ∷ []) p role.Plain b d e s
+after_ends n rs p f role.Caret b d e s = more_ends n (rs ++ range_of f f ∷ []) p role.Caret b d e s
+after_ends n rs p f role.Backslash b d e s = cc
+after_ends n rs p f role.Misplaced b d e s = cc
 
 -- the class that has ended was left
 pub class_ends : (n : Bool) (rs : List ByteRange) (p : ClassPlace) (b : ℕ) (d : ClassReader) → PlaceFit p n rs → place_step (reader n rs p) p b ≡ ends d → (w : List ℕ) → place_rest p n rs d.negated d.ranges (b ∷ w) w
-class_ends n rs Open b d fit s w = absurd (no_open_end n rs Open (class_mark_of b) b d s)
-class_ends n rs Empty b d fit s w = absurd (no_item_end n rs Empty (class_mark_of b) b d s)
+class_ends n rs Open b d fit s w = absurd (no_open_end n rs Open (class_role_of b) b d s)
+class_ends n rs Empty b d fit s w = absurd (no_item_end n rs Empty (class_role_of b) b d s)
 class_ends n rs Items b d fit s w =
-    let k = more_ends n rs Items (class_mark_of b) b d refl s in
+    let k = more_ends n rs Items (class_role_of b) b d refl s in
     subst (λ d. place_rest Items n rs d.negated d.ranges (b ∷ w) w) k.1 (refl, subst (λ x. ItemsRest n rs rs (x ∷ w) w) (sym k.0) (items no_item fit))
 class_ends n rs (After f) b d fit s w =
-    let k = after_ends n rs (After f) f (class_mark_of b) b d refl s in
+    let k = after_ends n rs (After f) f (class_role_of b) b d refl s in
     subst (λ d. place_rest (After f) n rs d.negated d.ranges (b ∷ w) w) k.1 (refl, subst (λ x. AfterRest n rs f (rs ++ range_of f f ∷ []) (x ∷ w) w) (sym k.0) (alone (items no_item fit.1)))
-class_ends n rs (From f) b d fit s w = absurd (no_to_end n rs (From f) f (class_mark_of b) b d s)
+class_ends n rs (From f) b d fit s w = absurd (no_to_end n rs (From f) f (class_role_of b) b d s)
 class_ends n rs (Escape p) b d fit s w = absurd (no_escaped_end n rs (Escape p) (escape_step p b) d s)
 class_ends n rs (EscapeTo f p) b d fit s w = absurd (no_escaped_to_end n rs (EscapeTo f p) f (escape_step p b) d s)
 

@@ -1,14 +1,14 @@
 -- Escapes byte by byte.
 use Rattle.std.proofs.Common.{◌≡◌, ℕ, ◌+◌, ◌-◌, ◌*◌, ◌/◌, ◌%◌, ◌<◌, ◌≤◌, ◌&&◌, nat_le, ◌==◌, Bool, true, false, List, ◌∷◌, Option, Some, None, refl, sym, ap, ◌∙◌, ◌⊎◌, inl, inr, subst, arith, if◌then◌else◌}
 use Rattle.std.proofs.lemmas.Bool.{cases_Bool, cases_eq, eqb-true, leb-true, leb-false, le-leb, lt-leb, and_parts, and_from, and_right, cond-true, cond-false}
-use Rattle.sp_regex.specs.declared.bytes.Mark.{Mark}
-use Rattle.sp_regex.specs.declared.bytes.Mark.TheVariants as mark
+use Rattle.sp_regex.specs.declared.bytes.ByteRole.{ByteRole}
+use Rattle.sp_regex.specs.declared.bytes.ByteRole.TheVariants as role
 use Rattle.sp_regex.specs.declared.bytes.Escaped.{Escaped}
 use Rattle.sp_regex.specs.declared.bytes.Escaped.TheVariants.{Byte, Hex as IsHex, Misplaced}
 use Rattle.sp_regex.specs.declared.escape.EscapePlace.{EscapePlace}
 use Rattle.sp_regex.specs.declared.escape.EscapePlace.TheVariants.{Start, Hex, Digit}
 use Rattle.sp_regex.specs.declared.escape.EscapeStep.TheVariants.{Goes, Ends}
-use Rattle.sp_regex.specs.Bytes.{escaped_of, mark_of, mark_escaped, hex_value, hex_value_of_two, hex_sum}
+use Rattle.sp_regex.specs.Bytes.{escaped_of, role_of, role_escaped, hex_value, hex_value_of_two, hex_sum}
 use Rattle.sp_regex.specs.Escapes.{escape_step, start_step, high_step, low_step}
 use Rattle.sp_regex.specs.Syntax.{IsEscape, short, hex}
 
@@ -49,8 +49,8 @@ pub picks : {A : Type 0} (t : Bool) (x y z : A) → (if t then x else y) ≡ z �
 picks true x y z e = inl (refl, e)
 picks false x y z e = inr (refl, e)
 
-not_hex : (m : Mark) (b : ℕ) → mark_escaped m b ≡ IsHex → ⊥
-not_hex mark.Plain b e = cc
+not_hex : (m : ByteRole) (b : ℕ) → role_escaped m b ≡ IsHex → ⊥
+not_hex role.Plain b e = cc
 not_hex m b e = cc
 
 escaped_hex : (b : ℕ) → escaped_of b ≡ IsHex → b ≡ 120
@@ -69,7 +69,7 @@ escaped_hex b e = elim (picks (b == 110) _ _ _ e) [
                         elim (picks (b == 34) _ _ _ h.1) [
                           | inl h ↦ cc
                           | inr h ↦
-                              elim (picks (b == 45) _ _ _ h.1) [ inl h ↦ cc | inr h ↦ absurd (not_hex (mark_of b) b h.1) ]
+                              elim (picks (b == 45) _ _ _ h.1) [ inl h ↦ cc | inr h ↦ absurd (not_hex (role_of b) b h.1) ]
                         ]
                   ]
             ]
@@ -142,8 +142,8 @@ hex_below b i e = elim (picks (nat_le 48 b && nat_le b 57) _ _ _ e) [
   ]
 ]
 
-marked : (m : Mark) (b c : ℕ) → mark_escaped m b ≡ Byte c → b ≡ c
-marked mark.Plain b c e = cc
+marked : (m : ByteRole) (b c : ℕ) → role_escaped m b ≡ Byte c → b ≡ c
+marked role.Plain b c e = cc
 marked m b c e = cc
 
 escaped_below : (b c : ℕ) → b ≤ 255 → escaped_of b ≡ Byte c → c ≤ 255
@@ -165,7 +165,7 @@ escaped_below b c le e = elim (picks (b == 110) _ _ _ e) [
                               elim (picks (b == 45) _ _ _ h.1) [
                                 | inl h ↦ (let f : b ≡ c = cc in omega arith)
                                 | inr h ↦
-                                    (let f = marked (mark_of b) b c h.1 in omega arith)
+                                    (let f = marked (role_of b) b c h.1 in omega arith)
                               ]
                         ]
                   ]

@@ -2,8 +2,8 @@
 use Rattle.std.proofs.Common.{◌≡◌, ℕ, suc, ◌+◌, Bool, false, List, [], ◌∷◌, length, Option, Some, None, refl, sym, ap, ◌⊎◌, inl, inr, subst, arith, nat_lt, get_or}
 use Rattle.std.proofs.lemmas.Bool.{lt-ltb, cond-true}
 use Rattle.sp_regex.specs.declared.bytes.ByteRange.{ByteRange}
-use Rattle.sp_regex.specs.declared.bytes.Mark.{Mark}
-use Rattle.sp_regex.specs.declared.bytes.Mark.TheVariants as mark
+use Rattle.sp_regex.specs.declared.bytes.ByteRole.{ByteRole}
+use Rattle.sp_regex.specs.declared.bytes.ByteRole.TheVariants as role
 use Rattle.sp_regex.specs.declared.escape.EscapePlace.{EscapePlace}
 use Rattle.sp_regex.specs.declared.escape.EscapePlace.TheVariants as escape_at
 use Rattle.sp_regex.specs.declared.bounds.BoundsPlace.{BoundsPlace}
@@ -13,7 +13,7 @@ use Rattle.sp_regex.specs.declared.class.ClassReader.{ClassReader}
 use Rattle.sp_regex.specs.declared.reader.Mode.{Mode}
 use Rattle.sp_regex.specs.declared.reader.Mode.TheVariants.{Start, Atom, Piece, Escape, Class, Bounds}
 use Rattle.sp_regex.specs.Trees.{Syntax, byte, any, class, empty, followed, never, either, repeat}
-use Rattle.sp_regex.specs.Bytes.{mark_of}
+use Rattle.sp_regex.specs.Bytes.{role_of}
 use Rattle.sp_regex.specs.Escapes.{escape_step}
 use Rattle.sp_regex.specs.Bounds.{bounds_step}
 use Rattle.sp_regex.specs.Class.{class_step, reader}
@@ -84,55 +84,55 @@ regex_close Q x = closed Q (atom_piece Q never empty x)
     closed : {k : ℕ} {w : List ℕ} → (Q : Syntax → List ℕ → Type 0) → (q : Syntax) × (u : List ℕ) × IsPiece k q w u × Pieces k Q never (followed empty q) u → (r : Syntax) × (v : List ℕ) × IsRegex k r w v × Q r v
     closed Q (q, u, p, (s, v, m, (t, x, a, h))) = (t, x, alternatives (pieces p m) a, h)
 
--- marks that may begin an atom
-abbrev IsFirst : Mark → Type 0
-IsFirst mark.Plain = Unit {0}
-IsFirst mark.Dot = Unit {0}
-IsFirst mark.ClassOpen = Unit {0}
-IsFirst mark.GroupOpen = Unit {0}
-IsFirst mark.Backslash = Unit {0}
+-- metacharacters that may begin an atom
+abbrev IsFirst : ByteRole → Type 0
+IsFirst role.Plain = Unit {0}
+IsFirst role.Dot = Unit {0}
+IsFirst role.ClassOpen = Unit {0}
+IsFirst role.GroupOpen = Unit {0}
+IsFirst role.Backslash = Unit {0}
 IsFirst _ = ⊥
 
--- marks that may follow a whole piece
-abbrev IsNext : Mark → Type 0
-IsNext mark.Bar = Unit {0}
-IsNext mark.GroupClose = Unit {0}
+-- metacharacters that may follow a whole piece
+abbrev IsNext : ByteRole → Type 0
+IsNext role.Bar = Unit {0}
+IsNext role.GroupClose = Unit {0}
 IsNext m = IsFirst m
 
-piece_is_start : (s : State) (m : Mark) (b : ℕ) → IsFirst m → piece_step s m b ≡ start_step s m b
-piece_is_start s mark.Plain b i = refl
-piece_is_start s mark.Dot b i = refl
-piece_is_start s mark.ClassOpen b i = refl
-piece_is_start s mark.GroupOpen b i = refl
-piece_is_start s mark.Backslash b i = refl
-piece_is_start s mark.Bar b i = absurd i
-piece_is_start s mark.GroupClose b i = absurd i
-piece_is_start s mark.Star b i = absurd i
-piece_is_start s mark.Plus b i = absurd i
-piece_is_start s mark.Question b i = absurd i
-piece_is_start s mark.BoundsOpen b i = absurd i
-piece_is_start s mark.Misplaced b i = absurd i
+piece_is_start : (s : State) (m : ByteRole) (b : ℕ) → IsFirst m → piece_step s m b ≡ start_step s m b
+piece_is_start s role.Plain b i = refl
+piece_is_start s role.Dot b i = refl
+piece_is_start s role.ClassOpen b i = refl
+piece_is_start s role.GroupOpen b i = refl
+piece_is_start s role.Backslash b i = refl
+piece_is_start s role.Bar b i = absurd i
+piece_is_start s role.GroupClose b i = absurd i
+piece_is_start s role.Star b i = absurd i
+piece_is_start s role.Plus b i = absurd i
+piece_is_start s role.Question b i = absurd i
+piece_is_start s role.BoundsOpen b i = absurd i
+piece_is_start s role.Misplaced b i = absurd i
 
-atom_is_piece : (s : State) (a : Syntax) (m : Mark) (b : ℕ) → IsNext m → atom_step s a m b ≡ piece_step (with_piece s a) m b
-atom_is_piece s a mark.Plain b i = refl
-atom_is_piece s a mark.Dot b i = refl
-atom_is_piece s a mark.ClassOpen b i = refl
-atom_is_piece s a mark.GroupOpen b i = refl
-atom_is_piece s a mark.Backslash b i = refl
-atom_is_piece s a mark.Bar b i = refl
-atom_is_piece s a mark.GroupClose b i = refl
-atom_is_piece s a mark.Star b i = absurd i
-atom_is_piece s a mark.Plus b i = absurd i
-atom_is_piece s a mark.Question b i = absurd i
-atom_is_piece s a mark.BoundsOpen b i = absurd i
-atom_is_piece s a mark.Misplaced b i = absurd i
+atom_is_piece : (s : State) (a : Syntax) (m : ByteRole) (b : ℕ) → IsNext m → atom_step s a m b ≡ piece_step (with_piece s a) m b
+atom_is_piece s a role.Plain b i = refl
+atom_is_piece s a role.Dot b i = refl
+atom_is_piece s a role.ClassOpen b i = refl
+atom_is_piece s a role.GroupOpen b i = refl
+atom_is_piece s a role.Backslash b i = refl
+atom_is_piece s a role.Bar b i = refl
+atom_is_piece s a role.GroupClose b i = refl
+atom_is_piece s a role.Star b i = absurd i
+atom_is_piece s a role.Plus b i = absurd i
+atom_is_piece s a role.Question b i = absurd i
+atom_is_piece s a role.BoundsOpen b i = absurd i
+atom_is_piece s a role.Misplaced b i = absurd i
 
-first_next : (m : Mark) → IsFirst m → IsNext m
-first_next mark.Bar i = tt
-first_next mark.GroupClose i = tt
+first_next : (m : ByteRole) → IsFirst m → IsNext m
+first_next role.Bar i = tt
+first_next role.GroupClose i = tt
 first_next m i = i
 
-atom_first : {k b : ℕ} {a : Syntax} {w u : List ℕ} → IsAtom k a (b ∷ w) u → IsFirst (mark_of b)
+atom_first : {k b : ℕ} {a : Syntax} {w u : List ℕ} → IsAtom k a (b ∷ w) u → IsFirst (role_of b)
 atom_first (plain_byte e) = subst IsFirst (sym e) tt
 atom_first any_byte = tt
 atom_first (escaped_byte (short e)) = tt
@@ -141,7 +141,7 @@ atom_first (byte_class (positive f i m h)) = tt
 atom_first (byte_class (negative i m h)) = tt
 atom_first (group r) = tt
 
-piece_first : {k b : ℕ} {p : Syntax} {w u : List ℕ} → IsPiece k p (b ∷ w) u → IsFirst (mark_of b)
+piece_first : {k b : ℕ} {p : Syntax} {w u : List ℕ} → IsPiece k p (b ∷ w) u → IsFirst (role_of b)
 piece_first (once x) = atom_first x
 piece_first (counted x c) = atom_first x
 
@@ -156,7 +156,7 @@ same_tail b c w v e = ap tail e
     tail [] = []
     tail (x ∷ xs) = xs
 
-atom_forth : {k b : ℕ} {a : Syntax} {w u : List ℕ} → (os : List Opened) (e p : Syntax) (m : Mode) (c : ClassReader) (t : Syntax) → k + length os ≡ 64 → IsAtom k a (b ∷ w) u → AfterAtom k (Closes k os t) e p a u → Taken (start_step (state os (opened e p) m c) (mark_of b) b) t w
+atom_forth : {k b : ℕ} {a : Syntax} {w u : List ℕ} → (os : List Opened) (e p : Syntax) (m : Mode) (c : ClassReader) (t : Syntax) → k + length os ≡ 64 → IsAtom k a (b ∷ w) u → AfterAtom k (Closes k os t) e p a u → Taken (start_step (state os (opened e p) m c) (role_of b) b) t w
 atom_forth {k} {b} os e p m c t h (plain_byte g) r = (state os (opened e p) (Atom (byte b)) c, ap (λ x. start_step (state os (opened e p) m c) x b) g, (k, h, r))
 atom_forth {k} os e p m c t h any_byte r = (state os (opened e p) (Atom any) c, refl, (k, h, r))
 atom_forth {k} os e p m c t h (escaped_byte (short g)) r = (state os (opened e p) (Escape escape_at.Start) c, refl, (k, h, (_, _, short g, r)))
@@ -169,7 +169,7 @@ atom_forth {k = suc k} {u = u} os e p m c t h (group x) r = (
   (k, omega arith, regex_open (Closes k (opened e p ∷ os) t) x (u, refl, r)),
 )
 
-start_forth : (k : ℕ) (b : ℕ) (w : List ℕ) (os : List Opened) (e p : Syntax) (m : Mode) (c : ClassReader) (t : Syntax) → k + length os ≡ 64 → AtomThen k (Closes k os t) e p (b ∷ w) → Taken (start_step (state os (opened e p) m c) (mark_of b) b) t w
+start_forth : (k : ℕ) (b : ℕ) (w : List ℕ) (os : List Opened) (e p : Syntax) (m : Mode) (c : ClassReader) (t : Syntax) → k + length os ≡ 64 → AtomThen k (Closes k os t) e p (b ∷ w) → Taken (start_step (state os (opened e p) m c) (role_of b) b) t w
 start_forth k b w os e p m c t h (a, u, x, r) = atom_forth os e p m c t h x r
 
 -- what follows the alternatives where no further one does
@@ -181,21 +181,21 @@ closes_forth k b w (o ∷ os) e p m c t h (u, g, r) = (
 )
 
 -- what follows whole pieces
-next_forth : {k b : ℕ} {s r : Syntax} {w u v : List ℕ} → (os : List Opened) (e p : Syntax) (m : Mode) (c : ClassReader) (t : Syntax) → k + length os ≡ 64 → MorePieces k p s (b ∷ w) u → MoreAlternatives k (either e s) r u v → Closes k os t r v → IsNext (mark_of b) × Taken (piece_step (state os (opened e p) m c) (mark_of b) b) t w
+next_forth : {k b : ℕ} {s r : Syntax} {w u v : List ℕ} → (os : List Opened) (e p : Syntax) (m : Mode) (c : ClassReader) (t : Syntax) → k + length os ≡ 64 → MorePieces k p s (b ∷ w) u → MoreAlternatives k (either e s) r u v → Closes k os t r v → IsNext (role_of b) × Taken (piece_step (state os (opened e p) m c) (role_of b) b) t w
 next_forth {k} {b} {w = w} os e p m c t h no_piece no_alternative q =
     let f = closes_forth k b w os e p m c t h q in
-    subst (λ x. IsNext (mark_of x) × Taken (piece_step (state os (opened e p) m c) (mark_of x) x) t w) (sym f.0) (tt, f.1)
+    subst (λ x. IsNext (role_of x) × Taken (piece_step (state os (opened e p) m c) (role_of x) x) t w) (sym f.0) (tt, f.1)
 next_forth {k} os e p m c t h no_piece (one_alternative (pieces x y) a) q =
     (tt, (state os (opened (either e p) empty) Start c, refl, (k, h, piece_atom (Closes k os t) x (_, _, y, (_, _, a, q)))))
 next_forth {k} {b} {w = w} os e p m c t h (one_piece x y) a q =
     let first = piece_first x in
     let taken = start_forth k b w os e p m c t h (piece_atom (Closes k os t) x (_, _, y, (_, _, a, q))) in
-    (first_next (mark_of b) first, subst (λ o. Taken o t w) (sym (piece_is_start (state os (opened e p) m c) (mark_of b) b first)) taken)
+    (first_next (role_of b) first, subst (λ o. Taken o t w) (sym (piece_is_start (state os (opened e p) m c) (role_of b) b first)) taken)
 
-pieces_forth : (k : ℕ) (b : ℕ) (w : List ℕ) (os : List Opened) (e p : Syntax) (m : Mode) (c : ClassReader) (t : Syntax) → k + length os ≡ 64 → Pieces k (Closes k os t) e p (b ∷ w) → IsNext (mark_of b) × Taken (piece_step (state os (opened e p) m c) (mark_of b) b) t w
+pieces_forth : (k : ℕ) (b : ℕ) (w : List ℕ) (os : List Opened) (e p : Syntax) (m : Mode) (c : ClassReader) (t : Syntax) → k + length os ≡ 64 → Pieces k (Closes k os t) e p (b ∷ w) → IsNext (role_of b) × Taken (piece_step (state os (opened e p) m c) (role_of b) b) t w
 pieces_forth k b w os e p m c t h (s, u, x, (r, v, a, q)) = next_forth os e p m c t h x a q
 
-count_forth : {k b n : ℕ} {i : Option ℕ} {w u : List ℕ} → (os : List Opened) (e p a : Syntax) (m : Mode) (c : ClassReader) (t : Syntax) → k + length os ≡ 64 → IsCount n i (b ∷ w) u → Pieces k (Closes k os t) e (followed p (repeat n i a)) u → Taken (atom_step (state os (opened e p) m c) a (mark_of b) b) t w
+count_forth : {k b n : ℕ} {i : Option ℕ} {w u : List ℕ} → (os : List Opened) (e p a : Syntax) (m : Mode) (c : ClassReader) (t : Syntax) → k + length os ≡ 64 → IsCount n i (b ∷ w) u → Pieces k (Closes k os t) e (followed p (repeat n i a)) u → Taken (atom_step (state os (opened e p) m c) a (role_of b) b) t w
 count_forth {k} os e p a m c t h star r = (state os (opened e (followed p (repeat 0 None a))) Piece c, refl, (k, h, r))
 count_forth {k} os e p a m c t h plus r = (state os (opened e (followed p (repeat 1 None a))) Piece c, refl, (k, h, r))
 count_forth {k} os e p a m c t h question r = (state os (opened e (followed p (repeat 0 (Some 1) a))) Piece c, refl, (k, h, r))
@@ -203,10 +203,10 @@ count_forth {k} os e p a m c t h (syntax.exactly x le) r = (state os (opened e p
 count_forth {k} os e p a m c t h (at_least x le) r = (state os (opened e p) (Bounds a bounds_at.Start) c, refl, (k, h, (_, _, _, count_start (at_least x le), r)))
 count_forth {k} os e p a m c t h (between x y low high) r = (state os (opened e p) (Bounds a bounds_at.Start) c, refl, (k, h, (_, _, _, count_start (between x y low high), r)))
 
-after_forth : (k : ℕ) (b : ℕ) (w : List ℕ) (os : List Opened) (e p a : Syntax) (m : Mode) (c : ClassReader) (t : Syntax) → k + length os ≡ 64 → AfterAtom k (Closes k os t) e p a (b ∷ w) → Taken (atom_step (state os (opened e p) m c) a (mark_of b) b) t w
+after_forth : (k : ℕ) (b : ℕ) (w : List ℕ) (os : List Opened) (e p a : Syntax) (m : Mode) (c : ClassReader) (t : Syntax) → k + length os ≡ 64 → AfterAtom k (Closes k os t) e p a (b ∷ w) → Taken (atom_step (state os (opened e p) m c) a (role_of b) b) t w
 after_forth k b w os e p a m c t h (inl r) =
     let f = pieces_forth k b w os e (followed p a) m c t h r in
-    subst (λ o. Taken o t w) (sym (atom_is_piece (state os (opened e p) m c) a (mark_of b) b f.0)) f.1
+    subst (λ o. Taken o t w) (sym (atom_is_piece (state os (opened e p) m c) a (role_of b) b f.0)) f.1
 after_forth k b w os e p a m c t h (inr (n, i, u, x, r)) = count_forth os e p a m c t h x r
 
 escaped_forth : (k : ℕ) (b : ℕ) (w : List ℕ) (os : List Opened) (e p : Syntax) (m : Mode) (c : ClassReader) (t : Syntax) (x : EscapePlace) → k + length os ≡ 64 → ModeRest k (Closes k os t) (opened e p) c (Escape x) (b ∷ w) → Taken (escaped_step (state os (opened e p) m c) (escape_step x b)) t w

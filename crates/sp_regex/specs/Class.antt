@@ -1,8 +1,8 @@
 -- Classes: how far one is read, and what the next byte leads to. For private functions.
 use Rattle.std.specs.Prelude.{◌≡◌, ℕ, ◌+◌, ◌*◌, ◌++◌, [], ◌∷◌, ◌&&◌, ◌||◌, Bool, true, false, not, List, Option, Some, None, nat_le, nat_lt, if◌then◌else◌}
 use Rattle.sp_regex.specs.declared.bytes.ByteRange.{ByteRange}
-use Rattle.sp_regex.specs.declared.bytes.ClassMark.{ClassMark}
-use Rattle.sp_regex.specs.declared.bytes.ClassMark.TheVariants as mark
+use Rattle.sp_regex.specs.declared.bytes.ClassByteRole.{ClassByteRole}
+use Rattle.sp_regex.specs.declared.bytes.ClassByteRole.TheVariants as role
 use Rattle.sp_regex.specs.declared.escape.EscapePlace.{EscapePlace}
 use Rattle.sp_regex.specs.declared.escape.EscapePlace.TheVariants as escape
 use Rattle.sp_regex.specs.declared.escape.EscapeStep.{EscapeStep}
@@ -12,7 +12,7 @@ use Rattle.sp_regex.specs.declared.class.ClassPlace.TheVariants.{Open, Empty, It
 use Rattle.sp_regex.specs.declared.class.ClassReader.{ClassReader}
 use Rattle.sp_regex.specs.declared.class.ClassStep.{ClassStep}
 use Rattle.sp_regex.specs.declared.class.ClassStep.TheVariants as answer
-use Rattle.sp_regex.specs.Bytes.{class_mark_of, hex_value}
+use Rattle.sp_regex.specs.Bytes.{class_role_of, hex_value}
 use Rattle.sp_regex.specs.Escapes.{escape_step}
 use Rattle.sp_regex.specs.Trees.{range_of}
 use Rattle.sp_regex.specs.Room.{leaves_byte}
@@ -48,28 +48,28 @@ first_step c b = if leaves c (range_of b b) then goes (at_place c (After b)) els
 abbrev pub range_step : ClassReader → ℕ → ℕ → Outcome
 range_step c f t = if nat_le f t && leaves c (range_of f t) then goes (at_place (with_range c (range_of f t)) Items) else refused
 
-abbrev pub item_step : ClassReader → ClassMark → ℕ → Outcome
-item_step c mark.Plain b = first_step c b
-item_step c mark.Caret b = first_step c b
-item_step c mark.Backslash b = goes (at_place c (Escape escape.Start))
+abbrev pub item_step : ClassReader → ClassByteRole → ℕ → Outcome
+item_step c role.Plain b = first_step c b
+item_step c role.Caret b = first_step c b
+item_step c role.Backslash b = goes (at_place c (Escape escape.Start))
 item_step c _ b = refused
 
-abbrev pub open_step : ClassReader → ClassMark → ℕ → Outcome
-open_step c mark.Caret b = goes (reader true c.ranges Empty)
+abbrev pub open_step : ClassReader → ClassByteRole → ℕ → Outcome
+open_step c role.Caret b = goes (reader true c.ranges Empty)
 open_step c m b = item_step c m b
 
-abbrev pub more_step : ClassReader → ClassMark → ℕ → Outcome
-more_step c mark.Close b = ends c
+abbrev pub more_step : ClassReader → ClassByteRole → ℕ → Outcome
+more_step c role.Close b = ends c
 more_step c m b = item_step c m b
 
-abbrev pub after_step : ClassReader → ℕ → ClassMark → ℕ → Outcome
-after_step c f mark.Dash b = goes (at_place c (From f))
+abbrev pub after_step : ClassReader → ℕ → ClassByteRole → ℕ → Outcome
+after_step c f role.Dash b = goes (at_place c (From f))
 after_step c f m b = more_step (with_range c (range_of f f)) m b
 
-abbrev pub to_step : ClassReader → ℕ → ClassMark → ℕ → Outcome
-to_step c f mark.Plain b = range_step c f b
-to_step c f mark.Caret b = range_step c f b
-to_step c f mark.Backslash b = goes (at_place c (EscapeTo f escape.Start))
+abbrev pub to_step : ClassReader → ℕ → ClassByteRole → ℕ → Outcome
+to_step c f role.Plain b = range_step c f b
+to_step c f role.Caret b = range_step c f b
+to_step c f role.Backslash b = goes (at_place c (EscapeTo f escape.Start))
 to_step c f _ b = refused
 
 abbrev pub escaped_step : ClassReader → EscapeStep → Outcome
@@ -96,11 +96,11 @@ escaped_to_step c f (step.Ends b) = range_step c f b
 escaped_to_step c f step.Refused = refused
 
 abbrev pub place_step : ClassReader → ClassPlace → ℕ → Outcome
-place_step c Open b = open_step c (class_mark_of b) b
-place_step c Empty b = item_step c (class_mark_of b) b
-place_step c Items b = more_step c (class_mark_of b) b
-place_step c (After f) b = after_step c f (class_mark_of b) b
-place_step c (From f) b = to_step c f (class_mark_of b) b
+place_step c Open b = open_step c (class_role_of b) b
+place_step c Empty b = item_step c (class_role_of b) b
+place_step c Items b = more_step c (class_role_of b) b
+place_step c (After f) b = after_step c f (class_role_of b) b
+place_step c (From f) b = to_step c f (class_role_of b) b
 place_step c (Escape p) b = escaped_step c (escape_step p b)
 place_step c (EscapeTo f p) b = escaped_to_step c f (escape_step p b)
 

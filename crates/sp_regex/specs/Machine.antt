@@ -1,8 +1,8 @@
 -- The reading of a text byte by byte. Contracts of private functions alone cite this: what `parse` promises
 -- is said by the written syntax (`Syntax`).
 use Rattle.std.specs.Prelude.{◌≡◌, ℕ, Bool, true, false, List, [], ◌∷◌, length, Option, Some, None, nat_lt, if◌then◌else◌}
-use Rattle.sp_regex.specs.declared.bytes.Mark.{Mark}
-use Rattle.sp_regex.specs.declared.bytes.Mark.TheVariants as mark
+use Rattle.sp_regex.specs.declared.bytes.ByteRole.{ByteRole}
+use Rattle.sp_regex.specs.declared.bytes.ByteRole.TheVariants as role
 use Rattle.sp_regex.specs.declared.escape.EscapePlace.TheVariants as escape
 use Rattle.sp_regex.specs.declared.escape.EscapeStep.{EscapeStep}
 use Rattle.sp_regex.specs.declared.escape.EscapeStep.TheVariants as escape_to
@@ -14,7 +14,7 @@ use Rattle.sp_regex.specs.declared.class.ClassReader.{ClassReader}
 use Rattle.sp_regex.specs.declared.reader.Mode.{Mode}
 use Rattle.sp_regex.specs.declared.reader.Mode.TheVariants.{Start, Atom, Piece, Escape, Class, Bounds}
 use Rattle.sp_regex.specs.Trees.{Syntax, byte, any, class, empty, followed, never, either, repeat}
-use Rattle.sp_regex.specs.Bytes.{mark_of}
+use Rattle.sp_regex.specs.Bytes.{role_of}
 use Rattle.sp_regex.specs.Escapes.{escape_step}
 use Rattle.sp_regex.specs.Bounds.{bounds_step}
 use Rattle.sp_regex.specs.Class.{Outcome, goes, ends, refused, class_step, reader}
@@ -58,24 +58,24 @@ group_end_in (o ∷ os) l c = Some (state os o (Atom (either l.earlier l.pieces)
 abbrev pub group_end : State → Option State
 group_end s = group_end_in s.outer s.level s.class
 
-abbrev pub start_step : State → Mark → ℕ → Option State
-start_step s mark.Plain b = Some (at_mode s (Atom (byte b)))
-start_step s mark.Dot b = Some (at_mode s (Atom any))
-start_step s mark.ClassOpen b = Some (state s.outer s.level Class (reader false [] class_at.Open))
-start_step s mark.GroupOpen b = group_start s
-start_step s mark.Backslash b = Some (at_mode s (Escape escape.Start))
+abbrev pub start_step : State → ByteRole → ℕ → Option State
+start_step s role.Plain b = Some (at_mode s (Atom (byte b)))
+start_step s role.Dot b = Some (at_mode s (Atom any))
+start_step s role.ClassOpen b = Some (state s.outer s.level Class (reader false [] class_at.Open))
+start_step s role.GroupOpen b = group_start s
+start_step s role.Backslash b = Some (at_mode s (Escape escape.Start))
 start_step s _ b = None
 
-abbrev pub piece_step : State → Mark → ℕ → Option State
-piece_step s mark.Bar b = Some (state s.outer (opened (either s.level.earlier s.level.pieces) empty) Start s.class)
-piece_step s mark.GroupClose b = group_end s
+abbrev pub piece_step : State → ByteRole → ℕ → Option State
+piece_step s role.Bar b = Some (state s.outer (opened (either s.level.earlier s.level.pieces) empty) Start s.class)
+piece_step s role.GroupClose b = group_end s
 piece_step s m b = start_step s m b
 
-abbrev pub atom_step : State → Syntax → Mark → ℕ → Option State
-atom_step s a mark.Star b = Some (repeated s a 0 None)
-atom_step s a mark.Plus b = Some (repeated s a 1 None)
-atom_step s a mark.Question b = Some (repeated s a 0 (Some 1))
-atom_step s a mark.BoundsOpen b = Some (at_mode s (Bounds a bounds.Start))
+abbrev pub atom_step : State → Syntax → ByteRole → ℕ → Option State
+atom_step s a role.Star b = Some (repeated s a 0 None)
+atom_step s a role.Plus b = Some (repeated s a 1 None)
+atom_step s a role.Question b = Some (repeated s a 0 (Some 1))
+atom_step s a role.BoundsOpen b = Some (at_mode s (Bounds a bounds.Start))
 atom_step s a m b = piece_step (with_piece s a) m b
 
 abbrev pub escaped_step : State → EscapeStep → Option State
@@ -94,9 +94,9 @@ bounded_step s a (bounds_to.Ends c) = Some (repeated s a c.least c.most)
 bounded_step s a bounds_to.Refused = None
 
 abbrev pub mode_step : State → Mode → ℕ → Option State
-mode_step s Start b = start_step s (mark_of b) b
-mode_step s (Atom a) b = atom_step s a (mark_of b) b
-mode_step s Piece b = piece_step s (mark_of b) b
+mode_step s Start b = start_step s (role_of b) b
+mode_step s (Atom a) b = atom_step s a (role_of b) b
+mode_step s Piece b = piece_step s (role_of b) b
 mode_step s (Escape p) b = escaped_step s (escape_step p b)
 mode_step s Class b = classed_step s (class_step s.class b)
 mode_step s (Bounds a p) b = bounded_step s a (bounds_step p b)

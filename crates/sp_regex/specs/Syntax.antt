@@ -2,21 +2,21 @@
 -- In each relation a list `w` stands, what is named is read from its front, and `v` is left of it.
 use Rattle.std.specs.Prelude.{◌≡◌, ℕ, suc, ◌+◌, ◌*◌, ◌<◌, ◌≤◌, ◌++◌, Bool, true, false, not, List, [], ◌∷◌, length, take, Option, Some, None, if◌then◌else◌}
 use Rattle.sp_regex.specs.declared.bytes.ByteRange.{ByteRange}
-use Rattle.sp_regex.specs.declared.bytes.Mark.TheVariants as mark
-use Rattle.sp_regex.specs.declared.bytes.ClassMark.TheVariants as class_mark
+use Rattle.sp_regex.specs.declared.bytes.ByteRole.TheVariants as role
+use Rattle.sp_regex.specs.declared.bytes.ClassByteRole.TheVariants as class_role
 use Rattle.sp_regex.specs.declared.bytes.Escaped.TheVariants.{Byte}
-use Rattle.sp_regex.specs.Bytes.{mark_of, class_mark_of, escaped_of, hex_value_of_two, decimal_value, is_covered}
+use Rattle.sp_regex.specs.Bytes.{role_of, class_role_of, escaped_of, hex_value_of_two, decimal_value, is_covered}
 use Rattle.sp_regex.specs.Trees.{Syntax, byte, any, class, empty, followed, never, either, repeat, range_of}
 
--- an escape of the byte c: \n and its like, a mark behind \, or \x and two hexadecimal digits
+-- an escape of the byte c: \n and its like, a metacharacter behind \, or \x and two hexadecimal digits
 pub data IsEscape : ℕ → List ℕ → List ℕ → Type 0 where
   short : {b c : ℕ} {w : List ℕ} → escaped_of b ≡ Byte c → IsEscape c (92 ∷ b ∷ w) w
   hex : {high low c : ℕ} {w : List ℕ} → hex_value_of_two high low ≡ Some c → IsEscape c (92 ∷ 120 ∷ high ∷ low ∷ w) w
 
 -- a byte of a class: itself, or an escape
 pub data IsClassByte : ℕ → List ℕ → List ℕ → Type 0 where
-  plain : {b : ℕ} {w : List ℕ} → class_mark_of b ≡ class_mark.Plain → IsClassByte b (b ∷ w) w
-  caret : {b : ℕ} {w : List ℕ} → class_mark_of b ≡ class_mark.Caret → IsClassByte b (b ∷ w) w
+  plain : {b : ℕ} {w : List ℕ} → class_role_of b ≡ class_role.Plain → IsClassByte b (b ∷ w) w
+  caret : {b : ℕ} {w : List ℕ} → class_role_of b ≡ class_role.Caret → IsClassByte b (b ∷ w) w
   escaped : {b : ℕ} {w v : List ℕ} → IsEscape b w v → IsClassByte b w v
 
 -- an item of a class: a byte, or two with a dash between them
@@ -67,7 +67,7 @@ pub data IsCount : ℕ → Option ℕ → List ℕ → List ℕ → Type 0 where
 mutual
   -- an atom, in which k groups may stand within one another
   pub data IsAtom : ℕ → Syntax → List ℕ → List ℕ → Type 0 where
-    plain_byte : {k b : ℕ} {w : List ℕ} → mark_of b ≡ mark.Plain → IsAtom k (byte b) (b ∷ w) w
+    plain_byte : {k b : ℕ} {w : List ℕ} → role_of b ≡ role.Plain → IsAtom k (byte b) (b ∷ w) w
     any_byte : {k : ℕ} {w : List ℕ} → IsAtom k any (46 ∷ w) w
     escaped_byte : {k b : ℕ} {w v : List ℕ} → IsEscape b w v → IsAtom k (byte b) w v
     byte_class : {k : ℕ} {negated : Bool} {rs : List ByteRange} {w v : List ℕ} → IsClass negated rs w v → IsAtom k (class negated rs) w v

@@ -1,6 +1,6 @@
 // What a byte of a text stands for, outside classes, inside them, and behind a backslash.
 ghost use Rattle.std.specs.Prelude.{◌≡◌, ◌<◌, IfSome};
-ghost use Rattle.sp_regex.specs.Bytes.{is_within, mark_of, class_mark_of, escaped_of, hex_value, hex_value_of_two, decimal_value};
+ghost use Rattle.sp_regex.specs.Bytes.{is_within, role_of, class_role_of, escaped_of, hex_value, hex_value_of_two, decimal_value};
 
 /// The bytes from `from` up to `to`, both of them included.
 #[derive(Clone, Copy)]
@@ -19,7 +19,7 @@ impl ByteRange {
 
 /// What a byte stands for outside classes.
 #[derive(Clone, Copy)]
-pub enum Mark {
+pub enum ByteRole {
     /// Itself.
     Plain,
     /// Any byte.
@@ -42,34 +42,34 @@ pub enum Mark {
     BoundsOpen,
     /// The start of an escape.
     Backslash,
-    /// A mark that stands nowhere unescaped outside classes and bounds.
+    /// A metacharacter that stands nowhere unescaped outside classes and bounds.
     Misplaced,
 }
 
-impl Mark {
-    pub fn of(byte: u8) -> Mark
-        ensures { result ≡ mark_of byte }
+impl ByteRole {
+    pub fn of(byte: u8) -> ByteRole
+        ensures { result ≡ role_of byte }
     {
         match byte {
-            b'.' => Mark::Dot,
-            b'[' => Mark::ClassOpen,
-            b'(' => Mark::GroupOpen,
-            b')' => Mark::GroupClose,
-            b'|' => Mark::Bar,
-            b'*' => Mark::Star,
-            b'+' => Mark::Plus,
-            b'?' => Mark::Question,
-            b'{' => Mark::BoundsOpen,
-            b'\\' => Mark::Backslash,
-            b']' | b'}' | b'/' | b'^' | b'$' => Mark::Misplaced,
-            _ => Mark::Plain,
+            b'.' => ByteRole::Dot,
+            b'[' => ByteRole::ClassOpen,
+            b'(' => ByteRole::GroupOpen,
+            b')' => ByteRole::GroupClose,
+            b'|' => ByteRole::Bar,
+            b'*' => ByteRole::Star,
+            b'+' => ByteRole::Plus,
+            b'?' => ByteRole::Question,
+            b'{' => ByteRole::BoundsOpen,
+            b'\\' => ByteRole::Backslash,
+            b']' | b'}' | b'/' | b'^' | b'$' => ByteRole::Misplaced,
+            _ => ByteRole::Plain,
         }
     }
 }
 
 /// What a byte stands for in a class.
 #[derive(Clone, Copy)]
-pub enum ClassMark {
+pub enum ClassByteRole {
     /// Itself.
     Plain,
     /// Itself, or right behind the opening bracket the sign of all other bytes.
@@ -84,18 +84,18 @@ pub enum ClassMark {
     Misplaced,
 }
 
-impl ClassMark {
-    pub fn of(byte: u8) -> ClassMark
-        ensures { result ≡ class_mark_of byte }
+impl ClassByteRole {
+    pub fn of(byte: u8) -> ClassByteRole
+        ensures { result ≡ class_role_of byte }
     {
         match byte {
-            b'^' => ClassMark::Caret,
-            b'-' => ClassMark::Dash,
-            b']' => ClassMark::Close,
-            b'\\' => ClassMark::Backslash,
-            b'/' => ClassMark::Misplaced,
-            0..=127 => ClassMark::Plain,
-            _ => ClassMark::Misplaced,
+            b'^' => ClassByteRole::Caret,
+            b'-' => ClassByteRole::Dash,
+            b']' => ClassByteRole::Close,
+            b'\\' => ClassByteRole::Backslash,
+            b'/' => ClassByteRole::Misplaced,
+            0..=127 => ClassByteRole::Plain,
+            _ => ClassByteRole::Misplaced,
         }
     }
 }
@@ -121,8 +121,8 @@ impl Escaped {
             b't' => Escaped::Byte(b'\t'),
             b'x' => Escaped::Hex,
             b'"' | b'-' => Escaped::Byte(byte),
-            _ => match Mark::of(byte) {
-                Mark::Plain => Escaped::Misplaced,
+            _ => match ByteRole::of(byte) {
+                ByteRole::Plain => Escaped::Misplaced,
                 _ => Escaped::Byte(byte),
             },
         }

@@ -5,7 +5,7 @@ ghost use Rattle.sp_regex.specs.Bytes.{is_within};
 ghost use Rattle.sp_regex.specs.Class.{leaves, class_step, first_step, item_step, range_step, to_step, open_step, more_step, after_step, escaped_step, escaped_to_step, can_end, can_end_with, IsClassStep};
 ghost use Rattle.sp_regex.specs.Escapes.{escape_step};
 
-use crate::bytes::{ByteRange, ClassMark, hex_digit};
+use crate::bytes::{ByteRange, ClassByteRole, hex_digit};
 use crate::escape::{EscapePlace, EscapeStep};
 use sp_base::NoMemory;
 use std::alloc::Global;
@@ -141,13 +141,13 @@ impl ClassReader {
     pub fn step(&mut self, byte: u8) -> Result<ClassStep, NoMemory>
         ensures { IfOk result (λ s. IsClassStep s self.new (class_step self.old byte)) }
     {
-        let mark = ClassMark::of(byte);
+        let role = ClassByteRole::of(byte);
         match self.place {
-            ClassPlace::Open => Ok(self.opened(mark, byte)),
-            ClassPlace::Empty => Ok(self.item(mark, byte)),
-            ClassPlace::Items => Ok(self.more(mark, byte)),
-            ClassPlace::After(from) => self.after(from, mark, byte),
-            ClassPlace::From(from) => self.to(from, mark, byte),
+            ClassPlace::Open => Ok(self.opened(role, byte)),
+            ClassPlace::Empty => Ok(self.item(role, byte)),
+            ClassPlace::Items => Ok(self.more(role, byte)),
+            ClassPlace::After(from) => self.after(from, role, byte),
+            ClassPlace::From(from) => self.to(from, role, byte),
             ClassPlace::Escape(place) => Ok(self.escape(place, byte)),
             ClassPlace::EscapeTo(from, place) => self.escape_to(from, place, byte),
         }
@@ -192,59 +192,59 @@ impl ClassReader {
     }
 
     // The first byte of an item.
-    fn item(&mut self, mark: ClassMark, byte: u8) -> ClassStep
-        ensures { IsClassStep result self.new (item_step self.old mark byte) }
+    fn item(&mut self, role: ClassByteRole, byte: u8) -> ClassStep
+        ensures { IsClassStep result self.new (item_step self.old role byte) }
     {
-        match mark {
-            ClassMark::Plain | ClassMark::Caret => self.first(byte),
-            ClassMark::Backslash => self.goes(ClassPlace::Escape(EscapePlace::Start)),
+        match role {
+            ClassByteRole::Plain | ClassByteRole::Caret => self.first(byte),
+            ClassByteRole::Backslash => self.goes(ClassPlace::Escape(EscapePlace::Start)),
             _ => ClassStep::Refused,
         }
     }
 
     // The first byte behind the opening bracket.
-    fn opened(&mut self, mark: ClassMark, byte: u8) -> ClassStep
-        ensures { IsClassStep result self.new (open_step self.old mark byte) }
+    fn opened(&mut self, role: ClassByteRole, byte: u8) -> ClassStep
+        ensures { IsClassStep result self.new (open_step self.old role byte) }
     {
-        match mark {
-            ClassMark::Caret => {
+        match role {
+            ClassByteRole::Caret => {
                 self.negated = true;
                 self.goes(ClassPlace::Empty)
             }
-            _ => self.item(mark, byte),
+            _ => self.item(role, byte),
         }
     }
 
     // The first byte behind an item.
-    fn more(&mut self, mark: ClassMark, byte: u8) -> ClassStep
-        ensures { IsClassStep result self.new (more_step self.old mark byte) }
+    fn more(&mut self, role: ClassByteRole, byte: u8) -> ClassStep
+        ensures { IsClassStep result self.new (more_step self.old role byte) }
     {
-        match mark {
-            ClassMark::Close => ClassStep::Ends,
-            _ => self.item(mark, byte),
+        match role {
+            ClassByteRole::Close => ClassStep::Ends,
+            _ => self.item(role, byte),
         }
     }
 
     // The first byte behind a byte that may begin a range.
-    fn after(&mut self, from: u8, mark: ClassMark, byte: u8) -> Result<ClassStep, NoMemory>
-        ensures { IfOk result (λ s. IsClassStep s self.new (after_step self.old from mark byte)) }
+    fn after(&mut self, from: u8, role: ClassByteRole, byte: u8) -> Result<ClassStep, NoMemory>
+        ensures { IfOk result (λ s. IsClassStep s self.new (after_step self.old from role byte)) }
     {
-        match mark {
-            ClassMark::Dash => Ok(self.goes(ClassPlace::From(from))),
+        match role {
+            ClassByteRole::Dash => Ok(self.goes(ClassPlace::From(from))),
             _ => {
                 self.ranges.push(ByteRange { from, to: from })?;
-                Ok(self.more(mark, byte))
+                Ok(self.more(role, byte))
             }
         }
     }
 
     // The first byte behind the dash of a range.
-    fn to(&mut self, from: u8, mark: ClassMark, byte: u8) -> Result<ClassStep, NoMemory>
-        ensures { IfOk result (λ s. IsClassStep s self.new (to_step self.old from mark byte)) }
+    fn to(&mut self, from: u8, role: ClassByteRole, byte: u8) -> Result<ClassStep, NoMemory>
+        ensures { IfOk result (λ s. IsClassStep s self.new (to_step self.old from role byte)) }
     {
-        match mark {
-            ClassMark::Plain | ClassMark::Caret => self.range(from, byte),
-            ClassMark::Backslash => {
+        match role {
+            ClassByteRole::Plain | ClassByteRole::Caret => self.range(from, byte),
+            ClassByteRole::Backslash => {
                 Ok(self.goes(ClassPlace::EscapeTo(from, EscapePlace::Start)))
             }
             _ => Ok(ClassStep::Refused),

@@ -7,7 +7,7 @@ ghost use Rattle.sp_regex.specs.Class.{class_step};
 ghost use Rattle.sp_regex.specs.Machine.{initial, step, finished, IsStep, at_mode, start_step, piece_step, atom_step, escaped_step, classed_step, bounded_step, group_start, group_end, repeated};
 
 use crate::bounds::{BoundsPlace, BoundsStep};
-use crate::bytes::Mark;
+use crate::bytes::ByteRole;
 use crate::class::{ClassPlace, ClassReader, ClassStep, Ranges};
 use crate::escape::{EscapePlace, EscapeStep};
 use crate::level::Level;
@@ -82,9 +82,9 @@ impl Reader {
         ensures { IfOk result (λ taken. IsStep taken self.new (step self.old byte)) }
     {
         match std::mem::replace(&mut self.mode, Mode::Start) {
-            Mode::Start => self.start(Mark::of(byte), byte),
-            Mode::Atom(atom) => self.after_atom(atom, Mark::of(byte), byte),
-            Mode::Piece => self.after_piece(Mark::of(byte), byte),
+            Mode::Start => self.start(ByteRole::of(byte), byte),
+            Mode::Atom(atom) => self.after_atom(atom, ByteRole::of(byte), byte),
+            Mode::Piece => self.after_piece(ByteRole::of(byte), byte),
             Mode::Escape(place) => Ok(self.escape(place.step(byte))),
             Mode::Class => self.class(byte),
             Mode::Bounds(atom, place) => self.bounds(atom, place.step(byte)),
@@ -116,20 +116,20 @@ impl Reader {
     }
 
     // The first byte of an atom.
-    fn start(&mut self, mark: Mark, byte: u8) -> Result<bool, NoMemory>
-        ensures { IfOk result (λ taken. IsStep taken self.new (start_step self.old mark byte)) }
+    fn start(&mut self, role: ByteRole, byte: u8) -> Result<bool, NoMemory>
+        ensures { IfOk result (λ taken. IsStep taken self.new (start_step self.old role byte)) }
     {
-        match mark {
-            Mark::Plain => Ok(self.goes(Mode::Atom(Regex::byte(byte)))),
-            Mark::Dot => Ok(self.goes(Mode::Atom(Regex::any()))),
-            Mark::ClassOpen => {
+        match role {
+            ByteRole::Plain => Ok(self.goes(Mode::Atom(Regex::byte(byte)))),
+            ByteRole::Dot => Ok(self.goes(Mode::Atom(Regex::any()))),
+            ByteRole::ClassOpen => {
                 self.class.negated = false;
                 self.class.place = ClassPlace::Open;
                 let _none = self.class.ranges.take();
                 Ok(self.goes(Mode::Class))
             }
-            Mark::GroupOpen => self.open_group(),
-            Mark::Backslash => Ok(self.goes(Mode::Escape(EscapePlace::Start))),
+            ByteRole::GroupOpen => self.open_group(),
+            ByteRole::Backslash => Ok(self.goes(Mode::Escape(EscapePlace::Start))),
             _ => Ok(false),
         }
     }
@@ -156,31 +156,31 @@ impl Reader {
     }
 
     // The byte behind a piece that is whole.
-    fn after_piece(&mut self, mark: Mark, byte: u8) -> Result<bool, NoMemory>
-        ensures { IfOk result (λ taken. IsStep taken self.new (piece_step self.old mark byte)) }
+    fn after_piece(&mut self, role: ByteRole, byte: u8) -> Result<bool, NoMemory>
+        ensures { IfOk result (λ taken. IsStep taken self.new (piece_step self.old role byte)) }
     {
-        match mark {
-            Mark::Bar => {
+        match role {
+            ByteRole::Bar => {
                 self.level.end_alternative()?;
                 Ok(self.goes(Mode::Start))
             }
-            Mark::GroupClose => self.close_group(),
-            _ => self.start(mark, byte),
+            ByteRole::GroupClose => self.close_group(),
+            _ => self.start(role, byte),
         }
     }
 
     // The byte behind an atom that may be repeated.
-    fn after_atom(&mut self, atom: Regex, mark: Mark, byte: u8) -> Result<bool, NoMemory>
-        ensures { IfOk result (λ taken. IsStep taken self.new (atom_step self.old atom mark byte)) }
+    fn after_atom(&mut self, atom: Regex, role: ByteRole, byte: u8) -> Result<bool, NoMemory>
+        ensures { IfOk result (λ taken. IsStep taken self.new (atom_step self.old atom role byte)) }
     {
-        match mark {
-            Mark::Star => self.repeat(atom, 0, None),
-            Mark::Plus => self.repeat(atom, 1, None),
-            Mark::Question => self.repeat(atom, 0, Some(1)),
-            Mark::BoundsOpen => Ok(self.goes(Mode::Bounds(atom, BoundsPlace::Start))),
+        match role {
+            ByteRole::Star => self.repeat(atom, 0, None),
+            ByteRole::Plus => self.repeat(atom, 1, None),
+            ByteRole::Question => self.repeat(atom, 0, Some(1)),
+            ByteRole::BoundsOpen => Ok(self.goes(Mode::Bounds(atom, BoundsPlace::Start))),
             _ => {
                 self.level.push(atom)?;
-                self.after_piece(mark, byte)
+                self.after_piece(role, byte)
             }
         }
     }

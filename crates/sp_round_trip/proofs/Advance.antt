@@ -7,18 +7,20 @@ use Rattle.sp_parser.specs.declared.symbol.Symbol.{Symbol}
 use Rattle.sp_parser.specs.declared.symbol.Symbol.TheVariants as symbol
 use Rattle.sp_parser.specs.Grammar.{Take, Nothing, All, takes, CLOSE, GREATER, SECOND}
 use Rattle.sp_grammar.specs.declared.terminals.Terminal.{Terminal}
+use Rattle.sp_words.specs.declared.keywords.Keyword.TheVariants as keyword
+use Rattle.sp_words.specs.declared.punctuation.Punctuation.TheVariants as sign
 use Rattle.sp_grammar.specs.declared.terminals.Terminal.TheVariants as token
-use Rattle.sp_grammar.specs.declared.marks.Mark.{Mark}
-use Rattle.sp_grammar.specs.Marks.{mark_with}
+use Rattle.sp_grammar.specs.declared.actions.Action.{Action}
+use Rattle.sp_grammar.specs.Actions.{action_with}
 use Rattle.sp_grammar.specs.Sets.{sets}
 use Rattle.sp_grammar.specs.Terminals.{terminal_number}
 use Rattle.sp_grammar.specs.Written.{Part, part_number}
 use Rattle.sp_runs.specs.Kinds.{number_of, terminal_of}
 use Rattle.sp_ast.specs.declared.forms.Form.{Form}
-use Rattle.sp_ast.specs.declared.words.IntWord.TheVariants as integer
-use Rattle.sp_ast.specs.declared.words.HookName.TheVariants as hook_name
-use Rattle.sp_build.specs.declared.groups.Slot.{Slot}
-use Rattle.sp_build.specs.Rules.{Leaf, always, by_name, by_string, by_bytes, by_regex, by_number, by_integer, by_event, Rule, begins, leaves_out, takes as takes_leaf, gathers, closes, joins, wraps, rule}
+use Rattle.sp_words.specs.declared.words.IntWord.TheVariants as integer
+use Rattle.sp_words.specs.declared.words.HookName.TheVariants as hook_name
+use Rattle.sp_ast.specs.declared.groups.Slot.{Slot}
+use Rattle.sp_build.specs.Rules.{Leaf, always, by_name, by_string, by_bytes, by_regex, by_number, by_integer, by_hook_name, Rule, begins, leaves_out, takes as takes_leaf, gathers, closes, joins, wraps, rule}
 use Rattle.sp_build.proofs.Shapes.{and_then}
 use Rattle.sp_print.specs.declared.layouts.Piece.{Piece}
 use Rattle.sp_print.specs.declared.layouts.Piece.TheVariants as piece
@@ -43,7 +45,7 @@ is_nullable n = get_or sets.nullable (table_part n) false
 abbrev pub may_be_empty : List Symbol → Bool
 may_be_empty [] = true
 may_be_empty (symbol.Terminal e ∷ ss) = false
-may_be_empty (symbol.Mark m ∷ ss) = may_be_empty ss
+may_be_empty (symbol.Action m ∷ ss) = may_be_empty ss
 may_be_empty (symbol.Nonterminal n ∷ ss) = is_nullable n && may_be_empty ss
 
 abbrev pub is_taken : Take → Bool
@@ -54,7 +56,7 @@ is_taken _ = true
 abbrev pub comes_first : ℕ → List Symbol → Bool
 comes_first e [] = false
 comes_first e (symbol.Terminal f ∷ ss) = is_taken (takes f e)
-comes_first e (symbol.Mark m ∷ ss) = comes_first e ss
+comes_first e (symbol.Action m ∷ ss) = comes_first e ss
 comes_first e (symbol.Nonterminal n ∷ ss) = begins_with e n || (is_nullable n && comes_first e ss)
 
 -- what may come behind a production: not this token, but an `else` where one came
@@ -68,15 +70,15 @@ guard_of n = record { avoid = avoided n; kept = is_kept n }
 abbrev pub unguarded : Guard
 unguarded = record { avoid = None; kept = false }
 
-abbrev pub are_marks : List Symbol → Bool
-are_marks [] = true
-are_marks (symbol.Mark m ∷ ss) = are_marks ss
-are_marks _ = false
+abbrev pub are_actions : List Symbol → Bool
+are_actions [] = true
+are_actions (symbol.Action m ∷ ss) = are_actions ss
+are_actions _ = false
 
 -- the tokens that parts avoid
 abbrev pub is_watched : Terminal → Bool
-is_watched token.LeftParen = true
-is_watched token.Else = true
+is_watched (token.Punctuation sign.LeftParen) = true
+is_watched (token.Keyword keyword.Else) = true
 is_watched _ = false
 
 -- whether the part may stand before these symbols
@@ -84,7 +86,7 @@ abbrev pub next_fits : Option Terminal → Guard → ℕ → List Symbol → Boo
 next_fits None guard n rest = true
 next_fits (Some e) guard n rest =
     is_watched e && not (comes_first (terminal_number e) rest)
-    && (not (may_be_empty rest) || (is_avoided guard.avoid e && (not guard.kept || (is_kept n && are_marks rest))))
+    && (not (may_be_empty rest) || (is_avoided guard.avoid e && (not guard.kept || (is_kept n && are_actions rest))))
 
 -- chunks for each tree that has begun, the last one first
 abbrev pub State : Type 0
@@ -98,7 +100,7 @@ put_on ds (cs ∷ σ) = (cs ++ ds) ∷ σ
 abbrev pub add : Chunk → State → State
 add c σ = put_on (c ∷ []) σ
 
--- what a mark makes of a state, by itself or with the token that comes next
+-- what an action makes of a state, by itself or with the token that comes next
 pub data Move : Type 0 where
   stays eats : State → Move
   stuck : Move
@@ -112,7 +114,7 @@ leaf_chunk (by_bytes form) = node_chunk (form [])
 leaf_chunk (by_regex form) = node_chunk (form [])
 leaf_chunk (by_number form) = node_chunk (form 0)
 leaf_chunk (by_integer form) = node_chunk (form integer.Uint8)
-leaf_chunk (by_event form) = node_chunk (form hook_name.Init)
+leaf_chunk (by_hook_name form) = node_chunk (form hook_name.Init)
 
 abbrev pub is_all : Take → Bool
 is_all All = true
@@ -178,7 +180,7 @@ move (joins slots form) coming (cs ∷ σ) = if are_parts slots && one_each cs s
 move (wraps g form) coming (cs ∷ σ) = moved (wrapped_last form cs) σ
 move _ coming σ = stuck
 
-abbrev pub move_at : Option Mark → Option ℕ → State → Move
+abbrev pub move_at : Option Action → Option ℕ → State → Move
 move_at None coming σ = stuck
 move_at (Some m) coming σ = move (rule m) coming σ
 
@@ -205,9 +207,9 @@ then_go (eats σ) stay eat = eat σ
 abbrev pub advance : Guard → List Symbol → State → Option State
 advance guard [] σ = Some σ
 advance guard (symbol.Terminal e ∷ ss) σ = if is_read e then advance guard ss (add (word (shown_number e)) σ) else None
-advance guard (symbol.Mark m ∷ symbol.Terminal e ∷ ss) σ =
-    then_go (move_at (mark_with m) (Some e) σ) (λ next. advance guard (symbol.Terminal e ∷ ss) next) (λ next. advance guard ss next)
-advance guard (symbol.Mark m ∷ ss) σ = then_go (move_at (mark_with m) None σ) (λ next. advance guard ss next) (λ next. None)
+advance guard (symbol.Action m ∷ symbol.Terminal e ∷ ss) σ =
+    then_go (move_at (action_with m) (Some e) σ) (λ next. advance guard (symbol.Terminal e ∷ ss) next) (λ next. advance guard ss next)
+advance guard (symbol.Action m ∷ ss) σ = then_go (move_at (action_with m) None σ) (λ next. advance guard ss next) (λ next. None)
 advance guard (symbol.Nonterminal n ∷ ss) σ =
     and_then (yield_of (manner_of n)) (λ y. if next_fits (avoided n) guard n ss then advance guard ss (add (tree y) σ) else None)
 
@@ -229,5 +231,5 @@ avoids_only e (Some f) = terminal_number e == terminal_number f
 -- a production of a part is written as the part's trees are
 abbrev pub is_again : Manner → ℕ → List Symbol → Bool
 is_again (plain y) n ss = is_yield y (advance (guard_of n) ss ([] ∷ []))
-is_again (expression level) n ss = is_spelled n true (advance unguarded ss ([] ∷ [])) || (avoids_only token.LeftParen (avoided n) && is_spelled n false (advance (guard_of n) ss ([] ∷ [])))
+is_again (expression level) n ss = is_spelled n true (advance unguarded ss ([] ∷ [])) || (avoids_only (token.Punctuation sign.LeftParen) (avoided n) && is_spelled n false (advance (guard_of n) ss ([] ∷ [])))
 is_again _ n ss = false

@@ -9,8 +9,8 @@ use Rattle.sp_grammar.specs.Sentences.{IsSentence}
 use Rattle.sp_grammar.specs.declared.language.Start.TheVariants.{Module}
 use Rattle.sp_runs.specs.Kinds.{numbers_of, number_of, terminal_of}
 use Rattle.sp_ast.specs.Trees.{Tree}
-use Rattle.sp_build.specs.declared.stack.Item.TheVariants.{Begun as begun, Built as built}
-use Rattle.sp_build.specs.Groups.{is_of}
+use Rattle.sp_build.specs.Items.{begun, built}
+use Rattle.sp_ast.specs.Groups.{is_of}
 use Rattle.sp_build.specs.Starting.{group_of}
 use Rattle.sp_build.specs.Building.{Stack, all_done, no_token}
 use Rattle.sp_read_unit.specs.Modules.{IsModuleTree}
@@ -40,11 +40,11 @@ one_left tell (Some (built u ∷ [])) t e = (u, refl, cc)
 one_left tell (Some (built u ∷ x ∷ s)) t e = absurd cc
 
 pub same_tree : (first second : Lexed) (t : Tree) → told first ≡ told second → IsModuleTree first t → (u : Tree) × IsModuleTree second u × (bare t ≡ bare u)
-same_tree first second t e (marks, is, built_so, kind) =
+same_tree first second t e (actions, is, built_so, kind) =
     let here = tell_at first.text first.list in
     let there = tell_at second.text second.list in
-    let left = one_left there (all_done second.text second.list marks []) (bare t)
-    (all_held second.text second.list marks [] ∙ sym (ap (λ tell. does_all tell marks []) (fun_ext (tell_same first second e)))
-    ∙ sym (all_held first.text first.list marks []) ∙ ap (λ o. option_map (piled here) o) built_so) in
+    let left = one_left there (all_done second.text second.list actions []) (bare t)
+    (all_held second.text second.list actions [] ∙ sym (ap (λ tell. does_all tell actions []) (fun_ext (tell_same first second e)))
+    ∙ sym (all_held first.text first.list actions []) ∙ ap (λ o. option_map (piled here) o) built_so) in
     let group : is_of (group_of Module) left.0 ≡ true = sym (of_bare (group_of Module) left.0) ∙ ap (λ v. is_of (group_of Module) v) left.2 ∙ of_bare (group_of Module) t ∙ kind in
-    (left.0, (marks, subst (λ ks. IsSentence Module ks marks) (numbers_same first second e) is, left.1, group), sym left.2)
+    (left.0, (actions, subst (λ ks. IsSentence Module ks actions) (numbers_same first second e) is, left.1, group), sym left.2)

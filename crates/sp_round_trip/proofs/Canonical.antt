@@ -1,11 +1,11 @@
 -- The canonical text of a module that was read reads as the same module, apart from places. How this is proved:
 --
--- Apart from places, what marks build of a text is of what its tokens tell (Held, Machine). So a reading is one of words
+-- Apart from places, what actions build of a text is of what its tokens tell (Held, Machine). So a reading is one of words
 -- (Goes), and the readings of a text are those of the words that its tokens tell (TextReadings, ToldWords).
 -- Of each part of the grammar a claim is made: what it built is read again from its own words (Shown). In a trace each part
 -- has its claim in place of its reading (Steps). Each production has the claim if it has such a trace (Productions). This is shown
 -- - by a test, which finds by its symbols how its trees are written (Chunks, Advance): as the layout of the alternative says
---   (Laid), and from these words the marks do the same (Closing, Piles, Moves, Sound, Tested); or
+--   (Laid), and from these words the actions do the same (Closing, Piles, Moves, Sound, Tested); or
 -- - one by one, where the canonical text has other tokens, or parentheses (SpecialAlternatives, and what it cites).
 -- The words of a module don't look at places (Placeless). Each is as some token told it (Tells), and stands where it may, for
 -- what is read is formed (FormedTrees, FormedModules, PlacedWords). So the tokens of the canonical text tell these words.
@@ -19,7 +19,7 @@ use Rattle.sp_lex.specs.Lexed.{Lexed, IsLexed}
 use Rattle.sp_lex.proofs.Faultless.{has_tokens}
 use Rattle.sp_grammar.specs.declared.language.Start.TheVariants.{Module}
 use Rattle.sp_ast.specs.Trees.{Tree}
-use Rattle.sp_build.specs.Groups.{is_of}
+use Rattle.sp_ast.specs.Groups.{is_of}
 use Rattle.sp_build.specs.Starting.{group_of}
 use Rattle.sp_print.specs.Canonical.{canonical}
 use Rattle.sp_read_unit.specs.Modules.{IsModuleTree}
@@ -60,7 +60,7 @@ pub reads_back : (lexed : Lexed) (m : Tree) → IsLexed lexed.text lexed.list �
     → (tokens : List Token) → IsLexed (canonical m) tokens → (u : Tree) × IsModuleTree (record { text = canonical m; list = tokens }) u × (bare u ≡ bare m)
 reads_back lexed m is read tokens lexed_again =
     let (ws, tell) = told_words lexed is in
-    let (marks, derived, built, kind) = read in
+    let (actions, derived, built, kind) = read in
     let kind_bare : is_of (group_of Module) (bare m) ≡ true = of_bare (group_of Module) m ∙ kind in
     let anew = again (before ws []) (bare m) (goes_of_tree lexed m ws tell read) in
     tree_of_goes (record { text = canonical m; list = tokens }) (flat (module_lines m)) (bare m) (canonical_told m (lines_sound lexed m is read) tokens lexed_again)

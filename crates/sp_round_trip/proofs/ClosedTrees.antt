@@ -1,16 +1,16 @@
--- What stood on the pile is what a mark closes: all trees since it began, whatever its slots ask for, or as many as it joins.
+-- What stood on the pile is what an action closes: all trees since it began, whatever its slots ask for, or as many as it joins.
 use Rattle.std.specs.Prelude.{option_map, length, ◌+◌, if◌then◌else◌}
 use Rattle.std.proofs.Common.{◌≡◌, ℕ, zero, suc, List, [], ◌∷◌, ◌++◌, reverse, Bool, true, false, Option, Some, None, refl, sym, ◌∙◌, ap, arith}
 use Rattle.std.proofs.lemmas.List.{append-nil}
 use Rattle.sp_ast.specs.declared.forms.Form.{Form}
 use Rattle.sp_ast.specs.Trees.{Tree, tree, in_row}
-use Rattle.sp_build.specs.declared.groups.Group.{Group}
-use Rattle.sp_build.specs.declared.groups.Group.TheVariants.{Expressions as expressions}
-use Rattle.sp_build.specs.declared.groups.Sort.{Sort}
-use Rattle.sp_build.specs.declared.groups.Sort.TheVariants.{One as one}
-use Rattle.sp_build.specs.declared.groups.Slot.{Slot}
-use Rattle.sp_build.specs.declared.groups.Slot.TheVariants.{Part as a_part, Several as several}
-use Rattle.sp_build.specs.Groups.{fits, is_of, is_node}
+use Rattle.sp_ast.specs.declared.groups.Group.{Group}
+use Rattle.sp_ast.specs.declared.groups.Group.TheVariants.{Expressions as expressions}
+use Rattle.sp_ast.specs.declared.groups.Sort.{Sort}
+use Rattle.sp_ast.specs.declared.groups.Sort.TheVariants.{One as one}
+use Rattle.sp_ast.specs.declared.groups.Slot.{Slot}
+use Rattle.sp_ast.specs.declared.groups.Slot.TheVariants.{Part as a_part, Several as several}
+use Rattle.sp_ast.specs.Groups.{fits, is_of, is_node}
 use Rattle.sp_build.specs.Rules.{gathers, encloses, joins, wraps}
 use Rattle.sp_build.proofs.Standing.{some_equal, not_some}
 use Rattle.sp_build.proofs.Told.{never}

@@ -1,4 +1,4 @@
--- What the marks build of the trees on top of a pile, where these are all since one began, or as many as the mark wants.
+-- What the actions build of the trees on top of a pile, where these are all since one began, or as many as the action wants.
 -- What is built, and whether it is, does not depend on what lies below.
 use Rattle.std.specs.Prelude.{option_map, if◌then◌else◌}
 use Rattle.std.proofs.Common.{◌≡◌, zero, suc, pred, List, [], ◌∷◌, reverse, length, Bool, true, false, Option, Some, None, refl, sym, ap, subst, inl, inr, ◌∙◌}
@@ -7,11 +7,11 @@ use Rattle.std.proofs.lemmas.List.{reverse-reverse, length-reverse}
 use mathlib.Core.List.{reverse_aux}
 use Rattle.sp_ast.specs.declared.forms.Form.{Form}
 use Rattle.sp_ast.specs.Trees.{Tree, tree, in_row}
-use Rattle.sp_build.specs.declared.groups.Group.{Group}
-use Rattle.sp_build.specs.declared.groups.Sort.TheVariants.{One as one}
-use Rattle.sp_build.specs.declared.groups.Slot.{Slot}
-use Rattle.sp_build.specs.declared.groups.Slot.TheVariants.{Part as part, Several as several}
-use Rattle.sp_build.specs.Groups.{fits, is_of, is_node}
+use Rattle.sp_ast.specs.declared.groups.Group.{Group}
+use Rattle.sp_ast.specs.declared.groups.Sort.TheVariants.{One as one}
+use Rattle.sp_ast.specs.declared.groups.Slot.{Slot}
+use Rattle.sp_ast.specs.declared.groups.Slot.TheVariants.{Part as part, Several as several}
+use Rattle.sp_ast.specs.Groups.{fits, is_of, is_node}
 use Rattle.sp_build.specs.Rules.{gathers, joins, wraps}
 use Rattle.sp_build.proofs.Standing.{not_some}
 use Rattle.sp_build.proofs.Told.{never}

@@ -2,31 +2,31 @@
 use Rattle.std.specs.Prelude.{nat_lt, ◌&&◌, ◌||◌, if◌then◌else◌}
 use Rattle.std.proofs.Common.{◌≡◌, ℕ, List, [], ◌∷◌, Bool, true, false, None, refl, sym, ◌∙◌, arith, ap, subst, inl}
 use Rattle.sp_lex.specs.declared.kinds.TokenKind.TheVariants as token
-use Rattle.sp_lex.specs.declared.kinds.Keyword.TheVariants as keyword
-use Rattle.sp_lex.specs.declared.kinds.Mark.TheVariants as sign
+use Rattle.sp_words.specs.declared.keywords.Keyword.TheVariants as keyword
+use Rattle.sp_words.specs.declared.punctuation.Punctuation.TheVariants as sign
 use Rattle.sp_parser.specs.Grammar.{right, takes, All}
-use Rattle.sp_grammar.specs.declared.marks.Mark.TheVariants as build
-use Rattle.sp_grammar.specs.Written.{part as part_symbol, mark as mark_symbol, Part, part_number}
+use Rattle.sp_grammar.specs.declared.actions.Action.TheVariants as build
+use Rattle.sp_grammar.specs.Written.{part as part_symbol, action as action_symbol, Part, part_number}
 use Rattle.sp_grammar.specs.Terminals.{terminal_number}
 use Rattle.sp_grammar.specs.declared.terminals.Terminal.TheVariants as terminal
 use Rattle.sp_grammar.specs.Own.{own}
-use Rattle.sp_ast.specs.declared.operators.BinaryOp.{BinaryOp}
-use Rattle.sp_ast.specs.declared.operators.BinaryOp.TheVariants as binary
-use Rattle.sp_ast.specs.Operators.{level}
+use Rattle.sp_words.specs.declared.operators.BinaryOp.{BinaryOp}
+use Rattle.sp_words.specs.declared.operators.BinaryOp.TheVariants as binary
+use Rattle.sp_words.specs.Operators.{level}
 use Rattle.sp_ast.specs.Trees.{Tree, Trees, absent, row, node, tree, trees}
 use Rattle.sp_ast.specs.declared.forms.Form.{Form}
 use Rattle.sp_ast.specs.declared.forms.Form.TheVariants as form_is
 use Rattle.sp_ast.specs.declared.forms.ExprForm.TheVariants as expr_is
-use Rattle.sp_build.specs.declared.groups.Group.TheVariants.{Names as names, Declarations as declarations}
-use Rattle.sp_build.specs.declared.groups.Sort.TheVariants.{One as one_of, Rows as rows_of}
-use Rattle.sp_build.specs.declared.groups.Slot.{Slot}
-use Rattle.sp_build.specs.declared.groups.Slot.TheVariants.{Part as slot}
+use Rattle.sp_ast.specs.declared.groups.Group.TheVariants.{Names as names, Declarations as declarations}
+use Rattle.sp_ast.specs.declared.groups.Sort.TheVariants.{One as one_of, Rows as rows_of}
+use Rattle.sp_ast.specs.declared.groups.Slot.{Slot}
+use Rattle.sp_ast.specs.declared.groups.Slot.TheVariants.{Part as slot}
 use Rattle.sp_print.specs.Canonical.{at_place, enclosed, form_level, is_bare, is_regex, level_of, spelled}
 use Rattle.sp_print.specs.Words.{fixed, name}
 use Rattle.sp_printed_words.specs.Modules.{lines_of, module_lines}
 use Rattle.sp_round_trip.specs.Bare.{nowhere}
 use Rattle.sp_round_trip.proofs.Held.{Pile, started, made}
-use Rattle.sp_round_trip.proofs.Goes.{Tok, entire, number, next, coming, before, pushed, Goes, nothing, whole, mark, before_both}
+use Rattle.sp_round_trip.proofs.Goes.{Tok, entire, number, next, coming, before, pushed, Goes, nothing, whole, action, before_both}
 use Rattle.sp_round_trip.proofs.Shown.{Claim, Trace, one, flat, Shows}
 use Rattle.sp_round_trip.proofs.Steps.{Gather, Close, passes_token, passes_begin, passes_name, passes_part, passes_one, passes_row, passes_closes, passes_none, beside, chosen, named}
 
@@ -90,21 +90,21 @@ module_again : (x : List ℕ) (ts : List Tree) → takes (terminal_number termin
 unfolding own
 module_again x ts is_name gather closes reads =
     let rest = before (flat (lines_of (trees ts))) [] in
-    let words = entire (fixed (token.Keyword keyword.Module)) ∷ entire (name x) ∷ entire (fixed (token.Mark sign.Semicolon)) ∷ rest in
+    let words = entire (fixed (token.Keyword keyword.Module)) ∷ entire (name x) ∷ entire (fixed (token.Punctuation sign.Semicolon)) ∷ rest in
     let outer : Pile = started (next words) ∷ [] in
     let inner : Pile = started (next rest) ∷ made (named x) ∷ outer in
-    chosen (part_number Part.Module) 0 (omega arith) refl (mark build.Begin refl refl (whole refl (mark build.Name refl refl (whole is_name (whole refl (mark build.Begin refl refl (beside (reads [] inner) (mark build.Row refl (gather (next []) (next rest) (made (named x) ∷ outer)) (mark build.ModuleDecl refl (closes (next []) (next words) []) nothing)))))))))
+    chosen (part_number Part.Module) 0 (omega arith) refl (action build.Begin refl refl (whole refl (action build.Name refl refl (whole is_name (whole refl (action build.Begin refl refl (beside (reads [] inner) (action build.Row refl (gather (next []) (next rest) (made (named x) ∷ outer)) (action build.ModuleDecl refl (closes (next []) (next words) []) nothing)))))))))
 
 -- a module is read from the words of its lines
 pub module_shown : (w u : List Tok) (m : Tree) → Trace (right own (part_number Part.Module) 0) w [] u (made m ∷ []) → Goes (part_symbol Part.Module ∷ []) (before (flat (module_lines m)) []) [] [] (made m ∷ [])
 unfolding own
 module_shown w u m trace =
-    let (c, a, is, taken, name_mark) = passes_token refl (passes_begin trace) in
-    let (x, is_name, d, semicolon) = passes_name name_mark in
+    let (c, a, is, taken, name_action) = passes_token refl (passes_begin trace) in
+    let (x, is_name, d, semicolon) = passes_name name_action in
     let (y, f, also, ended_so, begin) = passes_token refl semicolon in
-    let (g, t', (ts, pile, reads), row_mark) = passes_part (passes_begin begin) in
-    let (gather, module_mark) = passes_row ts (next f) (subst (λ z. Trace (mark_symbol build.Row ∷ mark_symbol build.ModuleDecl ∷ []) g z u (made m ∷ [])) pile row_mark) in
-    let (closes, ends) = passes_closes build.ModuleDecl module_slots form_is.Module (named x ∷ row (trees ts) ∷ []) (next w) refl refl module_mark in
+    let (g, t', (ts, pile, reads), row_action) = passes_part (passes_begin begin) in
+    let (gather, module_action) = passes_row ts (next f) (subst (λ z. Trace (action_symbol build.Row ∷ action_symbol build.ModuleDecl ∷ []) g z u (made m ∷ [])) pile row_action) in
+    let (closes, ends) = passes_closes build.ModuleDecl module_slots form_is.Module (named x ∷ row (trees ts) ∷ []) (next w) refl refl module_action in
     let left = (passes_none ends).1 in
     let same : module_of x ts ≡ m = cc in
     subst (λ z. Goes (part_symbol Part.Module ∷ []) (before (flat (module_lines z)) []) [] [] (made z ∷ [])) same (module_again x ts is_name gather closes reads)

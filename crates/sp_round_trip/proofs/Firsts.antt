@@ -4,13 +4,15 @@ use Rattle.std.proofs.Common.{◌≡◌, ℕ, List, Bool, true, false, ◌==◌,
 use Rattle.std.proofs.lemmas.Bool.{and_parts, and_from, or_parts, cases_Bool, eqb-true}
 use Rattle.sp_parser.specs.declared.symbol.Symbol.{Symbol}
 use Rattle.sp_parser.specs.Grammar.{Production, Take, First, All, takes, right}
+use Rattle.sp_words.specs.declared.keywords.Keyword.TheVariants as keyword
+use Rattle.sp_words.specs.declared.punctuation.Punctuation.TheVariants as sign
 use Rattle.sp_grammar.specs.declared.terminals.Terminal.TheVariants as token
 use Rattle.sp_grammar.specs.Terminals.{terminal_number}
 use Rattle.sp_grammar.specs.Own.{own}
 use Rattle.sp_grammar.proofs.Spans.{every_production, one_production}
 use Rattle.sp_build.proofs.Told.{never}
 use Rattle.sp_round_trip.proofs.Held.{Pile}
-use Rattle.sp_round_trip.proofs.Goes.{Tok, entire, number, coming, Goes, nothing, whole, first_half, mark, part}
+use Rattle.sp_round_trip.proofs.Goes.{Tok, entire, number, coming, Goes, nothing, whole, first_half, action, part}
 use Rattle.sp_round_trip.proofs.Advance.{may_be_empty, is_taken, comes_first, begins_with, is_nullable}
 
 -- the sets of the table hold for a production
@@ -20,11 +22,11 @@ first_holds e n r = (not (comes_first e r.symbols) || begins_with e n) && (not (
 abbrev pub first_tested : ℕ → Bool
 first_tested e = every_production own (first_holds e)
 
-pub paren_tested : first_tested (terminal_number token.LeftParen) ≡ true
+pub paren_tested : first_tested (terminal_number (token.Punctuation sign.LeftParen)) ≡ true
 unfolding own
 paren_tested = refl
 
-pub else_tested : first_tested (terminal_number token.Else) ≡ true
+pub else_tested : first_tested (terminal_number (token.Keyword keyword.Else)) ≡ true
 unfolding own
 else_tested = refl
 
@@ -54,7 +56,7 @@ pub comes_behind : (e : ℕ) → first_tested e ≡ true → {ss : List Symbol} 
 comes_behind e tested nothing none = inr (refl, refl)
 comes_behind e tested (whole {e = f} {x = x} passed g) none = inl (other_kind e f (number x) All passed refl none)
 comes_behind e tested (first_half {e = f} {x = x} passed g) none = inl (other_kind e f (number (entire x)) First passed refl none)
-comes_behind e tested (mark m is done g) none = comes_behind e tested g none
+comes_behind e tested (action m is done g) none = comes_behind e tested g none
 comes_behind e tested (part {n = n} {ss = ss} {w = w} {v = v} p a g h) none =
     let here = and_parts (not (comes_first e (right own n p)) || begins_with e n) (not (may_be_empty (right own n p)) || is_nullable n) (one_production own (first_holds e) n p tested a.below) in
     let neither = or_parts (begins_with e n) (is_nullable n && comes_first e ss) none in

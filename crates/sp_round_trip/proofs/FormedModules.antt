@@ -7,10 +7,10 @@ use Rattle.sp_lex.specs.declared.kinds.TokenKind.TheVariants as token
 use Rattle.sp_parser.specs.declared.symbol.Symbol.{Symbol}
 use Rattle.sp_parser.specs.declared.symbol.Symbol.TheVariants as symbol
 use Rattle.sp_parser.specs.Grammar.{takes, First, All, SECOND, right, Production}
-use Rattle.sp_grammar.specs.declared.marks.Mark.{Mark}
-use Rattle.sp_grammar.specs.declared.marks.Mark.TheVariants as build
+use Rattle.sp_grammar.specs.declared.actions.Action.{Action}
+use Rattle.sp_grammar.specs.declared.actions.Action.TheVariants as build
 use Rattle.sp_grammar.specs.declared.terminals.Terminal.TheVariants as terminal
-use Rattle.sp_grammar.specs.Marks.{mark_with}
+use Rattle.sp_grammar.specs.Actions.{action_with}
 use Rattle.sp_grammar.specs.Terminals.{terminal_number}
 use Rattle.sp_grammar.specs.Own.{own}
 use Rattle.sp_grammar.specs.Written.{Part, part_number, part as part_symbol}
@@ -19,10 +19,10 @@ use Rattle.sp_runs.specs.Kinds.{number_of, terminal_of}
 use Rattle.sp_ast.specs.declared.forms.Form.TheVariants as form_is
 use Rattle.sp_ast.specs.declared.forms.ExprForm.TheVariants as expr_is
 use Rattle.sp_ast.specs.Trees.{Tree, node, none, trees, tree}
-use Rattle.sp_build.specs.declared.groups.Group.TheVariants.{Names as names, Expressions as expressions, Declarations as declarations}
-use Rattle.sp_build.specs.declared.groups.Sort.TheVariants.{One as one, Rows as rows}
-use Rattle.sp_build.specs.declared.groups.Slot.TheVariants.{Part as part, Several as several}
-use Rattle.sp_build.specs.Groups.{is_of}
+use Rattle.sp_ast.specs.declared.groups.Group.TheVariants.{Names as names, Expressions as expressions, Declarations as declarations}
+use Rattle.sp_ast.specs.declared.groups.Sort.TheVariants.{One as one, Rows as rows}
+use Rattle.sp_ast.specs.declared.groups.Slot.TheVariants.{Part as part, Several as several}
+use Rattle.sp_ast.specs.Groups.{is_of}
 use Rattle.sp_build.specs.Rules.{by_name, rule}
 use Rattle.sp_build.proofs.Standing.{some_equal, not_some, if_some, then_some}
 use Rattle.sp_build.proofs.Shapes.{and_then}
@@ -32,8 +32,8 @@ use Rattle.sp_printed_words.specs.Formed.{is_name, IsId, AreIds, first, IsFormed
 use Rattle.sp_round_trip.specs.Bare.{nowhere}
 use Rattle.sp_round_trip.specs.Told.{Telling}
 use Rattle.sp_round_trip.proofs.Held.{started, made, Pile, After, after, after_do, top, front, start, filled, put, put_if, does, form_told}
-use Rattle.sp_round_trip.proofs.Goes.{Tok, entire, half, number, next, tells, Goes, nothing, whole, first_half, mark, part as read_part}
-use Rattle.sp_round_trip.proofs.FormedTrees.{Nearly, Good, On, OnSome, OnAfter, AllOf, Fill, Fitting, name_is, top_on, front_on, start_on, then_on, then_after, free_of, formed_of, free_parts, formed_parts, mark_suits, RuleSuits, does_on}
+use Rattle.sp_round_trip.proofs.Goes.{Tok, entire, half, number, next, tells, Goes, nothing, whole, first_half, action, part as read_part}
+use Rattle.sp_round_trip.proofs.FormedTrees.{Nearly, Good, On, OnSome, OnAfter, AllOf, Fill, Fitting, name_is, top_on, front_on, start_on, then_on, then_after, free_of, formed_of, free_parts, formed_parts, action_suits, RuleSuits, does_on}
 use Rattle.sp_round_trip.proofs.Steps.{never_first}
 
 -- What stands on top of the pile: anything, a name that is an ID, a name of which the token comes next, a name that may be
@@ -158,42 +158,42 @@ module_made t s r e =
     subst MakesModule e (then_module (filled (reverse slots) [] s) (λ ts rest. after_do (start rest) (λ p below. put (tree form_is.Module nowhere ts) below))
     (λ ts rest. then_module (start rest) (λ p below. put (tree form_is.Module nowhere ts) below) (λ p below. tt)))
 
--- what a mark makes of it
-abbrev after_mark : State → Mark → Option State
-after_mark any build.Name = Some pending
-after_mark named build.Name = Some pending
-after_mark any build.Path = None
-after_mark named build.Path = Some any
-after_mark any build.ModuleDecl = Some modular
-after_mark named build.ModuleDecl = Some modular
-after_mark any m = Some any
-after_mark named m = Some any
-after_mark loose build.Member = Some any
-after_mark st m = None
+-- what an action makes of it
+abbrev after_action : State → Action → Option State
+after_action any build.Name = Some pending
+after_action named build.Name = Some pending
+after_action any build.Path = None
+after_action named build.Path = Some any
+after_action any build.ModuleDecl = Some modular
+after_action named build.ModuleDecl = Some modular
+after_action any m = Some any
+after_action named m = Some any
+after_action loose build.Member = Some any
+after_action st m = None
 
-any_on : (m : Mark) (t : Telling) (s r : Pile) → RuleSuits (rule m) → On s → does (rule m) t s ≡ Some r → On r
+any_on : (m : Action) (t : Telling) (s r : Pile) → RuleSuits (rule m) → On s → does (rule m) t s ≡ Some r → On r
 any_on m t s r suit on e = subst OnSome e (does_on (rule m) suit t s on)
 
-mark_any : (m : Mark) (st : State) (w : List Tok) (s r : Pile) → after_mark any m ≡ Some st → On s → does (rule m) (next w) s ≡ Some r → Means st w r
-mark_any build.Name st w s r e on d = subst (λ x. Means x w r) (some_equal e) (name_made (next w).kind (next w).word s r d on)
-mark_any build.Path st w s r e on d = not_some e
-mark_any build.ModuleDecl st w s r e on d = subst (λ x. Means x w r) (some_equal e) (any_on build.ModuleDecl (next w) s r (mark_suits build.ModuleDecl) on d, module_made (next w) s r d)
-mark_any m st w s r e on d = subst (λ x. Means x w r) (some_equal e) (any_on m (next w) s r (mark_suits m) on d)
+action_any : (m : Action) (st : State) (w : List Tok) (s r : Pile) → after_action any m ≡ Some st → On s → does (rule m) (next w) s ≡ Some r → Means st w r
+action_any build.Name st w s r e on d = subst (λ x. Means x w r) (some_equal e) (name_made (next w).kind (next w).word s r d on)
+action_any build.Path st w s r e on d = not_some e
+action_any build.ModuleDecl st w s r e on d = subst (λ x. Means x w r) (some_equal e) (any_on build.ModuleDecl (next w) s r (action_suits build.ModuleDecl) on d, module_made (next w) s r d)
+action_any m st w s r e on d = subst (λ x. Means x w r) (some_equal e) (any_on m (next w) s r (action_suits m) on d)
 
-mark_named : (m : Mark) (st : State) (w : List Tok) (s r : Pile) → after_mark named m ≡ Some st → On s → HasName s → does (rule m) (next w) s ≡ Some r → Means st w r
-mark_named build.Path st w s r e on has d = subst (λ x. Means x w r) (some_equal e) (path_made (next w) s r on has d)
-mark_named m st w s r e on has d = mark_any m st w s r e on d
+action_named : (m : Action) (st : State) (w : List Tok) (s r : Pile) → after_action named m ≡ Some st → On s → HasName s → does (rule m) (next w) s ≡ Some r → Means st w r
+action_named build.Path st w s r e on has d = subst (λ x. Means x w r) (some_equal e) (path_made (next w) s r on has d)
+action_named m st w s r e on has d = action_any m st w s r e on d
 
-mark_loose : (m : Mark) (st : State) (w : List Tok) (s r : Pile) → after_mark loose m ≡ Some st → IsLoose s → does (rule m) (next w) s ≡ Some r → Means st w r
-mark_loose build.Member st w s r e is d = subst (λ x. Means x w r) (some_equal e) (member_made (next w) s r is d)
-mark_loose m st w s r e is d = not_some e
+action_loose : (m : Action) (st : State) (w : List Tok) (s r : Pile) → after_action loose m ≡ Some st → IsLoose s → does (rule m) (next w) s ≡ Some r → Means st w r
+action_loose build.Member st w s r e is d = subst (λ x. Means x w r) (some_equal e) (member_made (next w) s r is d)
+action_loose m st w s r e is d = not_some e
 
-mark_means : (m : Mark) (st st' : State) (w : List Tok) (s r : Pile) → after_mark st m ≡ Some st' → Means st w s → does (rule m) (next w) s ≡ Some r → Means st' w r
-mark_means m any st' w s r e is d = mark_any m st' w s r e is d
-mark_means m named st' w s r e is d = mark_named m st' w s r e is.0 is.1 d
-mark_means m loose st' w s r e is d = mark_loose m st' w s r e is d
-mark_means m pending st' w s r e is d = not_some e
-mark_means m modular st' w s r e is d = not_some e
+action_means : (m : Action) (st st' : State) (w : List Tok) (s r : Pile) → after_action st m ≡ Some st' → Means st w s → does (rule m) (next w) s ≡ Some r → Means st' w r
+action_means m any st' w s r e is d = action_any m st' w s r e is d
+action_means m named st' w s r e is d = action_named m st' w s r e is.0 is.1 d
+action_means m loose st' w s r e is d = action_loose m st' w s r e is d
+action_means m pending st' w s r e is d = not_some e
+action_means m modular st' w s r e is d = not_some e
 
 -- where the grammar wants an ID, only an ID is taken
 abbrev an_id : ℕ
@@ -229,7 +229,7 @@ covers st st' = false
 
 abbrev after_symbol : State → Symbol → Option State
 after_symbol st (symbol.Terminal e) = Some (after_token st e)
-after_symbol st (symbol.Mark n) = and_then (mark_with n) (λ m. after_mark st m)
+after_symbol st (symbol.Action n) = and_then (action_with n) (λ m. after_action st m)
 after_symbol st (symbol.Nonterminal n) = if covers st (before_part n) then Some (after_part n) else None
 
 abbrev run : State → List Symbol → Option State
@@ -302,10 +302,10 @@ goes_on : {ss : List Symbol} {w v : List Tok} {s t : Pile} (st st' : State) → 
 goes_on st st' e is (nothing {w = w} {s = s}) = subst (λ x. Means x w s) (some_equal e) is
 goes_on st st' e is (whole {e = k} {x = x} {w = w} {s = s} take rest) = goes_on (after_token st k) st' e (token_means st k x w s take is) rest
 goes_on st st' e is (first_half {e = k} {x = x} {w = w} {s = s} take rest) = goes_on (after_token st k) st' e (half_means st k x w s take is) rest
-goes_on st st' e is (mark {n = n} {ss = ss} {w = w} {s = s} {t = t} m there d rest) =
-    let h = then_some (and_then (mark_with n) (λ m. after_mark st m)) (λ after. run after ss) st' e in
-    let g : after_mark st m ≡ Some h.0 = subst (λ o. and_then o (λ m. after_mark st m) ≡ Some h.0) there h.1 in
-    goes_on h.0 st' h.2 (mark_means m st h.0 w s t g is d) rest
+goes_on st st' e is (action {n = n} {ss = ss} {w = w} {s = s} {t = t} m there d rest) =
+    let h = then_some (and_then (action_with n) (λ m. after_action st m)) (λ after. run after ss) st' e in
+    let g : after_action st m ≡ Some h.0 = subst (λ o. and_then o (λ m. after_action st m) ≡ Some h.0) there h.1 in
+    goes_on h.0 st' h.2 (action_means m st h.0 w s t g is d) rest
 goes_on st st' e is (read_part {n = n} {ss = ss} {w = w} {u = u} {s = s} {t = t} p applies inner rest) =
     let h = then_some (if covers st (before_part n) then Some (after_part n) else None) (λ after. run after ss) st' e in
     let g = if_some (covers st (before_part n)) (Some (after_part n)) h.0 h.1 in

@@ -3,23 +3,23 @@ use Rattle.std.specs.Prelude.{if◌then◌else◌, ◌&&◌, not, option_map}
 use Rattle.std.proofs.Common.{◌≡◌, List, [], ◌∷◌, ◌++◌, reverse, Bool, true, false, Option, Some, None, refl, sym, subst, ap, ◌∙◌, eq-eqb, eqb-true}
 use Rattle.std.proofs.lemmas.List.{reverse-append, append-nil}
 use Rattle.std.proofs.lemmas.Bool.{and_parts}
-use Rattle.sp_grammar.specs.declared.marks.Mark.{Mark}
-use Rattle.sp_grammar.specs.declared.marks.Mark.TheVariants as build
-use Rattle.sp_ast.specs.declared.words.IntWord.{IntWord}
-use Rattle.sp_ast.specs.declared.words.AttributeName.{AttributeName}
+use Rattle.sp_grammar.specs.declared.actions.Action.{Action}
+use Rattle.sp_grammar.specs.declared.actions.Action.TheVariants as build
+use Rattle.sp_words.specs.declared.words.IntWord.{IntWord}
+use Rattle.sp_words.specs.declared.words.AttributeName.{AttributeName}
 use Rattle.sp_ast.specs.declared.forms.Form.{Form}
 use Rattle.sp_ast.specs.declared.forms.Form.TheVariants as form_is
 use Rattle.sp_ast.specs.declared.forms.ExprForm.TheVariants as expr_is
 use Rattle.sp_ast.specs.declared.forms.BaseForm.TheVariants as base_is
 use Rattle.sp_ast.specs.declared.forms.DeclForm.TheVariants as decl_is
 use Rattle.sp_ast.specs.Trees.{Tree, Trees, absent, row, node, none, more, trees, tree, in_row}
-use Rattle.sp_build.specs.declared.groups.Group.{Group}
-use Rattle.sp_build.specs.declared.groups.Group.TheVariants.{Names as names, Paths as paths, Expressions as expressions, Bases as bases, Declarations as declarations}
-use Rattle.sp_build.specs.declared.groups.Sort.{Sort}
-use Rattle.sp_build.specs.declared.groups.Sort.TheVariants.{One as one, Optional as optional, Rows as rows}
-use Rattle.sp_build.specs.declared.groups.Slot.{Slot}
-use Rattle.sp_build.specs.declared.groups.Slot.TheVariants.{Part as part, Several as several}
-use Rattle.sp_build.specs.Groups.{same_group, is_in, is_of, are_of, fits, is_node, group_number, group}
+use Rattle.sp_ast.specs.declared.groups.Group.{Group}
+use Rattle.sp_ast.specs.declared.groups.Group.TheVariants.{Names as names, Paths as paths, Expressions as expressions, Bases as bases, Declarations as declarations}
+use Rattle.sp_ast.specs.declared.groups.Sort.{Sort}
+use Rattle.sp_ast.specs.declared.groups.Sort.TheVariants.{One as one, Optional as optional, Rows as rows}
+use Rattle.sp_ast.specs.declared.groups.Slot.{Slot}
+use Rattle.sp_ast.specs.declared.groups.Slot.TheVariants.{Part as part, Several as several}
+use Rattle.sp_ast.specs.Groups.{same_group, is_in, is_of, are_of, fits, is_node, group_number, group}
 use Rattle.sp_build.specs.Rules.{Rule, begins, leaves_out, takes, gathers, closes, closes_integer, closes_attribute, encloses, joins, wraps, rule}
 use Rattle.sp_build.specs.Tokens.{integer_of, attribute_of}
 use Rattle.sp_print.specs.Canonical.{row_of}
@@ -338,35 +338,35 @@ RuleSuits (wraps g form) = suits form (part (one g) ∷ []) ≡ true
 RuleSuits r = Unit {0}
 
 -- all rules but those of names and paths
-abbrev MarkSuits : Mark → Type 0
-MarkSuits build.Name = Unit {0}
-MarkSuits build.Path = Unit {0}
-MarkSuits m = RuleSuits (rule m)
+abbrev ActionSuits : Action → Type 0
+ActionSuits build.Name = Unit {0}
+ActionSuits build.Path = Unit {0}
+ActionSuits m = RuleSuits (rule m)
 
-pub mark_suits : (m : Mark) → MarkSuits m
-mark_suits build.Begin = tt
-mark_suits build.Absent = tt
-mark_suits build.Row = tt
-mark_suits build.Paren = tt
-mark_suits build.Name = tt
-mark_suits build.Path = tt
-mark_suits build.Text = λ x. refl
-mark_suits build.Number = λ x. refl
-mark_suits build.Event = λ x. refl
-mark_suits build.IntType = λ x. refl
-mark_suits build.NameTarget = λ x. refl
-mark_suits build.EventTarget = λ x. refl
-mark_suits build.BytesBase = λ x. refl
-mark_suits build.RegexBase = λ x. refl
-mark_suits build.NumberBase = λ x. refl
-mark_suits build.IntBase = λ x. refl
-mark_suits build.Attribute = λ x. refl
-mark_suits build.NumberExpr = λ x. refl
-mark_suits build.StringExpr = λ x. refl
-mark_suits build.BytesExpr = λ x. refl
-mark_suits build.RegexExpr = λ x. refl
-mark_suits build.TypedNumberExpr = λ x. refl
-mark_suits m = refl
+pub action_suits : (m : Action) → ActionSuits m
+action_suits build.Begin = tt
+action_suits build.Absent = tt
+action_suits build.Row = tt
+action_suits build.Paren = tt
+action_suits build.Name = tt
+action_suits build.Path = tt
+action_suits build.String = λ x. refl
+action_suits build.Number = λ x. refl
+action_suits build.HookName = λ x. refl
+action_suits build.IntType = λ x. refl
+action_suits build.NameTarget = λ x. refl
+action_suits build.HookTarget = λ x. refl
+action_suits build.BytesBase = λ x. refl
+action_suits build.RegexBase = λ x. refl
+action_suits build.NumberBase = λ x. refl
+action_suits build.IntBase = λ x. refl
+action_suits build.Attribute = λ x. refl
+action_suits build.NumberExpr = λ x. refl
+action_suits build.StringExpr = λ x. refl
+action_suits build.BytesExpr = λ x. refl
+action_suits build.RegexExpr = λ x. refl
+action_suits build.TypedNumberExpr = λ x. refl
+action_suits m = refl
 
 -- what a rule does on a pile of such trees
 leaf_on : (o : Option Form) (s : Pile) → ((form : Form) → o ≡ Some form → suits form [] ≡ true) → On s → OnSome (put_if o s)

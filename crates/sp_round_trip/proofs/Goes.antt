@@ -1,12 +1,12 @@
--- Readings in the grammar in its own words, over the words that tokens tell, with what the marks build. Places are
+-- Readings in the grammar in its own words, over the words that tokens tell, with what the actions build. Places are
 -- forgotten.
 use Rattle.std.proofs.Common.{◌++◌, refl, ap, ◌≡◌, ℕ, List, [], ◌∷◌, map, Some}
-use Rattle.sp_lex.specs.declared.kinds.Mark.TheVariants as sign
+use Rattle.sp_words.specs.declared.punctuation.Punctuation.TheVariants as sign
 use Rattle.sp_lex.specs.declared.kinds.TokenKind.TheVariants as token
 use Rattle.sp_parser.specs.declared.symbol.Symbol.{Symbol}
 use Rattle.sp_parser.specs.declared.symbol.Symbol.TheVariants as symbol
 use Rattle.sp_parser.specs.Grammar.{right, takes, First, All, Applies, SECOND, ahead}
-use Rattle.sp_grammar.specs.Marks.{mark_with}
+use Rattle.sp_grammar.specs.Actions.{action_with}
 use Rattle.sp_grammar.specs.Own.{own}
 use Rattle.sp_runs.specs.Kinds.{number_of, terminal_of}
 use Rattle.sp_ast.specs.Trees.{Tree}
@@ -34,7 +34,7 @@ number (half w) = SECOND
 
 -- what is told behind the last token
 abbrev pub ending : Telling
-ending = telling_of (fixed (token.Mark sign.Semicolon))
+ending = telling_of (fixed (token.Punctuation sign.Semicolon))
 
 abbrev pub next : List Tok → Telling
 next [] = ending
@@ -49,7 +49,7 @@ pub data Goes : List Symbol → List Tok → Pile → List Tok → Pile → Type
   nothing : {w : List Tok} {s : Pile} → Goes [] w s w s
   whole : {e : ℕ} {x : Tok} {ss : List Symbol} {w v : List Tok} {s t : Pile} → takes e (number x) ≡ All → Goes ss w s v t → Goes (symbol.Terminal e ∷ ss) (x ∷ w) s v t
   first_half : {e : ℕ} {x : Word} {ss : List Symbol} {w v : List Tok} {s t : Pile} → takes e (number (entire x)) ≡ First → Goes ss (half x ∷ w) s v t → Goes (symbol.Terminal e ∷ ss) (entire x ∷ w) s v t
-  mark : {n : ℕ} {ss : List Symbol} {w v : List Tok} {s t u : Pile} (m : _) → mark_with n ≡ Some m → does (rule m) (next w) s ≡ Some t → Goes ss w t v u → Goes (symbol.Mark n ∷ ss) w s v u
+  action : {n : ℕ} {ss : List Symbol} {w v : List Tok} {s t u : Pile} (m : _) → action_with n ≡ Some m → does (rule m) (next w) s ≡ Some t → Goes ss w t v u → Goes (symbol.Action n ∷ ss) w s v u
   part : {n : ℕ} {ss : List Symbol} {w u v : List Tok} {s t z : Pile} → (p : ℕ) → Applies own n p (map number w) → Goes (right own n p) w s u t → Goes ss u t v z → Goes (symbol.Nonterminal n ∷ ss) w s v z
 
 -- words before others

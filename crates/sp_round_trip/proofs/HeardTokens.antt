@@ -3,10 +3,9 @@ use Rattle.std.specs.Prelude.{◌||◌}
 use Rattle.std.proofs.Common.{◌≡◌, ℕ, List, [], ◌∷◌, ◌++◌, Bool, true, false, cond, ◌==◌, Option, Some, None, inl, inr, refl, sym, ◌∙◌, ap}
 use Rattle.std.proofs.lemmas.Bool.{and_parts, cases_Bool, eqb-true, or_cases}
 use Rattle.sp_lex.specs.declared.kinds.Absent.TheVariants as absent_word
-use Rattle.sp_lex.specs.declared.kinds.Attribute.TheVariants as attribute
-use Rattle.sp_lex.specs.declared.kinds.Keyword.TheVariants as keyword
-use Rattle.sp_lex.specs.declared.kinds.Mark.TheVariants as sign
-use Rattle.sp_lex.specs.declared.kinds.Property.TheVariants as property
+use Rattle.sp_words.specs.declared.keywords.Keyword.TheVariants as keyword
+use Rattle.sp_words.specs.declared.punctuation.Punctuation.TheVariants as sign
+use Rattle.sp_words.specs.declared.words.Property.TheVariants as property
 use Rattle.sp_lex.specs.declared.kinds.TokenKind.{TokenKind}
 use Rattle.sp_lex.specs.declared.kinds.TokenKind.TheVariants as token
 use Rattle.sp_parser.specs.Grammar.{Take, takes, Nothing, First, All, CLOSE, SECOND, GREATER, SHIFT}
@@ -26,7 +25,7 @@ use Rattle.sp_round_trip.proofs.Steps.{never_first, taken_by, by_kind}
 -- what stays of words as they are read
 abbrev pub tok_words : Tok → List Word
 tok_words (entire w) = heard_of w
-tok_words (half w) = fixed (token.Mark sign.Greater) ∷ []
+tok_words (half w) = fixed (token.Punctuation sign.Greater) ∷ []
 
 abbrev pub toks_words : List Tok → List Word
 toks_words [] = []
@@ -34,30 +33,22 @@ toks_words (x ∷ w) = tok_words x ++ toks_words w
 
 -- a word that is read as a kind which is the only one of its terminal
 kind_is : (k : TokenKind) → is_single (kind_for (number_of (terminal_of k))) ≡ true → kind_for (number_of (terminal_of k)) ≡ k
-kind_is (token.Keyword keyword.Uint8) h = never h
-kind_is (token.Keyword keyword.Uint16) h = never h
-kind_is (token.Keyword keyword.Uint32) h = never h
-kind_is (token.Keyword keyword.Uint64) h = never h
-kind_is (token.Keyword keyword.Int8) h = never h
-kind_is (token.Keyword keyword.Int16) h = never h
-kind_is (token.Keyword keyword.Int32) h = never h
-kind_is (token.Keyword keyword.Int64) h = never h
+kind_is (token.Keyword keyword.Module) h = refl
 kind_is (token.Keyword k) h = refl
-kind_is (token.Mark sign.Colon) h = refl
-kind_is (token.Mark m) h = refl
+kind_is (token.Punctuation sign.Colon) h = refl
+kind_is (token.Punctuation m) h = refl
 kind_is (token.Property property.Filter) h = refl
 kind_is (token.Property p) h = refl
-kind_is (token.Attribute attribute.Priority) h = refl
-kind_is (token.Attribute a) h = never h
+kind_is token.Priority h = refl
 kind_is (token.Absent absent_word.Skip) h = never h
 kind_is (token.Absent a) h = never h
 kind_is k h = never h
 
 single_carries : (k : TokenKind) → is_single k ≡ true → carries k ≡ false
 single_carries (token.Keyword k) ok = refl
-single_carries (token.Mark m) ok = refl
+single_carries (token.Punctuation m) ok = refl
 single_carries (token.Property p) ok = refl
-single_carries (token.Attribute a) ok = refl
+single_carries token.Priority ok = refl
 single_carries k ok = never ok
 
 pub heard_by_kind : (w : Word) → carries (read_as w) ≡ false → heard_of w ≡ fixed_words (read_as w)
@@ -70,7 +61,9 @@ single_word e w ok same =
     heard_by_kind w (ap carries (sym it) ∙ single_carries (kind_for e) ok) ∙ ap fixed_words (sym it)
 
 no_second_number : (e : Terminal) → (terminal_number e == SECOND) ≡ false
-no_second_number terminal.Module = refl
+no_second_number (terminal.Keyword keyword.Module) = refl
+no_second_number (terminal.Punctuation sign.Colon) = refl
+no_second_number (terminal.Property property.Filter) = refl
 no_second_number e = refl
 
 no_second : (o : Option Terminal) → (number_of o == SECOND) ≡ false
@@ -99,7 +92,7 @@ pub never_halved : (e k : ℕ) → is_whole e ≡ true → takes e k ≡ First �
 never_halved e k ok h = never_first (e == k) (sym (taken_by e k (not_close e ok)) ∙ h)
 
 words_not_close : (e : ℕ) → is_whole e ≡ true → words_at e ≡ fixed_words (kind_for e)
-words_not_close e ok = ap (λ b. cond b (fixed_words (token.Mark sign.Greater)) (fixed_words (kind_for e))) (not_close e ok)
+words_not_close e ok = ap (λ b. cond b (fixed_words (token.Punctuation sign.Greater)) (fixed_words (kind_for e))) (not_close e ok)
 
 pub lone_says : (e : ℕ) (x : Tok) → is_lone e ≡ true → takes e (number x) ≡ All → tok_words x ≡ words_at e
 lone_says e (half w) ok h = absurd (no_half (takes e SECOND) h (none_of (takes e SECOND) (and_parts (is_single (kind_for e)) (is_whole e) ok).1))

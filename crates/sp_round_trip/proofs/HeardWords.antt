@@ -3,7 +3,7 @@ use Rattle.std.specs.List.{AllByRecursion}
 use Rattle.std.specs.Prelude.{flat_map, if◌then◌else◌}
 use Rattle.std.proofs.Common.{◌≡◌, ℕ, List, [], ◌∷◌, ◌++◌, map, Bool, true, false, cond, inl, inr, refl, sym, ◌∙◌, ap, append_assoc}
 use Rattle.sp_lex.specs.declared.kinds.Absent.TheVariants as absent
-use Rattle.sp_lex.specs.declared.kinds.Mark.TheVariants as mark
+use Rattle.sp_words.specs.declared.punctuation.Punctuation.TheVariants as punctuation
 use Rattle.sp_lex.specs.declared.kinds.TokenKind.{TokenKind}
 use Rattle.sp_lex.specs.declared.kinds.TokenKind.TheVariants as token
 use Rattle.sp_lex.specs.declared.tokens.Token.{Token}
@@ -28,11 +28,11 @@ carries _ = false
 
 -- what stays of a kind
 abbrev pub fixed_words : TokenKind → List Word
-fixed_words (token.Mark mark.LeftParen) = []
-fixed_words (token.Mark mark.RightParen) = []
-fixed_words (token.Mark mark.Semicolon) = []
-fixed_words (token.Mark mark.Comma) = []
-fixed_words (token.Mark mark.ShiftRight) = fixed (token.Mark mark.Greater) ∷ fixed (token.Mark mark.Greater) ∷ []
+fixed_words (token.Punctuation punctuation.LeftParen) = []
+fixed_words (token.Punctuation punctuation.RightParen) = []
+fixed_words (token.Punctuation punctuation.Semicolon) = []
+fixed_words (token.Punctuation punctuation.Comma) = []
+fixed_words (token.Punctuation punctuation.ShiftRight) = fixed (token.Punctuation punctuation.Greater) ∷ fixed (token.Punctuation punctuation.Greater) ∷ []
 fixed_words kind = fixed kind ∷ []
 
 -- what stays of a word
@@ -48,8 +48,8 @@ IsTrue (name x) = carries (word_kind x) ≡ true
 IsTrue w = Unit {0}
 
 heard_same : (w : Word) → IsTrue w → heard_of w ≡ kept_of w
-heard_same (fixed (token.Mark mark.LeftParen)) is = refl
-heard_same (fixed (token.Mark m)) is = refl
+heard_same (fixed (token.Punctuation punctuation.LeftParen)) is = refl
+heard_same (fixed (token.Punctuation m)) is = refl
 heard_same (fixed (token.Absent absent.Skip)) is = refl
 heard_same (fixed (token.Absent a)) is = refl
 heard_same (fixed kind) is = refl

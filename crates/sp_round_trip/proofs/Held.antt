@@ -3,18 +3,18 @@ use Rattle.std.specs.Prelude.{option_map, if◌then◌else◌}
 use Rattle.std.proofs.Common.{ℕ, List, [], ◌∷◌, reverse, Bool, Option, Some, None}
 use Rattle.sp_lex.specs.declared.kinds.TokenKind.{TokenKind}
 use Rattle.sp_lex.specs.declared.kinds.TokenKind.TheVariants as token
-use Rattle.sp_parser.specs.declared.symbol.Event.{Event}
-use Rattle.sp_grammar.specs.Marks.{mark_with}
+use Rattle.sp_parser.specs.declared.symbol.ActionAt.{ActionAt}
+use Rattle.sp_grammar.specs.Actions.{action_with}
 use Rattle.sp_ast.specs.declared.forms.Form.{Form}
 use Rattle.sp_ast.specs.Trees.{Tree, absent, tree, in_row}
-use Rattle.sp_build.specs.declared.groups.Group.TheVariants.{Expressions as expressions}
-use Rattle.sp_build.specs.declared.groups.Sort.{Sort}
-use Rattle.sp_build.specs.declared.groups.Sort.TheVariants.{One as one}
-use Rattle.sp_build.specs.declared.groups.Slot.{Slot}
-use Rattle.sp_build.specs.declared.groups.Slot.TheVariants.{Part as part, Several as several}
-use Rattle.sp_build.specs.Groups.{fits, is_of, is_node}
-use Rattle.sp_build.specs.Rules.{rule, Leaf, always, by_name, by_string, by_bytes, by_regex, by_number, by_integer, by_event, Rule, begins, leaves_out, takes, gathers, closes, closes_integer, closes_attribute, encloses, joins, wraps}
-use Rattle.sp_build.specs.Tokens.{integer_of, attribute_of, hook_name_of}
+use Rattle.sp_ast.specs.declared.groups.Group.TheVariants.{Expressions as expressions}
+use Rattle.sp_ast.specs.declared.groups.Sort.{Sort}
+use Rattle.sp_ast.specs.declared.groups.Sort.TheVariants.{One as one}
+use Rattle.sp_ast.specs.declared.groups.Slot.{Slot}
+use Rattle.sp_ast.specs.declared.groups.Slot.TheVariants.{Part as part, Several as several}
+use Rattle.sp_ast.specs.Groups.{fits, is_of, is_node}
+use Rattle.sp_build.specs.Rules.{rule, Leaf, always, by_name, by_string, by_bytes, by_regex, by_number, by_integer, by_hook_name, Rule, begins, leaves_out, takes, gathers, closes, closes_integer, closes_attribute, encloses, joins, wraps}
+use Rattle.sp_build.specs.Tokens.{integer_of, attribute_of}
 use Rattle.sp_build.proofs.Shapes.{and_then}
 use Rattle.sp_print.specs.Words.{Word, name, text, bytes, regex, number}
 use Rattle.sp_round_trip.specs.Bare.{nowhere}
@@ -29,7 +29,7 @@ form_told (by_bytes form) kind (bytes x) = Some (form x)
 form_told (by_regex form) kind (regex x) = Some (form x)
 form_told (by_number form) kind (number n) = Some (form n)
 form_told (by_integer form) kind word = option_map form (integer_of kind)
-form_told (by_event form) (token.Hook h) word = Some (form (hook_name_of h))
+form_told (by_hook_name form) (token.Hook h) word = Some (form h)
 form_told _ kind word = None
 
 -- the beginning of a tree, or a tree that is built
@@ -100,7 +100,7 @@ does encloses t s = after_do (top (one expressions) s) (λ u rest. after_do (sta
 does (joins slots form) t s = after_do (filled (reverse slots) [] s) (λ ts rest. put (tree form nowhere ts) rest)
 does (wraps g form) t s = after_do (top (one g) s) (λ u rest. put (tree form nowhere (u ∷ [])) rest)
 
--- What marks do, one after another, where `tell` says what each token tells.
-abbrev pub does_all : (ℕ → Telling) → List Event → Pile → Option Pile
+-- What actions do, one after another, where `tell` says what each token tells.
+abbrev pub does_all : (ℕ → Telling) → List ActionAt → Pile → Option Pile
 does_all tell [] s = Some s
-does_all tell (e ∷ events) s = and_then (and_then (mark_with e.mark) (λ m. does (rule m) (tell e.at) s)) (λ next. does_all tell events next)
+does_all tell (e ∷ actions) s = and_then (and_then (action_with e.action) (λ m. does (rule m) (tell e.at) s)) (λ next. does_all tell actions next)

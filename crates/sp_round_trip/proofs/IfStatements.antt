@@ -2,9 +2,9 @@
 use Rattle.std.proofs.Common.{ℕ, List, [], ◌∷◌, ◌++◌, Option, Some, refl, sym, ◌∙◌, arith, ap, subst, true}
 use Rattle.sp_lex.specs.declared.kinds.TokenKind.{TokenKind}
 use Rattle.sp_lex.specs.declared.kinds.TokenKind.TheVariants as token
-use Rattle.sp_lex.specs.declared.kinds.Keyword.TheVariants as keyword
+use Rattle.sp_words.specs.declared.keywords.Keyword.TheVariants as keyword
 use Rattle.sp_parser.specs.Grammar.{right}
-use Rattle.sp_grammar.specs.declared.marks.Mark.TheVariants as build
+use Rattle.sp_grammar.specs.declared.actions.Action.TheVariants as build
 use Rattle.sp_grammar.specs.Written.{part as part_symbol, Part, part_number}
 use Rattle.sp_grammar.specs.Own.{own}
 use Rattle.sp_ast.specs.Trees.{Tree, trees}
@@ -13,7 +13,7 @@ use Rattle.sp_print.specs.declared.layouts.Frame.TheVariants as frame
 use Rattle.sp_print.specs.declared.layouts.Separator.TheVariants as separator
 use Rattle.sp_print.specs.Words.{fixed}
 use Rattle.sp_round_trip.proofs.Held.{Pile, started, made}
-use Rattle.sp_round_trip.proofs.Goes.{Tok, entire, next, coming, before, Goes, nothing, whole, mark, before_both}
+use Rattle.sp_round_trip.proofs.Goes.{Tok, entire, next, coming, before, Goes, nothing, whole, action, before_both}
 use Rattle.sp_round_trip.proofs.Shown.{Claim, OptElseClaim, Trace, one, yielded, Shows}
 use Rattle.sp_round_trip.proofs.Steps.{passes_token, passes_begin, passes_part, passes_one, passes_none, beside, chosen, builds_one}
 use Rattle.sp_round_trip.proofs.ElseBranches.{if_tree, rest_words, Came, Rest, behind_branch, branch_then}
@@ -31,7 +31,7 @@ if_again x cs e came behind before_rest branch rest last v s may =
     let outer : Pile = started (next (entire (fixed (token.Keyword keyword.If)) ∷ before shown v)) ∷ s in
     let inner : Pile = started (next (before shown v)) ∷ outer in
     let reads = beside (branch if_kind behind_it inner (behind_branch cs e after came behind v before_rest may)) (beside (rest after v (next (before shown v)) (next (entire (fixed (token.Keyword keyword.If)) ∷ before shown v)) s may) nothing) in
-    chosen (part_number Part.Stmt) 0 (omega arith) refl (mark build.Begin refl refl (whole refl (mark build.Begin refl refl (subst (λ z. Goes (part_symbol Part.Branch ∷ part_symbol Part.OptElse ∷ []) z inner v (made (if_tree (x ∷ cs) e) ∷ s)) (sym words) reads))))
+    chosen (part_number Part.Stmt) 0 (omega arith) refl (action build.Begin refl refl (whole refl (action build.Begin refl refl (subst (λ z. Goes (part_symbol Part.Branch ∷ part_symbol Part.OptElse ∷ []) z inner v (made (if_tree (x ∷ cs) e) ∷ s)) (sym words) reads))))
 
 pub if_shown : (w u : List Tok) (s t : Pile) → Trace (right own (part_number Part.Stmt) 0) w s u t → Claim (part_number Part.Stmt) w s t u
 unfolding own

@@ -1,7 +1,7 @@
 -- The alternatives of the parts of expressions that keep the tree: an operand alone, and an expression in parentheses.
 use Rattle.std.proofs.Common.{◌≡◌, ℕ, List, [], ◌∷◌, refl, sym, subst}
 use Rattle.sp_parser.specs.Grammar.{right}
-use Rattle.sp_grammar.specs.declared.marks.Mark.TheVariants as build
+use Rattle.sp_grammar.specs.declared.actions.Action.TheVariants as build
 use Rattle.sp_grammar.specs.Written.{part as part_symbol, Part, part_number}
 use Rattle.sp_grammar.specs.Own.{own}
 use Rattle.sp_round_trip.proofs.Held.{Pile, made}

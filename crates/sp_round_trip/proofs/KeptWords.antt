@@ -5,12 +5,12 @@ use Rattle.std.proofs.Common.{◌≡◌, ◌⊎◌, ℕ, List, [], ◌∷◌, �
 use Rattle.std.proofs.lemmas.Bool.{and_parts}
 use Rattle.sp_lex.specs.Lexed.{Lexed, IsLexed}
 use Rattle.sp_lex.specs.declared.tokens.Token.{Token}
-use Rattle.sp_lex.specs.declared.kinds.Mark.TheVariants as sign
+use Rattle.sp_words.specs.declared.punctuation.Punctuation.TheVariants as sign
 use Rattle.sp_lex.specs.declared.kinds.TokenKind.TheVariants as token
 use Rattle.sp_parser.specs.declared.symbol.Symbol.{Symbol}
 use Rattle.sp_parser.specs.declared.symbol.Symbol.TheVariants as symbol
 use Rattle.sp_parser.specs.Grammar.{takes, First, All}
-use Rattle.sp_grammar.specs.declared.marks.Mark.{Mark}
+use Rattle.sp_grammar.specs.declared.actions.Action.{Action}
 use Rattle.sp_ast.specs.Trees.{Tree}
 use Rattle.sp_build.specs.Rules.{rule}
 use Rattle.sp_build.proofs.Told.{never}
@@ -25,9 +25,9 @@ use Rattle.sp_round_trip.specs.Bare.{bare}
 use Rattle.sp_round_trip.specs.Kept.{kept, words_told}
 use Rattle.sp_round_trip.specs.Told.{told}
 use Rattle.sp_round_trip.proofs.Held.{Pile, made, does}
-use Rattle.sp_round_trip.proofs.Goes.{Tok, entire, half, telling_of, number, next, Goes, nothing, whole, first_half, mark, part, before, pushed}
+use Rattle.sp_round_trip.proofs.Goes.{Tok, entire, half, telling_of, number, next, Goes, nothing, whole, first_half, action, part, before, pushed}
 use Rattle.sp_round_trip.proofs.HeardTokens.{half_says, never_halved, tok_words, token_says, toks_words}
-use Rattle.sp_round_trip.proofs.StandingShapes.{Stands, text, Next, stands_with, moved, said_so, stands_words, rule_owned, marked, paired, paired_whole, entered}
+use Rattle.sp_round_trip.proofs.StandingShapes.{Stands, text, Next, stands_with, moved, said_so, stands_words, rule_owned, acted, paired, paired_whole, entered}
 use Rattle.sp_round_trip.proofs.Canonical.{canonical_told, lines_sound}
 use Rattle.sp_round_trip.proofs.HeardWords.{words_of_tellings, heard_of, heard, told_heard, lines_heard}
 use Rattle.sp_round_trip.proofs.Placeless.{lines_same}
@@ -50,7 +50,7 @@ either_of (Some st) go other h = inl (st, refl, h)
 
 -- what comes next is told by a word
 next_is : (w : List Tok) → (v : Word) × (next w ≡ telling_of v)
-next_is [] = (fixed (token.Mark sign.Semicolon), refl)
+next_is [] = (fixed (token.Punctuation sign.Semicolon), refl)
 next_is (entire w ∷ ws) = (w, refl)
 next_is (half w ∷ ws) = (w, refl)
 
@@ -64,9 +64,9 @@ half_on e w st b s o h =
     let (now, says) = stands_words (words_at e) st b s o in
     (now, λ r. ap (λ ws. text st b s o (ws ++ r)) (half_says e w h) ∙ ap (text st b s o) (append_assoc (words_at e) (tok_words (half w)) r) ∙ says (tok_words (half w) ++ r))
 
--- a mark that no token belongs to
-mark_on : (m : Mark) (w : List Tok) (st st' : State) (b s t : Pile) (o : Stands st b s) → after (rule m) st ≡ Some st' → does (rule m) (next w) s ≡ Some t → Next st' b t (λ r. text st b s o r)
-mark_on m w st st' b s t o ok done = let (v, is) = next_is w in marked (rule m) (rule_owned m) v st st' b s t o ok (ap (λ x. does (rule m) x s) (sym is) ∙ done)
+-- an action that no token belongs to
+action_on : (m : Action) (w : List Tok) (st st' : State) (b s t : Pile) (o : Stands st b s) → after (rule m) st ≡ Some st' → does (rule m) (next w) s ≡ Some t → Next st' b t (λ r. text st b s o r)
+action_on m w st st' b s t o ok done = let (v, is) = next_is w in acted (rule m) (rule_owned m) v st st' b s t o ok (ap (λ x. does (rule m) x s) (sym is) ∙ done)
 
 -- A reading ends with what its test wants, in which the words are those that were read.
 abbrev Ends : List Shape → Pile → Pile → List Word → List Word → Type 0
@@ -91,7 +91,7 @@ reads_on (first_half {e = e} {x = x} {ss = ss} {w = w} {v = v} {s = s} {t = t} h
     let more = (and_parts (is_plain e) (passes (adds (words (words_at e)) st) ss want) ok).1 in
     let now = half_on e x st b s o h in
     ends_after want b t (text st b s o (tok_words (entire x) ++ toks_words w)) (text (adds (words (words_at e)) st) b s now.0 (toks_words (half x ∷ w))) (toks_words v) (now.1 (toks_words w)) (reads_on g (adds (words (words_at e)) st) b now.0 want more)
-reads_on (mark {n = n} {s = s} {t = z} m is done (whole {e = e} {x = x} {ss = ss} {w = w} {v = v} {t = t} h g)) st b o want ok =
+reads_on (action {n = n} {s = s} {t = z} m is done (whole {e = e} {x = x} {ss = ss} {w = w} {v = v} {t = t} h g)) st b o want ok =
     let go : State → Bool = λ made_so. passes made_so ss want in
     let later : State → Bool = λ made_so. is_plain e && passes (adds (words (words_at e)) made_so) ss want in
     elim (either_of (pairs (rule m) e st) go (if_so (after (rule m) st) later) (ap (λ k. either (pairs_at k e st) go (if_so (after_at k st) later)) (sym is) ∙ ok)) [
@@ -102,12 +102,12 @@ reads_on (mark {n = n} {s = s} {t = z} m is done (whole {e = e} {x = x} {ss = ss
       | inr alone ↦ (
           let (st', made_so, rest) = so_some (after (rule m) st) later alone in
           let (plain_so, more) = and_parts (is_plain e) (passes (adds (words (words_at e)) st') ss want) rest in
-          let first = mark_on m (x ∷ w) st st' b s z o made_so done in
+          let first = action_on m (x ∷ w) st st' b s z o made_so done in
           let now = token_on e x st' b z first.0 plain_so h in
           ends_after want b t (text st b s o (tok_words x ++ toks_words w)) (text (adds (words (words_at e)) st') b z now.0 (toks_words w)) (toks_words v) (first.1 (tok_words x ++ toks_words w) ∙ now.1 (toks_words w)) (reads_on g (adds (words (words_at e)) st') b now.0 want more)
           )
     ]
-reads_on (mark {n = n} {s = s} {t = z} m is done (first_half {e = e} {x = x} {ss = ss} {w = w} {v = v} {t = t} h g)) st b o want ok =
+reads_on (action {n = n} {s = s} {t = z} m is done (first_half {e = e} {x = x} {ss = ss} {w = w} {v = v} {t = t} h g)) st b o want ok =
     let go : State → Bool = λ made_so. passes made_so ss want in
     let later : State → Bool = λ made_so. is_plain e && passes (adds (words (words_at e)) made_so) ss want in
     elim (either_of (pairs (rule m) e st) go (if_so (after (rule m) st) later) (ap (λ k. either (pairs_at k e st) go (if_so (after_at k st) later)) (sym is) ∙ ok)) [
@@ -115,25 +115,25 @@ reads_on (mark {n = n} {s = s} {t = z} m is done (first_half {e = e} {x = x} {ss
       | inr alone ↦ (
           let (st', made_so, rest) = so_some (after (rule m) st) later alone in
           let more = (and_parts (is_plain e) (passes (adds (words (words_at e)) st') ss want) rest).1 in
-          let first = mark_on m (entire x ∷ w) st st' b s z o made_so done in
+          let first = action_on m (entire x ∷ w) st st' b s z o made_so done in
           let now = half_on e x st' b z first.0 h in
           ends_after want b t (text st b s o (tok_words (entire x) ++ toks_words w)) (text (adds (words (words_at e)) st') b z now.0 (toks_words (half x ∷ w))) (toks_words v) (first.1 (tok_words (entire x) ++ toks_words w) ∙ now.1 (toks_words w)) (reads_on g (adds (words (words_at e)) st') b now.0 want more)
           )
     ]
-reads_on (mark {n = n} {w = w} {s = s} {t = z} m is done nothing) st b o want ok =
+reads_on (action {n = n} {w = w} {s = s} {t = z} m is done nothing) st b o want ok =
     let go : State → Bool = λ made_so. ends made_so want in
     let (st', made_so, more) = so_some (after (rule m) st) go (ap (λ k. if_so (after_at k st) go) (sym is) ∙ ok) in
-    let now = mark_on m w st st' b s z o made_so done in
+    let now = action_on m w st st' b s z o made_so done in
     ends_after want b z (text st b s o (toks_words w)) (text st' b z now.0 (toks_words w)) (toks_words w) (now.1 (toks_words w)) (ended st' b z now.0 want more (toks_words w))
-reads_on (mark {n = n} {ss = symbol.Mark k ∷ ss} {w = w} {v = v} {s = s} {t = z} {u = t} m is done g) st b o want ok =
-    let go : State → Bool = λ made_so. passes made_so (symbol.Mark k ∷ ss) want in
+reads_on (action {n = n} {ss = symbol.Action k ∷ ss} {w = w} {v = v} {s = s} {t = z} {u = t} m is done g) st b o want ok =
+    let go : State → Bool = λ made_so. passes made_so (symbol.Action k ∷ ss) want in
     let (st', made_so, more) = so_some (after (rule m) st) go (ap (λ k. if_so (after_at k st) go) (sym is) ∙ ok) in
-    let now = mark_on m w st st' b s z o made_so done in
+    let now = action_on m w st st' b s z o made_so done in
     ends_after want b t (text st b s o (toks_words w)) (text st' b z now.0 (toks_words w)) (toks_words v) (now.1 (toks_words w)) (reads_on g st' b now.0 want more)
-reads_on (mark {n = n} {ss = symbol.Nonterminal k ∷ ss} {w = w} {v = v} {s = s} {t = z} {u = t} m is done g) st b o want ok =
+reads_on (action {n = n} {ss = symbol.Nonterminal k ∷ ss} {w = w} {v = v} {s = s} {t = z} {u = t} m is done g) st b o want ok =
     let go : State → Bool = λ made_so. passes made_so (symbol.Nonterminal k ∷ ss) want in
     let (st', made_so, more) = so_some (after (rule m) st) go (ap (λ k. if_so (after_at k st) go) (sym is) ∙ ok) in
-    let now = mark_on m w st st' b s z o made_so done in
+    let now = action_on m w st st' b s z o made_so done in
     ends_after want b t (text st b s o (toks_words w)) (text st' b z now.0 (toks_words w)) (toks_words v) (now.1 (toks_words w)) (reads_on g st' b now.0 want more)
 reads_on (part {n = n} {ss = ss} {w = w} {u = u} {v = v} {s = s} {t = z} {z = t} p applies g h) st b o want ok =
     let go : State → Bool = λ rest. passes (adds (gives n) rest) ss want in

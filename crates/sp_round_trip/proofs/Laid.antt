@@ -6,13 +6,13 @@ use Rattle.std.proofs.lemmas.Bool.{and_parts, not-true}
 use Rattle.std.proofs.lemmas.List.{append-nil, append_assoc}
 use Rattle.sp_lex.specs.declared.kinds.TokenKind.{TokenKind}
 use Rattle.sp_lex.specs.declared.kinds.TokenKind.TheVariants as kind
-use Rattle.sp_lex.specs.declared.kinds.Mark.TheVariants as mark
-use Rattle.sp_lex.specs.declared.kinds.Keyword.TheVariants as keyword
+use Rattle.sp_words.specs.declared.punctuation.Punctuation.TheVariants as punctuation
+use Rattle.sp_words.specs.declared.keywords.Keyword.TheVariants as keyword
 use Rattle.sp_runs.specs.Kinds.{number_of, terminal_of}
 use Rattle.sp_ast.specs.declared.forms.Form.{Form}
 use Rattle.sp_ast.specs.declared.forms.Form.TheVariants as form_is
 use Rattle.sp_ast.specs.Trees.{Tree, absent, row, node, trees}
-use Rattle.sp_build.specs.Groups.{is_node}
+use Rattle.sp_ast.specs.Groups.{is_node}
 use Rattle.sp_build.proofs.Standing.{some_equal, not_some, if_some}
 use Rattle.sp_build.proofs.Told.{never}
 use Rattle.sp_print.specs.declared.layouts.Frame.{Frame}
@@ -172,8 +172,8 @@ optional_came around cs go ts h sp = framed_came around cs go ts h sp
 -- the one token that stands between parts in a row
 between_one : (by : Separator) (e : ℕ) → is_between by e ≡ true → kinds (kind_for e ∷ []) ≡ kinds (between by)
 between_one separator.Nothing e h = never h
-between_one separator.Comma e h = ap (λ k. kinds (k ∷ [])) (is_kind (kind.Mark mark.Comma) e (and_parts _ true h).0)
-between_one separator.Scope e h = ap (λ k. kinds (k ∷ [])) (is_kind (kind.Mark mark.ColonColon) e (and_parts _ true h).0)
+between_one separator.Comma e h = ap (λ k. kinds (k ∷ [])) (is_kind (kind.Punctuation punctuation.Comma) e (and_parts _ true h).0)
+between_one separator.Scope e h = ap (λ k. kinds (k ∷ [])) (is_kind (kind.Punctuation punctuation.ColonColon) e (and_parts _ true h).0)
 between_one separator.ElseIf e h = never (and_parts (is_token (kind.Keyword keyword.Else) e) false h).1
 
 -- rows with nothing between the trees follow a tree as they stand alone

@@ -1,23 +1,17 @@
 -- The word that a tree tells by itself is one that its token told: it tells the same tree again.
 use Rattle.std.specs.Prelude.{option_map}
 use Rattle.std.proofs.Common.{◌≡◌, ℕ, List, [], ◌∷◌, Bool, true, false, Option, Some, None, refl, sym, ◌∙◌, ap, subst}
-use Rattle.sp_lex.specs.declared.kinds.Hook.{Hook}
-use Rattle.sp_lex.specs.declared.kinds.Hook.TheVariants as hook
-use Rattle.sp_lex.specs.declared.kinds.Keyword.TheVariants as keyword
 use Rattle.sp_lex.specs.declared.kinds.TokenKind.{TokenKind}
 use Rattle.sp_lex.specs.declared.kinds.TokenKind.TheVariants as token
 use Rattle.sp_parser.specs.Grammar.{takes, Nothing, All, SECOND}
 use Rattle.sp_runs.specs.Kinds.{number_of, terminal_of}
-use Rattle.sp_ast.specs.declared.words.IntWord.TheVariants as integer
-use Rattle.sp_ast.specs.declared.words.AttributeName.TheVariants as attribute_name
 use Rattle.sp_ast.specs.declared.forms.Form.{Form}
-use Rattle.sp_ast.specs.declared.words.IntWord.{IntWord}
-use Rattle.sp_ast.specs.declared.words.AttributeName.{AttributeName}
-use Rattle.sp_ast.specs.declared.words.HookName.{HookName}
-use Rattle.sp_build.specs.Rules.{Leaf, always, by_name, by_string, by_bytes, by_regex, by_number, by_integer, by_event}
-use Rattle.sp_build.specs.Tokens.{integer_of, attribute_of, hook_name_of}
+use Rattle.sp_words.specs.declared.words.IntWord.{IntWord}
+use Rattle.sp_words.specs.declared.words.HookName.{HookName}
+use Rattle.sp_build.specs.Rules.{Leaf, always, by_name, by_string, by_bytes, by_regex, by_number, by_integer, by_hook_name}
+use Rattle.sp_build.specs.Tokens.{integer_of}
 use Rattle.sp_build.proofs.Standing.{some_equal, not_some}
-use Rattle.sp_print.specs.Own.{own_words, integer_keyword, attribute_token, hook_token}
+use Rattle.sp_print.specs.Own.{own_words}
 use Rattle.sp_print.specs.Words.{Word, fixed, name, text, bytes, regex, number as numeral}
 use Rattle.sp_printed_words.specs.Sound.{read_as}
 use Rattle.sp_round_trip.proofs.Held.{form_told}
@@ -31,8 +25,8 @@ LeafSays (by_string form) = (x : List ℕ) → own_words (form x) ≡ text x ∷
 LeafSays (by_bytes form) = (x : List ℕ) → own_words (form x) ≡ bytes x ∷ []
 LeafSays (by_regex form) = (x : List ℕ) → own_words (form x) ≡ regex x ∷ []
 LeafSays (by_number form) = (n : ℕ) → own_words (form n) ≡ numeral n ∷ []
-LeafSays (by_integer form) = (w : IntWord) → own_words (form w) ≡ fixed (token.Keyword (integer_keyword w)) ∷ []
-LeafSays (by_event form) = (h : HookName) → own_words (form h) ≡ fixed (token.Hook (hook_token h)) ∷ []
+LeafSays (by_integer form) = (w : IntWord) → own_words (form w) ≡ fixed (token.Integer w) ∷ []
+LeafSays (by_hook_name form) = (h : HookName) → own_words (form h) ≡ fixed (token.Hook h) ∷ []
 
 -- what holds of each alternative that a token can be of
 abbrev pub EachForm : (Form → Type 0) → Leaf → Type 0
@@ -43,35 +37,16 @@ EachForm P (by_bytes form) = (x : List ℕ) → P (form x)
 EachForm P (by_regex form) = (x : List ℕ) → P (form x)
 EachForm P (by_number form) = (n : ℕ) → P (form n)
 EachForm P (by_integer form) = (w : IntWord) → P (form w)
-EachForm P (by_event form) = (h : HookName) → P (form h)
+EachForm P (by_hook_name form) = (h : HookName) → P (form h)
 
 abbrev pub is_always : Leaf → Bool
 is_always (always form) = true
 is_always _ = false
 
 -- a token that tells an integer type is its word
-pub integer_is : (kind : TokenKind) (w : IntWord) → integer_of kind ≡ Some w → kind ≡ token.Keyword (integer_keyword w)
-integer_is (token.Keyword keyword.Uint8) integer.Uint8 e = refl
-integer_is (token.Keyword keyword.Uint16) integer.Uint16 e = refl
-integer_is (token.Keyword keyword.Uint32) integer.Uint32 e = refl
-integer_is (token.Keyword keyword.Uint64) integer.Uint64 e = refl
-integer_is (token.Keyword keyword.Int8) integer.Int8 e = refl
-integer_is (token.Keyword keyword.Int16) integer.Int16 e = refl
-integer_is (token.Keyword keyword.Int32) integer.Int32 e = refl
-integer_is (token.Keyword keyword.Int64) integer.Int64 e = refl
-integer_is kind w e = absurd cc
-
-pub hook_is : (h : Hook) → hook_token (hook_name_of h) ≡ h
-hook_is hook.Init = refl
-hook_is h = refl
-
-pub integer_again : (w : IntWord) → integer_of (token.Keyword (integer_keyword w)) ≡ Some w
-integer_again integer.Uint8 = refl
-integer_again w = refl
-
-pub attribute_again : (a : AttributeName) → attribute_of (token.Attribute (attribute_token a)) ≡ Some a
-attribute_again attribute_name.Size = refl
-attribute_again a = refl
+pub integer_is : (kind : TokenKind) (w : IntWord) → integer_of kind ≡ Some w → kind ≡ token.Integer w
+integer_is (token.Integer i) w e = ap token.Integer (some_equal e)
+integer_is kind w e = not_some e
 
 -- the word that the tree of a token tells, which tells the same, and is of the same kind
 abbrev Again : Leaf → Form → Tok → Type 0
@@ -81,9 +56,9 @@ pub mapped : {A B : Type 0} (f : A → B) (o : Option A) (y : B) → option_map 
 mapped f None y e = absurd cc
 mapped f (Some x) y e = (x, refl, some_equal e)
 
-pub event_told : (kind : TokenKind) (its : HookName → Form) (x : Word) (form : Form) → form_told (by_event its) kind x ≡ Some form → (h : Hook) × (kind ≡ token.Hook h) × (its (hook_name_of h) ≡ form)
-event_told (token.Hook h) its x form e = (h, refl, some_equal e)
-event_told kind its x form e = absurd cc
+pub hook_name_told : (kind : TokenKind) (its : HookName → Form) (x : Word) (form : Form) → form_told (by_hook_name its) kind x ≡ Some form → (h : HookName) × (kind ≡ token.Hook h) × (its h ≡ form)
+hook_name_told (token.Hook h) its x form e = (h, refl, some_equal e)
+hook_name_told kind its x form e = absurd cc
 
 -- what holds of each alternative holds of the one that is told
 pub of_told : (P : Form → Type 0) (l : Leaf) (kind : TokenKind) (x : Word) (form : Form) → EachForm P l → form_told l kind x ≡ Some form → P form
@@ -94,7 +69,7 @@ of_told P (by_bytes its) kind (bytes x) form each e = subst P (some_equal e) (ea
 of_told P (by_regex its) kind (regex x) form each e = subst P (some_equal e) (each x)
 of_told P (by_number its) kind (numeral n) form each e = subst P (some_equal e) (each n)
 of_told P (by_integer its) kind x form each e = let (w, told, is) = mapped its (integer_of kind) form e in subst P is (each w)
-of_told P (by_event its) (token.Hook h) x form each e = subst P (some_equal e) (each (hook_name_of h))
+of_told P (by_hook_name its) (token.Hook h) x form each e = subst P (some_equal e) (each h)
 of_told P l kind x form each e = not_some e
 
 word_again : (l : Leaf) (form : Form) (x : Word) → LeafSays l → is_always l ≡ false → form_told l (read_as x) x ≡ Some form → Again l form (entire x)
@@ -105,10 +80,10 @@ word_again (by_regex its) form (regex x) says other e = (regex x, ap own_words (
 word_again (by_number its) form (numeral n) says other e = (numeral n, ap own_words (sym (some_equal e)) ∙ says n, refl, e)
 word_again (by_integer its) form x says other e =
     let m = mapped its (integer_of (read_as x)) form e in
-    (fixed (token.Keyword (integer_keyword m.0)), ap own_words (sym m.2) ∙ says m.0, ap (λ k. number_of (terminal_of k)) (sym (integer_is (read_as x) m.0 m.1)), ap (λ o. option_map its o) (integer_again m.0) ∙ ap Some m.2)
-word_again (by_event its) form x says other e =
-    let m = event_told (read_as x) its x form e in
-    (fixed (token.Hook (hook_token (hook_name_of m.0))), ap own_words (sym m.2) ∙ says (hook_name_of m.0), ap (λ h. number_of (terminal_of (token.Hook h))) (hook_is m.0) ∙ ap (λ k. number_of (terminal_of k)) (sym m.1), ap (λ h. Some (its (hook_name_of h))) (hook_is m.0) ∙ ap Some m.2)
+    (fixed (token.Integer m.0), ap own_words (sym m.2) ∙ says m.0, ap (λ k. number_of (terminal_of k)) (sym (integer_is (read_as x) m.0 m.1)), ap Some m.2)
+word_again (by_hook_name its) form x says other e =
+    let m = hook_name_told (read_as x) its x form e in
+    (fixed (token.Hook m.0), ap own_words (sym m.2) ∙ says m.0, ap (λ k. number_of (terminal_of k)) (sym m.1), ap Some m.2)
 word_again (always its) form x says other e = absurd cc
 word_again l form x says other e = absurd cc
 

@@ -3,22 +3,22 @@
 use Rattle.std.specs.Prelude.{◌≤◌, nat_lt, ◌&&◌, ◌||◌, not, if◌then◌else◌}
 use Rattle.std.proofs.Common.{◌≡◌, ℕ, zero, suc, List, [], ◌∷◌, Bool, true, Option, Some, None, refl, ap, sym, subst, inl, inr, ⊎_elim, arith}
 use Rattle.std.proofs.lemmas.Bool.{cases_Bool, ltb-true, ltb-false, or_parts}
-use Rattle.sp_lex.specs.declared.kinds.Mark.TheVariants as sign
+use Rattle.sp_words.specs.declared.punctuation.Punctuation.TheVariants as sign
 use Rattle.sp_lex.specs.declared.kinds.TokenKind.{TokenKind}
 use Rattle.sp_lex.specs.declared.kinds.TokenKind.TheVariants as kind
 use Rattle.sp_parser.specs.declared.symbol.Symbol.TheVariants as symbol
-use Rattle.sp_grammar.specs.declared.marks.Mark.TheVariants as build
+use Rattle.sp_grammar.specs.declared.actions.Action.TheVariants as build
 use Rattle.sp_grammar.specs.Written.{Part, part_number, part as part_symbol}
 use Rattle.sp_grammar.specs.Own.{own}
 use Rattle.sp_ast.specs.Trees.{Tree}
-use Rattle.sp_build.specs.declared.groups.Group.TheVariants.{Expressions as expressions}
-use Rattle.sp_build.specs.Groups.{is_of}
+use Rattle.sp_ast.specs.declared.groups.Group.TheVariants.{Expressions as expressions}
+use Rattle.sp_ast.specs.Groups.{is_of}
 use Rattle.sp_build.specs.Rules.{encloses}
 use Rattle.sp_print.specs.Canonical.{enclosed, at_place, needs_parentheses, level_of, spelled, divides_behind, is_regex, divides}
 use Rattle.sp_print.specs.Words.{fixed}
 use Rattle.sp_round_trip.specs.Told.{Telling}
 use Rattle.sp_round_trip.proofs.Held.{Pile, started, made, does, after, after_do, put, start}
-use Rattle.sp_round_trip.proofs.Goes.{Tok, entire, next, Goes, nothing, whole, mark, before, before_both}
+use Rattle.sp_round_trip.proofs.Goes.{Tok, entire, next, Goes, nothing, whole, action, before, before_both}
 use Rattle.sp_round_trip.proofs.Shown.{level_part, MayPass, Spells}
 use Rattle.sp_round_trip.proofs.Steps.{beside, chosen}
 
@@ -66,13 +66,13 @@ enclosed_does p q t s is = ap (λ b. after_do (if b then Some (after t (started 
 at_enclosed : (t : Tree) → Spells t → (level : ℕ) → 1 ≤ level → level ≤ 15 → (last : Option TokenKind) (v : List Tok) (s : Pile) → Goes (symbol.Nonterminal (part_number (level_part level)) ∷ []) (before (enclosed (spelled t) last) v) s v (made t ∷ s)
 unfolding own
 at_enclosed t spells level low high last v s =
-    let close : Tok = entire (fixed (kind.Mark sign.RightParen)) in
-    let inside = spelled t (Some (kind.Mark sign.LeftParen)) in
+    let close : Tok = entire (fixed (kind.Punctuation sign.RightParen)) in
+    let inside = spelled t (Some (kind.Punctuation sign.LeftParen)) in
     let p : Telling = next (before (enclosed (spelled t) last) v) in
     let below : Pile = started p ∷ s in
-    let words = looser (level_of t) 1 (omega arith) spells.low spells.high (spells.reads (Some (kind.Mark sign.LeftParen)) (close ∷ v) below (inr refl)) in
-    let words = subst (λ w. Goes (part_symbol Part.Expr ∷ []) w below (close ∷ v) (made t ∷ below)) (sym (before_both inside (fixed (kind.Mark sign.RightParen) ∷ []) v)) words in
-    primary_at level low high (chosen (part_number Part.Primary) 9 (omega arith) refl (mark build.Begin refl refl (whole refl (beside words (whole refl (mark build.Paren refl (enclosed_does p (next v) t s spells.is) nothing))))))
+    let words = looser (level_of t) 1 (omega arith) spells.low spells.high (spells.reads (Some (kind.Punctuation sign.LeftParen)) (close ∷ v) below (inr refl)) in
+    let words = subst (λ w. Goes (part_symbol Part.Expr ∷ []) w below (close ∷ v) (made t ∷ below)) (sym (before_both inside (fixed (kind.Punctuation sign.RightParen) ∷ []) v)) words in
+    primary_at level low high (chosen (part_number Part.Primary) 9 (omega arith) refl (action build.Begin refl refl (whole refl (beside words (whole refl (action build.Paren refl (enclosed_does p (next v) t s spells.is) nothing))))))
 
 -- an expression is read at its place
 pub at_level : (t : Tree) → Spells t → (level : ℕ) → 1 ≤ level → level ≤ 15 → (dividend : Bool) → (last : Option TokenKind) (v : List Tok) (s : Pile) → MayPass level v → Goes (symbol.Nonterminal (part_number (level_part level)) ∷ []) (before (at_place level dividend t (spelled t) last) v) s v (made t ∷ s)

@@ -1,4 +1,4 @@
--- What marks build of a text is, apart from places, of what its tokens tell.
+-- What actions build of a text is, apart from places, of what its tokens tell.
 use Rattle.std.specs.Prelude.{option_map, ◌&&◌, if◌then◌else◌}
 use Rattle.std.proofs.Common.{◌≡◌, ℕ, List, [], ◌∷◌, map, reverse, Bool, true, false, Option, Some, None, refl, ap, sym, ◌∙◌}
 use Rattle.sp_lex.specs.declared.kinds.Absent.TheVariants as absent_word
@@ -6,23 +6,22 @@ use Rattle.sp_lex.specs.declared.kinds.TokenKind.{TokenKind}
 use Rattle.sp_lex.specs.declared.kinds.TokenKind.TheVariants as token
 use Rattle.sp_lex.specs.declared.tokens.Token.{Token}
 use Rattle.sp_lex.specs.Readings.{bytes_of}
-use Rattle.sp_parser.specs.declared.symbol.Event.{Event}
-use Rattle.sp_grammar.specs.declared.marks.Mark.{Mark}
-use Rattle.sp_grammar.specs.Marks.{mark_with}
+use Rattle.sp_parser.specs.declared.symbol.ActionAt.{ActionAt}
+use Rattle.sp_grammar.specs.declared.actions.Action.{Action}
+use Rattle.sp_grammar.specs.Actions.{action_with}
 use Rattle.sp_ast.specs.declared.forms.Form.{Form}
 use Rattle.sp_ast.specs.Trees.{Tree, Trees, absent, row, node, none, more, trees, tree, in_row, respan, span_of}
-use Rattle.sp_build.specs.declared.stack.Item.{Item}
-use Rattle.sp_build.specs.declared.stack.Item.TheVariants.{Begun as begun, Built as built}
-use Rattle.sp_build.specs.declared.groups.Group.{Group}
-use Rattle.sp_build.specs.declared.groups.Group.TheVariants.{Expressions as expressions}
-use Rattle.sp_build.specs.declared.groups.Sort.{Sort}
-use Rattle.sp_build.specs.declared.groups.Sort.TheVariants.{One as one, Optional as optional, Rows as rows}
-use Rattle.sp_build.specs.declared.groups.Slot.{Slot}
-use Rattle.sp_build.specs.declared.groups.Slot.TheVariants.{Part as part, Several as several}
-use Rattle.sp_build.specs.Groups.{fits, is_of, is_in, are_of, is_node, tree_group}
-use Rattle.sp_build.specs.Rules.{Leaf, always, by_name, by_string, by_bytes, by_regex, by_number, by_integer, by_event, Rule, begins, leaves_out, takes, gathers, closes, closes_integer, closes_attribute, encloses, joins, wraps, rule}
+use Rattle.sp_build.specs.Items.{Item, begun, built}
+use Rattle.sp_ast.specs.declared.groups.Group.{Group}
+use Rattle.sp_ast.specs.declared.groups.Group.TheVariants.{Expressions as expressions}
+use Rattle.sp_ast.specs.declared.groups.Sort.{Sort}
+use Rattle.sp_ast.specs.declared.groups.Sort.TheVariants.{One as one, Optional as optional, Rows as rows}
+use Rattle.sp_ast.specs.declared.groups.Slot.{Slot}
+use Rattle.sp_ast.specs.declared.groups.Slot.TheVariants.{Part as part, Several as several}
+use Rattle.sp_ast.specs.Groups.{fits, is_of, is_in, are_of, is_node, tree_group}
+use Rattle.sp_build.specs.Rules.{Leaf, always, by_name, by_string, by_bytes, by_regex, by_number, by_integer, by_hook_name, Rule, begins, leaves_out, takes, gathers, closes, closes_integer, closes_attribute, encloses, joins, wraps, rule}
 use Rattle.sp_build.specs.Tokens.{form_of, integer_of, attribute_of}
-use Rattle.sp_build.specs.Building.{Stack, Left, left, then_do, popped, gathered, popped_all, opened, parts_of, popped_parts, close_with, push, push_if, worded, token_of, stretch, stretch_from, done_by, marked, with_mark, go_on, all_done}
+use Rattle.sp_build.specs.Building.{Stack, Left, left, then_do, popped, gathered, popped_all, opened, parts_of, popped_parts, close_with, push, push_if, worded, token_of, stretch, stretch_from, done_by, acted, with_action, go_on, all_done}
 use Rattle.sp_build.proofs.Shapes.{and_then}
 use Rattle.sp_round_trip.specs.Bare.{bare, bares, nowhere}
 use Rattle.sp_round_trip.specs.Told.{Telling, telling, word_of}
@@ -86,8 +85,8 @@ form_same (by_regex form) kind b = refl
 form_same (by_number form) token.Number b = refl
 form_same (by_number form) (token.Absent absent_word.Skip) b = refl
 form_same (by_number form) kind b = refl
-form_same (by_event form) (token.Hook h) b = refl
-form_same (by_event form) kind b = refl
+form_same (by_hook_name form) (token.Hook h) b = refl
+form_same (by_hook_name form) kind b = refl
 
 -- a stack apart from places, where `tell` says what each token tells
 abbrev held : (ℕ → Telling) → Item → Held
@@ -198,13 +197,13 @@ module _ (source : List ℕ) (tokens : List Token) where
   on_held None p go on e h = ap (λ q. and_then q on) e
   on_held (Some s) p go on e h = h s ∙ ap (λ q. and_then q on) e
 
-  mark_held : (o : Option Mark) (n : ℕ) (s : Stack) → option_map (piled tell) (with_mark o (λ m. marked m source tokens n s)) ≡ and_then o (λ m. does (rule m) (tell n) (piled tell s))
-  mark_held None n s = refl
-  mark_held (Some m) n s = done_held (rule m) n s
+  action_held : (o : Option Action) (n : ℕ) (s : Stack) → option_map (piled tell) (with_action o (λ m. acted m source tokens n s)) ≡ and_then o (λ m. does (rule m) (tell n) (piled tell s))
+  action_held None n s = refl
+  action_held (Some m) n s = done_held (rule m) n s
 
-  -- what marks build, apart from places, is of what the tokens tell
-  pub all_held : (events : List Event) (s : Stack) → option_map (piled tell) (all_done source tokens events s) ≡ does_all tell events (piled tell s)
+  -- what actions build, apart from places, is of what the tokens tell
+  pub all_held : (actions : List ActionAt) (s : Stack) → option_map (piled tell) (all_done source tokens actions s) ≡ does_all tell actions (piled tell s)
   all_held [] s = refl
-  all_held (e ∷ events) s =
-      on_held (with_mark (mark_with e.mark) (λ m. marked m source tokens e.at s)) (and_then (mark_with e.mark) (λ m. does (rule m) (tell e.at) (piled tell s)))
-      (λ next. all_done source tokens events next) (λ next. does_all tell events next) (mark_held (mark_with e.mark) e.at s) (λ next. all_held events next)
+  all_held (e ∷ actions) s =
+      on_held (with_action (action_with e.action) (λ m. acted m source tokens e.at s)) (and_then (action_with e.action) (λ m. does (rule m) (tell e.at) (piled tell s)))
+      (λ next. all_done source tokens actions next) (λ next. does_all tell actions next) (action_held (action_with e.action) e.at s) (λ next. all_held actions next)

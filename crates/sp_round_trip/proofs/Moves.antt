@@ -1,17 +1,17 @@
--- What a mark does to a pile by its chunks, and to a copy of it.
+-- What an action does to a pile by its chunks, and to a copy of it.
 use Rattle.std.specs.Prelude.{length, not, ◌&&◌, if◌then◌else◌}
 use Rattle.std.proofs.Common.{◌≡◌, ℕ, suc, List, [], ◌∷◌, ◌++◌, Bool, true, false, ◌==◌, Option, Some, None, refl, sym, ◌∙◌, ap, subst}
 use Rattle.std.proofs.lemmas.Bool.{and_parts, eqb-true, not-true}
 use Rattle.std.proofs.lemmas.List.{append-nil, append_assoc}
 use Rattle.sp_lex.specs.declared.kinds.TokenKind.{TokenKind}
 use Rattle.sp_parser.specs.Grammar.{Take, Nothing, First, All, takes as parser_takes, SECOND}
-use Rattle.sp_grammar.specs.declared.marks.Mark.{Mark}
-use Rattle.sp_grammar.specs.declared.marks.Mark.TheVariants as build
+use Rattle.sp_grammar.specs.declared.actions.Action.{Action}
+use Rattle.sp_grammar.specs.declared.actions.Action.TheVariants as build
 use Rattle.sp_runs.specs.Kinds.{number_of, terminal_of}
 use Rattle.sp_ast.specs.declared.forms.Form.{Form}
 use Rattle.sp_ast.specs.Trees.{Tree, absent, node, none, trees, in_row}
-use Rattle.sp_build.specs.declared.groups.Group.{Group}
-use Rattle.sp_build.specs.declared.groups.Slot.{Slot}
+use Rattle.sp_ast.specs.declared.groups.Group.{Group}
+use Rattle.sp_ast.specs.declared.groups.Slot.{Slot}
 use Rattle.sp_build.specs.Rules.{Leaf, always, Rule, begins, leaves_out, takes, gathers, closes, joins, wraps, rule}
 use Rattle.sp_build.proofs.Standing.{some_equal, not_some, if_some}
 use Rattle.sp_build.proofs.Told.{never}
@@ -42,14 +42,14 @@ RulePlain (takes (always form)) = Unit {0}
 RulePlain (takes l) = EachForm (Plainly l) l × LeafSays l
 RulePlain _ = Unit {0}
 
-pub rule_plain : (m : Mark) → RulePlain (rule m)
+pub rule_plain : (m : Action) → RulePlain (rule m)
 rule_plain build.Name = (λ x. (refl, refl, refl), λ x. refl)
-rule_plain build.Text = (λ x. (refl, refl, refl), λ x. refl)
+rule_plain build.String = (λ x. (refl, refl, refl), λ x. refl)
 rule_plain build.Number = (λ x. (refl, refl, refl), λ x. refl)
-rule_plain build.Event = (λ x. (refl, refl, refl), λ x. refl)
+rule_plain build.HookName = (λ x. (refl, refl, refl), λ x. refl)
 rule_plain build.IntType = (λ x. (refl, refl, refl), λ x. refl)
 rule_plain build.NameTarget = (λ x. (refl, refl, refl), λ x. refl)
-rule_plain build.EventTarget = (λ x. (refl, refl, refl), λ x. refl)
+rule_plain build.HookTarget = (λ x. (refl, refl, refl), λ x. refl)
 rule_plain build.BytesBase = (λ x. (refl, refl, refl), λ x. refl)
 rule_plain build.RegexBase = (λ x. (refl, refl, refl), λ x. refl)
 rule_plain build.NumberExpr = (λ x. (refl, refl, refl), λ x. refl)
@@ -58,12 +58,12 @@ rule_plain build.BytesExpr = (λ x. (refl, refl, refl), λ x. refl)
 rule_plain build.RegexExpr = (λ x. (refl, refl, refl), λ x. refl)
 rule_plain m = tt
 
--- A mark by itself: it writes nothing, and does the same on each copy, whatever token comes.
+-- An action by itself: it writes nothing, and does the same on each copy, whatever token comes.
 abbrev Stays : Rule → State → {σ : State} {b s : Pile} → Piled σ b s → Pile → Type 0
 Stays r next {b = b} g t =
     (now : Piled next b t) × Same (said now) (said g) × ((c z : Pile) (x : Telling) → Copies g c z → (y : Pile) × (does r x z ≡ Some y) × Copies now c y)
 
--- A mark with the token that comes: it writes one word, which is such a token, and does the same on each copy where that word comes.
+-- An action with the token that comes: it writes one word, which is such a token, and does the same on each copy where that word comes.
 abbrev Eats : Rule → ℕ → State → {σ : State} {b s : Pile} → Piled σ b s → Pile → Type 0
 Eats r e next {b = b} g t =
     (now : Piled next b t) × (w : Word) × Same (said now) (chain (said g) (λ last. w ∷ [])) × (parser_takes e (number (entire w)) ≡ All)
@@ -329,7 +329,7 @@ moved_some : (o : Option (List Chunk)) (σ τ : State) → moved o σ ≡ stays 
 moved_some None σ τ e = no_stay e
 moved_some (Some es) σ τ e = (es, refl, cc)
 
--- A mark that stays does as its chunks say.
+-- An action that stays does as its chunks say.
 pub stayed : (r : Rule) → RulePlain r → (coming : Option ℕ) (σ τ : State) {b s t : Pile} (x : Telling) → move r coming σ ≡ stays τ → does r x s ≡ Some t → (g : Piled σ b s) → Stays r τ g t
 stayed begins plain coming σ τ {t = t} x ok e g = subst (λ z. Stays begins z g t) (moved_to ok) (begun σ x e g)
 stayed leaves_out plain coming σ τ {t = t} x ok e g = subst (λ z. Stays leaves_out z g t) (moved_to ok) (left σ e g)
@@ -356,7 +356,7 @@ moved_no_eat : {A : Type 0} (o : Option (List Chunk)) (σ τ : State) → moved 
 moved_no_eat None σ τ e = no_eat e
 moved_no_eat (Some es) σ τ e = stays_no_eat e
 
--- A mark that eats the token that comes does as its chunks say.
+-- An action that eats the token that comes does as its chunks say.
 pub ate : (r : Rule) → RulePlain r → (n : ℕ) (σ τ : State) {b s t : Pile} (x : Tok) → move r (Some n) σ ≡ eats τ → parser_takes n (number x) ≡ All → does r (tells x) s ≡ Some t → (g : Piled σ b s) → Eats r n τ g t
 ate (takes (always form)) plain n σ τ x ok passed e g = always_takes form (layout form) n σ τ refl ok e g
 ate (takes l) plain n σ τ x ok passed e g = leaf_takes l n σ τ x refl plain.0 plain.1 ok passed e g

@@ -4,8 +4,8 @@ use Rattle.std.proofs.Common.{◌≡◌, ℕ, ◌+◌, List, [], ◌∷◌, map,
 use Rattle.std.proofs.Math.Path.{fun_ext}
 use Rattle.sp_lex.specs.declared.kinds.TokenKind.{TokenKind}
 use Rattle.sp_lex.specs.declared.kinds.TokenKind.TheVariants as token
-use Rattle.sp_lex.specs.declared.kinds.Mark.TheVariants as mark
-use Rattle.sp_ast.specs.Operators.{level}
+use Rattle.sp_words.specs.declared.punctuation.Punctuation.TheVariants as punctuation
+use Rattle.sp_words.specs.Operators.{level}
 use Rattle.sp_ast.specs.Trees.{Tree, Trees, node, absent, row, none, more}
 use Rattle.sp_ast.specs.declared.forms.Form.{Form}
 use Rattle.sp_ast.specs.declared.forms.Form.TheVariants as form_is
@@ -103,7 +103,7 @@ part_moved form (part_is.One at) x = place_bare (least form at) (is_dividend for
 part_moved form (part_is.Optional around) x = framed_moved around x
 part_moved form (part_is.Row by) x = refl
 part_moved form part_is.Arguments x = ap (λ b. if b then nothing else enclosed (x.in_row separator.Comma)) (empty_bare x.tree)
-part_moved form part_is.Hooks x = ap (λ b. if b then kinds (token.Mark mark.Semicolon ∷ []) else x.in_row separator.Nothing) (empty_bare x.tree)
+part_moved form part_is.Hooks x = ap (λ b. if b then kinds (token.Punctuation punctuation.Semicolon ∷ []) else x.in_row separator.Nothing) (empty_bare x.tree)
 
 laid_moved : (form : Form) (ps : List Piece) (xs : List Part) → laid form ps (map moved xs) ≡ laid form ps xs
 laid_moved form [] xs = refl

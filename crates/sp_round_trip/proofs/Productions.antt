@@ -12,8 +12,8 @@ use Rattle.sp_ast.specs.Trees.{Tree}
 use Rattle.sp_build.proofs.Told.{never}
 use Rattle.sp_printed_words.specs.Modules.{module_lines}
 use Rattle.sp_round_trip.proofs.Held.{Pile}
-use Rattle.sp_round_trip.proofs.Goes.{Tok, number, before, Goes, nothing, whole, first_half, mark, part}
-use Rattle.sp_round_trip.proofs.Shown.{flat, Manner, other, manner_of, Claim, ClaimAs, Trace, ended, token_passed, half_passed, mark_passed, part_passed}
+use Rattle.sp_round_trip.proofs.Goes.{Tok, number, before, Goes, nothing, whole, first_half, action, part}
+use Rattle.sp_round_trip.proofs.Shown.{flat, Manner, other, manner_of, Claim, ClaimAs, Trace, ended, token_passed, half_passed, action_passed, part_passed}
 use Rattle.sp_round_trip.proofs.Advance.{is_again}
 use Rattle.sp_round_trip.proofs.Declarations.{module_shown}
 use Rattle.sp_round_trip.proofs.TextReadings.{ReadsModule}
@@ -63,7 +63,7 @@ traced : {ss : List Symbol} {w v : List Tok} {s t : Pile} → Goes ss w s v t �
 traced nothing = ended
 traced (whole passed g) = token_passed passed (traced g)
 traced (first_half passed g) = half_passed passed (traced g)
-traced (mark m is done g) = mark_passed m is done (traced g)
+traced (action m is done g) = action_passed m is done (traced g)
 traced (part {n = n} {w = w} {u = u} {s = s} {t = t} p a g h) = part_passed (produced n p w u s t a (traced g)) (traced h)
 
 one_alternative : (p : ℕ) → suc p < length (productions_of own (part_number Part.Module)) → ⊥

@@ -1,25 +1,25 @@
--- What a production has read, as shapes since each tree began; and the test that each mark closes what is written as the
+-- What a production has read, as shapes since each tree began; and the test that each action closes what is written as the
 -- layout of its alternative, and that what is left is written as its part.
 use Rattle.std.specs.Prelude.{length, not, ◌&&◌, ◌||◌, ◌<◌, if◌then◌else◌}
 use Rattle.std.proofs.Common.{◌≡◌, ℕ, suc, List, [], ◌∷◌, ◌++◌, reverse, Bool, true, false, ◌==◌, Option, Some, None, refl, sym, ◌∙◌, inl, inr}
 use Rattle.std.proofs.lemmas.Bool.{not-true, or_cases}
-use Rattle.sp_lex.specs.declared.kinds.Keyword.TheVariants as keyword
-use Rattle.sp_lex.specs.declared.kinds.Mark.TheVariants as sign
+use Rattle.sp_words.specs.declared.keywords.Keyword.TheVariants as keyword
+use Rattle.sp_words.specs.declared.punctuation.Punctuation.TheVariants as sign
 use Rattle.sp_lex.specs.declared.kinds.TokenKind.TheVariants as token
 use Rattle.sp_parser.specs.declared.symbol.Symbol.{Symbol}
 use Rattle.sp_parser.specs.declared.symbol.Symbol.TheVariants as symbol
 use Rattle.sp_parser.specs.Grammar.{Take, right, takes, Nothing, CLOSE, SECOND, productions_of}
-use Rattle.sp_grammar.specs.declared.marks.Mark.{Mark}
-use Rattle.sp_grammar.specs.Marks.{mark_with}
+use Rattle.sp_grammar.specs.declared.actions.Action.{Action}
+use Rattle.sp_grammar.specs.Actions.{action_with}
 use Rattle.sp_grammar.specs.Own.{own}
 use Rattle.sp_grammar.specs.Terminals.{terminal_number}
 use Rattle.sp_grammar.specs.declared.terminals.Terminal.TheVariants as terminal
 use Rattle.sp_grammar.specs.Written.{Part, part_number}
 use Rattle.sp_grammar.proofs.Spans.{below}
-use Rattle.sp_ast.specs.declared.words.AttributeName.TheVariants as attribute_name
-use Rattle.sp_ast.specs.declared.words.IntWord.TheVariants as integer
-use Rattle.sp_build.specs.declared.groups.Slot.{Slot}
-use Rattle.sp_build.specs.declared.groups.Slot.TheVariants as slot
+use Rattle.sp_words.specs.declared.words.AttributeName.TheVariants as attribute_name
+use Rattle.sp_words.specs.declared.words.IntWord.TheVariants as integer
+use Rattle.sp_ast.specs.declared.groups.Slot.{Slot}
+use Rattle.sp_ast.specs.declared.groups.Slot.TheVariants as slot
 use Rattle.sp_build.specs.Rules.{always, Rule, begins, leaves_out, takes as takes_leaf, gathers, closes, closes_integer, closes_attribute, encloses, joins, wraps, rule}
 use Rattle.sp_print.specs.declared.layouts.Separator.TheVariants as separator
 use Rattle.sp_print.specs.declared.layouts.Frame.TheVariants as frame
@@ -57,7 +57,7 @@ is_plain e = (e == CLOSE) || is_lone e
 
 -- the words of such a terminal
 abbrev pub words_at : ℕ → List Word
-words_at e = if e == CLOSE then fixed_words (token.Mark sign.Greater) else fixed_words (kind_for e)
+words_at e = if e == CLOSE then fixed_words (token.Punctuation sign.Greater) else fixed_words (kind_for e)
 
 -- the words behind the last tree
 abbrev are_words : List Shape → Bool
@@ -103,7 +103,7 @@ are_parts (slot.Several g ∷ slots) = false
 abbrev pub whole_shapes : List Shape → List Shape → ℕ → Bool
 whole_shapes cs want n = holds cs n && (are_ordered want && covers depth cs want)
 
--- what a mark makes of them
+-- what an action makes of them
 abbrev pub after : Rule → State → Option State
 after begins st = Some (inner false [] st)
 after leaves_out st = Some (adds (tree left_out ∷ []) st)
@@ -117,7 +117,7 @@ after (joins slots form) (base cs) = if are_parts (reverse slots) && whole_shape
 after (wraps g form) (base cs) = if whole_shapes cs (shapes_of form) 1 then Some (base (tree one ∷ [])) else None
 after _ _ = None
 
--- a mark and the token behind it, of which a tree is made, or which tells what the tree is
+-- an action and the token behind it, of which a tree is made, or which tells what the tree is
 abbrev pub begins_with : ℕ → Bool
 begins_with e = ((e == terminal_number terminal.IntWord) || (e == terminal_number terminal.Attribute)) && is_whole e
 
@@ -130,11 +130,11 @@ pairs (takes_leaf (always form)) e st = if is_said e (shapes_of form) then Some 
 pairs (takes_leaf l) e st = if is_whole e then Some (adds (tree one ∷ []) st) else None
 pairs _ e st = None
 
-abbrev pub after_at : Option Mark → State → Option State
+abbrev pub after_at : Option Action → State → Option State
 after_at None st = None
 after_at (Some m) st = after (rule m) st
 
-abbrev pub pairs_at : Option Mark → ℕ → State → Option State
+abbrev pub pairs_at : Option Action → ℕ → State → Option State
 pairs_at None e st = None
 pairs_at (Some m) e st = pairs (rule m) e st
 
@@ -200,8 +200,8 @@ abbrev pub passes : State → List Symbol → List Shape → Bool
 passes st [] want = ends st want
 passes st (symbol.Terminal e ∷ ss) want = is_plain e && passes (adds (words (words_at e)) st) ss want
 passes st (symbol.Nonterminal n ∷ ss) want = is_used n && if_so (enters (needs n) st) (λ rest. passes (adds (gives n) rest) ss want)
-passes st (symbol.Mark n ∷ symbol.Terminal e ∷ ss) want = either (pairs_at (mark_with n) e st) (λ paired. passes paired ss want) (if_so (after_at (mark_with n) st) (λ made. is_plain e && passes (adds (words (words_at e)) made) ss want))
-passes st (symbol.Mark n ∷ ss) want = if_so (after_at (mark_with n) st) (λ made. passes made ss want)
+passes st (symbol.Action n ∷ symbol.Terminal e ∷ ss) want = either (pairs_at (action_with n) e st) (λ paired. passes paired ss want) (if_so (after_at (action_with n) st) (λ made. is_plain e && passes (adds (words (words_at e)) made) ss want))
+passes st (symbol.Action n ∷ ss) want = if_so (after_at (action_with n) st) (λ made. passes made ss want)
 
 abbrev is_fine : ℕ → ℕ → Bool
 is_fine n p = not (is_used n) || passes (floor (needs n)) (right own n p) (gives n)

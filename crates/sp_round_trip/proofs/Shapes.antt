@@ -8,7 +8,7 @@ use Rattle.sp_runs.specs.Kinds.{number_of, terminal_of}
 use Rattle.sp_ast.specs.declared.forms.Form.{Form}
 use Rattle.sp_ast.specs.declared.forms.Form.TheVariants as form_is
 use Rattle.sp_ast.specs.Trees.{Tree, Trees, absent, row, node, none, more, trees}
-use Rattle.sp_build.specs.Groups.{is_node}
+use Rattle.sp_ast.specs.Groups.{is_node}
 use Rattle.sp_build.proofs.Told.{never}
 use Rattle.sp_print.specs.declared.layouts.Frame.{Frame}
 use Rattle.sp_print.specs.declared.layouts.Frame.TheVariants as frame

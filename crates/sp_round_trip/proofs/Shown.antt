@@ -2,22 +2,23 @@
 -- built is read from these words.
 use Rattle.std.specs.Prelude.{flat_map, ◌≤◌, ◌⊎◌, if◌then◌else◌}
 use Rattle.std.proofs.Common.{◌≡◌, ℕ, List, [], ◌∷◌, ◌++◌, map, get_or, Bool, true, false, ◌==◌, Option, Some, None, subst, eqb-true}
-use Rattle.sp_lex.specs.declared.kinds.Mark.TheVariants as sign
+use Rattle.sp_words.specs.declared.punctuation.Punctuation.TheVariants as sign
 use Rattle.sp_lex.specs.declared.kinds.TokenKind.{TokenKind}
 use Rattle.sp_lex.specs.declared.kinds.TokenKind.TheVariants as kind
 use Rattle.sp_parser.specs.declared.symbol.Symbol.{Symbol}
 use Rattle.sp_parser.specs.declared.symbol.Symbol.TheVariants as symbol
 use Rattle.sp_parser.specs.Grammar.{takes, First, All}
 use Rattle.sp_grammar.specs.declared.terminals.Terminal.{Terminal}
+use Rattle.sp_words.specs.declared.keywords.Keyword.TheVariants as keyword
 use Rattle.sp_grammar.specs.declared.terminals.Terminal.TheVariants as token
-use Rattle.sp_grammar.specs.Marks.{mark_with}
+use Rattle.sp_grammar.specs.Actions.{action_with}
 use Rattle.sp_grammar.specs.Terminals.{terminal_number}
 use Rattle.sp_grammar.specs.Written.{Part, part_number, all_parts, part as part_symbol}
 use Rattle.sp_ast.specs.declared.forms.Form.TheVariants as form_is
 use Rattle.sp_ast.specs.declared.forms.StmtForm.TheVariants as stmt_is
 use Rattle.sp_ast.specs.Trees.{Tree, absent, row, trees, tree}
-use Rattle.sp_build.specs.declared.groups.Group.TheVariants.{Expressions as expressions}
-use Rattle.sp_build.specs.Groups.{is_of, is_node}
+use Rattle.sp_ast.specs.declared.groups.Group.TheVariants.{Expressions as expressions}
+use Rattle.sp_ast.specs.Groups.{is_of, is_node}
 use Rattle.sp_build.specs.Rules.{rule}
 use Rattle.sp_build.proofs.Told.{never}
 use Rattle.sp_print.specs.declared.layouts.Frame.{Frame}
@@ -58,7 +59,7 @@ yielded (listed by) ts = written_listed by (parts_of (trees ts))
 yielded (followed by) ts = written_followed by (parts_of (trees ts))
 yielded (in_row by) (t ∷ []) = rowed t by
 yielded arguments (t ∷ []) = if is_empty_row t then no_words else enclosed (rowed t separator.Comma)
-yielded hooks (t ∷ []) = if is_empty_row t then kinds (kind.Mark sign.Semicolon ∷ []) else rowed t separator.Nothing
+yielded hooks (t ∷ []) = if is_empty_row t then kinds (kind.Punctuation sign.Semicolon ∷ []) else rowed t separator.Nothing
 yielded _ ts = no_words
 
 -- one tree, and it is neither left out nor a row
@@ -165,39 +166,39 @@ manner _ = other
 -- The token that may not come behind a part: a `(` behind what can end with a `new` without arguments, an `else` behind
 -- what can end with an `if` without one.
 abbrev avoids : Part → Option Terminal
-avoids Part.OptPriority = Some token.LeftParen
-avoids Part.Label = Some token.LeftParen
-avoids Part.OptValue = Some token.LeftParen
-avoids Part.Labels = Some token.LeftParen
-avoids Part.OptExpr = Some token.LeftParen
-avoids Part.Attrs = Some token.LeftParen
-avoids Part.OptSink = Some token.LeftParen
-avoids Part.Args = Some token.LeftParen
-avoids Part.Exprs = Some token.LeftParen
-avoids Part.Stmts = Some token.Else
-avoids Part.Stmt = Some token.Else
-avoids Part.Branch = Some token.Else
-avoids Part.OptElse = Some token.Else
-avoids Part.Other = Some token.Else
-avoids Part.Cases = Some token.Else
-avoids Part.OptDefault = Some token.Else
-avoids Part.Expr = Some token.LeftParen
-avoids Part.Or = Some token.LeftParen
-avoids Part.And = Some token.LeftParen
-avoids Part.Membership = Some token.LeftParen
-avoids Part.Equality = Some token.LeftParen
-avoids Part.Order = Some token.LeftParen
-avoids Part.BitOr = Some token.LeftParen
-avoids Part.BitXor = Some token.LeftParen
-avoids Part.BitAnd = Some token.LeftParen
-avoids Part.Shift = Some token.LeftParen
-avoids Part.Sum = Some token.LeftParen
-avoids Part.Product = Some token.LeftParen
-avoids Part.Prefix = Some token.LeftParen
-avoids Part.Postfix = Some token.LeftParen
-avoids Part.Primary = Some token.LeftParen
-avoids Part.Pairs = Some token.LeftParen
-avoids Part.Pair = Some token.LeftParen
+avoids Part.OptPriority = Some (token.Punctuation sign.LeftParen)
+avoids Part.Label = Some (token.Punctuation sign.LeftParen)
+avoids Part.OptValue = Some (token.Punctuation sign.LeftParen)
+avoids Part.Labels = Some (token.Punctuation sign.LeftParen)
+avoids Part.OptExpr = Some (token.Punctuation sign.LeftParen)
+avoids Part.Attrs = Some (token.Punctuation sign.LeftParen)
+avoids Part.OptSink = Some (token.Punctuation sign.LeftParen)
+avoids Part.Args = Some (token.Punctuation sign.LeftParen)
+avoids Part.Exprs = Some (token.Punctuation sign.LeftParen)
+avoids Part.Stmts = Some (token.Keyword keyword.Else)
+avoids Part.Stmt = Some (token.Keyword keyword.Else)
+avoids Part.Branch = Some (token.Keyword keyword.Else)
+avoids Part.OptElse = Some (token.Keyword keyword.Else)
+avoids Part.Other = Some (token.Keyword keyword.Else)
+avoids Part.Cases = Some (token.Keyword keyword.Else)
+avoids Part.OptDefault = Some (token.Keyword keyword.Else)
+avoids Part.Expr = Some (token.Punctuation sign.LeftParen)
+avoids Part.Or = Some (token.Punctuation sign.LeftParen)
+avoids Part.And = Some (token.Punctuation sign.LeftParen)
+avoids Part.Membership = Some (token.Punctuation sign.LeftParen)
+avoids Part.Equality = Some (token.Punctuation sign.LeftParen)
+avoids Part.Order = Some (token.Punctuation sign.LeftParen)
+avoids Part.BitOr = Some (token.Punctuation sign.LeftParen)
+avoids Part.BitXor = Some (token.Punctuation sign.LeftParen)
+avoids Part.BitAnd = Some (token.Punctuation sign.LeftParen)
+avoids Part.Shift = Some (token.Punctuation sign.LeftParen)
+avoids Part.Sum = Some (token.Punctuation sign.LeftParen)
+avoids Part.Product = Some (token.Punctuation sign.LeftParen)
+avoids Part.Prefix = Some (token.Punctuation sign.LeftParen)
+avoids Part.Postfix = Some (token.Punctuation sign.LeftParen)
+avoids Part.Primary = Some (token.Punctuation sign.LeftParen)
+avoids Part.Pairs = Some (token.Punctuation sign.LeftParen)
+avoids Part.Pair = Some (token.Punctuation sign.LeftParen)
 avoids _ = None
 
 abbrev pub manner_of : ℕ → Manner
@@ -231,7 +232,7 @@ avoided_there (Some f) e v ok avoids = subst (λ n. (coming v == n) ≡ false) (
 
 -- what may come behind a part, behind which this kind came in the original
 abbrev pub MayFollow : ℕ → ℕ → List Tok → Type 0
-MayFollow n came v = Avoids (avoided n) v ⊎ ((is_kept n ≡ true) × (came ≡ terminal_number token.Else))
+MayFollow n came v = Avoids (avoided n) v ⊎ ((is_kept n ≡ true) × (came ≡ terminal_number (token.Keyword keyword.Else)))
 
 -- the trees of a part are read from their words
 abbrev pub Shows : ℕ → Yield → List Tree → ℕ → Type 0
@@ -243,7 +244,7 @@ level_part level = get_or (Part.Expr ∷ Part.Expr ∷ Part.Or ∷ Part.And ∷ 
 
 -- An expression of level 15 can stand before a `(`, and one of another level can't: it may end with a `new` without arguments.
 abbrev pub MayPass : ℕ → List Tok → Type 0
-MayPass level v = (level ≡ 15) ⊎ Avoids (Some token.LeftParen) v
+MayPass level v = (level ≡ 15) ⊎ Avoids (Some (token.Punctuation sign.LeftParen)) v
 
 -- an expression is read from its words, by the part of its own level
 pub record Spells (t : Tree) : Type 0 where
@@ -252,7 +253,7 @@ pub record Spells (t : Tree) : Type 0 where
   pub high : level_of t ≤ 15
   pub reads : (last : Option TokenKind) (v : List Tok) (s : Pile) → MayPass (level_of t) v → Goes (symbol.Nonterminal (part_number (level_part (level_of t))) ∷ []) (before (spelled t last) v) s v (made t ∷ s)
 
--- The rest of a path of a hook, behind the names xs: more names, and an event or none.
+-- The rest of a path of a hook, behind the names xs: more names, and the name of a hook or none.
 abbrev OnPathClaim : Pile → Pile → Type 0
 OnPathClaim s t =
     (xs : List Tree) (p : Telling) (b : Pile) → s ≡ pushed xs (started p ∷ b)
@@ -265,7 +266,7 @@ abbrev pub OptElseClaim : List Tok → Pile → Pile → List Tok → Type 0
 OptElseClaim w s t u =
     (bs : List Tree) (p q : Telling) (b : Pile) → s ≡ pushed bs (started p ∷ started q ∷ b)
     → (cs : List Tree) × (e : Tree) × (t ≡ made (tree (form_is.Stmt stmt_is.If) nowhere (row (trees (bs ++ cs)) ∷ e ∷ [])) ∷ b)
-    × ((coming w ≡ terminal_number token.Else) ⊎ ((cs ≡ []) × (e ≡ absent) × (coming w ≡ coming u)))
+    × ((coming w ≡ terminal_number (token.Keyword keyword.Else)) ⊎ ((cs ≡ []) × (e ≡ absent) × (coming w ≡ coming u)))
     × ((last : Option TokenKind) (v : List Tok) (x y : Telling) (c : Pile) → MayFollow (part_number Part.Stmt) (coming u) v
     → Goes (part_symbol Part.OptElse ∷ []) (before (chain (written_followed separator.ElseIf (parts_of (trees cs))) (framed frame.Else (part_of e)) last) v) (pushed bs (started x ∷ started y ∷ c)) v (made (tree (form_is.Stmt stmt_is.If) nowhere (row (trees (bs ++ cs)) ∷ e ∷ [])) ∷ c))
 
@@ -273,7 +274,7 @@ OptElseClaim w s t u =
 abbrev NewArgsClaim : Pile → Pile → Type 0
 NewArgsClaim s t =
     (us : List Tree) × (t ≡ made (row (trees us)) ∷ s)
-    × ((last : Option TokenKind) (v : List Tok) (b : Pile) → (us ≡ [] → Avoids (Some token.LeftParen) v)
+    × ((last : Option TokenKind) (v : List Tok) (b : Pile) → (us ≡ [] → Avoids (Some (token.Punctuation sign.LeftParen)) v)
     → Goes (part_symbol Part.NewArgs ∷ []) (before (yielded arguments (row (trees us) ∷ []) last) v) b v (made (row (trees us)) ∷ b))
 
 -- words of lines, one behind the other
@@ -304,5 +305,5 @@ pub data Trace : List Symbol → List Tok → Pile → List Tok → Pile → Typ
   ended : {w : List Tok} {s : Pile} → Trace [] w s w s
   token_passed : {e : ℕ} {x : Tok} {ss : List Symbol} {w v : List Tok} {s t : Pile} → takes e (number x) ≡ All → Trace ss w s v t → Trace (symbol.Terminal e ∷ ss) (x ∷ w) s v t
   half_passed : {e : ℕ} {x : Word} {ss : List Symbol} {w v : List Tok} {s t : Pile} → takes e (number (entire x)) ≡ First → Trace ss (half x ∷ w) s v t → Trace (symbol.Terminal e ∷ ss) (entire x ∷ w) s v t
-  mark_passed : {n : ℕ} {ss : List Symbol} {w v : List Tok} {s t u : Pile} (m : _) → mark_with n ≡ Some m → does (rule m) (next w) s ≡ Some t → Trace ss w t v u → Trace (symbol.Mark n ∷ ss) w s v u
+  action_passed : {n : ℕ} {ss : List Symbol} {w v : List Tok} {s t u : Pile} (m : _) → action_with n ≡ Some m → does (rule m) (next w) s ≡ Some t → Trace ss w t v u → Trace (symbol.Action n ∷ ss) w s v u
   part_passed : {n : ℕ} {ss : List Symbol} {w u v : List Tok} {s t z : Pile} → Claim n w s t u → Trace ss u t v z → Trace (symbol.Nonterminal n ∷ ss) w s v z

@@ -7,15 +7,17 @@ use Rattle.sp_lex.specs.declared.kinds.TokenKind.{TokenKind}
 use Rattle.sp_parser.specs.declared.symbol.Symbol.{Symbol}
 use Rattle.sp_parser.specs.declared.symbol.Symbol.TheVariants as symbol
 use Rattle.sp_parser.specs.Grammar.{Nothing, First, All, takes, CLOSE, SECOND}
-use Rattle.sp_grammar.specs.declared.marks.Mark.{Mark}
+use Rattle.sp_grammar.specs.declared.actions.Action.{Action}
 use Rattle.sp_grammar.specs.declared.terminals.Terminal.{Terminal}
+use Rattle.sp_words.specs.declared.punctuation.Punctuation.TheVariants as sign
+use Rattle.sp_words.specs.declared.keywords.Keyword.TheVariants as keyword
 use Rattle.sp_grammar.specs.declared.terminals.Terminal.TheVariants as token
-use Rattle.sp_grammar.specs.Marks.{mark_with}
+use Rattle.sp_grammar.specs.Actions.{action_with}
 use Rattle.sp_grammar.specs.Terminals.{terminal_number}
 use Rattle.sp_runs.specs.Kinds.{number_of, terminal_of}
 use Rattle.sp_ast.specs.Trees.{Tree, node, absent, row}
-use Rattle.sp_build.specs.declared.groups.Group.TheVariants.{Expressions as expressions}
-use Rattle.sp_build.specs.Groups.{is_of, is_node}
+use Rattle.sp_ast.specs.declared.groups.Group.TheVariants.{Expressions as expressions}
+use Rattle.sp_ast.specs.Groups.{is_of, is_node}
 use Rattle.sp_build.specs.Rules.{rule}
 use Rattle.sp_build.proofs.Standing.{some_equal, not_some, if_some}
 use Rattle.sp_build.proofs.Told.{never}
@@ -23,12 +25,12 @@ use Rattle.sp_build.proofs.Shapes.{and_then}
 use Rattle.sp_print.specs.Canonical.{last_kind}
 use Rattle.sp_print.specs.Words.{Word, fixed}
 use Rattle.sp_round_trip.proofs.Held.{Pile, does}
-use Rattle.sp_round_trip.proofs.Goes.{Tok, entire, number, next, coming, before, pushed, Goes, nothing, whole, mark, before_both}
-use Rattle.sp_round_trip.proofs.Shown.{Yield, one, Manner, plain, expression, manner_of, avoided, is_kept, Avoids, Fits, Shows, yielded, ClaimAs, Trace, ended, token_passed, half_passed, mark_passed, part_passed, is_avoided, avoided_there}
+use Rattle.sp_round_trip.proofs.Goes.{Tok, entire, number, next, coming, before, pushed, Goes, nothing, whole, action, before_both}
+use Rattle.sp_round_trip.proofs.Shown.{Yield, one, Manner, plain, expression, manner_of, avoided, is_kept, Avoids, Fits, Shows, yielded, ClaimAs, Trace, ended, token_passed, half_passed, action_passed, part_passed, is_avoided, avoided_there}
 use Rattle.sp_round_trip.proofs.Expressions.{expression_shows}
 use Rattle.sp_round_trip.proofs.Singles.{kind_for}
 use Rattle.sp_round_trip.proofs.Chunks.{word, tree, wrote}
-use Rattle.sp_round_trip.proofs.Advance.{State, add, Move, stays, eats, stuck, Guard, is_watched, are_marks, may_be_empty, comes_first, next_fits, move, move_at, then_go, yield_of, is_read, shown_number, advance}
+use Rattle.sp_round_trip.proofs.Advance.{State, add, Move, stays, eats, stuck, Guard, is_watched, are_actions, may_be_empty, comes_first, next_fits, move, move_at, then_go, yield_of, is_read, shown_number, advance}
 use Rattle.sp_round_trip.proofs.Firsts.{first_tested, paren_tested, else_tested, comes_behind, follows}
 use Rattle.sp_round_trip.proofs.Piles.{chain_same, alone, Piled, said, Copies, grown}
 use Rattle.sp_round_trip.proofs.Moves.{rule_plain, stayed, ate, eats_itself, not_second, all_taken}
@@ -36,7 +38,7 @@ use Rattle.sp_round_trip.proofs.Steps.{beside, never_first, taken_by}
 
 -- what may come behind the symbols
 abbrev pub Guarded : Guard → ℕ → List Tok → Type 0
-Guarded guard came v = Avoids guard.avoid v ⊎ ((guard.kept ≡ true) × (came ≡ terminal_number token.Else))
+Guarded guard came v = Avoids guard.avoid v ⊎ ((guard.kept ≡ true) × (came ≡ terminal_number (token.Keyword keyword.Else)))
 
 -- The symbols read these words on each copy of the pile, and leave a copy of what they left.
 abbrev pub Onward : Guard → List Symbol → List Tok → {σ τ : State} {b s t : Pile} → Piled σ b s → Piled τ b t → Type 0
@@ -56,9 +58,9 @@ stay_cases stuck stay eat τ e = not_some e
 stay_cases (stays σ) stay eat τ e = inl (σ, refl, e)
 stay_cases (eats σ) stay eat τ e = inr (σ, refl, e)
 
--- a mark that stays, and what comes behind it
-stay_on : (guard : Guard) (ss : List Symbol) (n : ℕ) (m : Mark) (follow : Option ℕ) {σ : State} (next_state τ : State) (w u : List Tok) {b s t z : Pile} → mark_with n ≡ Some m → move (rule m) follow σ ≡ stays next_state → does (rule m) (next w) s ≡ Some t → (g : Piled σ b s)
-    → ((h : Piled next_state b t) → Sound guard ss u τ h z) → Sound guard (symbol.Mark n ∷ ss) u τ g z
+-- an action that stays, and what comes behind it
+stay_on : (guard : Guard) (ss : List Symbol) (n : ℕ) (m : Action) (follow : Option ℕ) {σ : State} (next_state τ : State) (w u : List Tok) {b s t z : Pile} → action_with n ≡ Some m → move (rule m) follow σ ≡ stays next_state → does (rule m) (next w) s ≡ Some t → (g : Piled σ b s)
+    → ((h : Piled next_state b t) → Sound guard ss u τ h z) → Sound guard (symbol.Action n ∷ ss) u τ g z
 stay_on guard ss n m follow {σ = σ} next_state τ w u is moves done g more =
     let (h, same, copies) = stayed (rule m) (rule_plain m) follow σ next_state (next w) moves done g in
     let (now, on) = more h in (
@@ -67,7 +69,7 @@ stay_on guard ss n m follow {σ = σ} next_state τ w u is moves done g more =
         ws,
         words ∙ ap (λ q. q ++ ws) (same last),
         λ c z v copy may.
-            let (y, does_so, copied) = copies c z (next (before ws v)) copy in let (last_pile, read, copied_on) = goes c y v copied may in (last_pile, mark m is does_so read, copied_on),
+            let (y, does_so, copied) = copies c z (next (before ws v)) copy in let (last_pile, read, copied_on) = goes c y v copied may in (last_pile, action m is does_so read, copied_on),
       ),
     )
 
@@ -77,9 +79,9 @@ first_half_closes e k passed none = elim (cases_Bool (e == CLOSE)) [
   | inr n ↦ absurd (never_first (e == k) (sym (taken_by e k n) ∙ passed))
 ]
 
--- a mark that eats the token that comes, and what comes behind that
-eat_on : (guard : Guard) (ss : List Symbol) (n e : ℕ) (m : Mark) {σ : State} (next_state τ : State) (x : Tok) (w u : List Tok) {b s t z : Pile} → mark_with n ≡ Some m → move (rule m) (Some e) σ ≡ eats next_state → takes e (number x) ≡ All → does (rule m) (next (x ∷ w)) s ≡ Some t → (g : Piled σ b s)
-    → ((h : Piled next_state b t) → Sound guard ss u τ h z) → Sound guard (symbol.Mark n ∷ symbol.Terminal e ∷ ss) u τ g z
+-- an action that eats the token that comes, and what comes behind that
+eat_on : (guard : Guard) (ss : List Symbol) (n e : ℕ) (m : Action) {σ : State} (next_state τ : State) (x : Tok) (w u : List Tok) {b s t z : Pile} → action_with n ≡ Some m → move (rule m) (Some e) σ ≡ eats next_state → takes e (number x) ≡ All → does (rule m) (next (x ∷ w)) s ≡ Some t → (g : Piled σ b s)
+    → ((h : Piled next_state b t) → Sound guard ss u τ h z) → Sound guard (symbol.Action n ∷ symbol.Terminal e ∷ ss) u τ g z
 eat_on guard ss n e m {σ = σ} next_state τ x w u is moves passed done g more =
     let (h, it, same, passes, copies) = ate (rule m) (rule_plain m) e σ next_state x moves passed done g in
     let (now, on) = more h in (
@@ -88,7 +90,7 @@ eat_on guard ss n e m {σ = σ} next_state τ x w u is moves passed done g more 
         it ∷ ws,
         words_on (said g last) (said h last) (said now last) (it ∷ []) ws (same last) words,
         λ c z v copy may.
-            let (y, does_so, copied) = copies c z copy in let (last_pile, read, copied_on) = goes c y v copied may in (last_pile, mark m is does_so (whole passes read), copied_on),
+            let (y, does_so, copied) = copies c z copy in let (last_pile, read, copied_on) = goes c y v copied may in (last_pile, action m is does_so (whole passes read), copied_on),
       ),
     )
 
@@ -110,32 +112,32 @@ token_on guard ss e τ u ok g more =
     )
 
 watched_tested : (e : Terminal) → is_watched e ≡ true → first_tested (terminal_number e) ≡ true
-watched_tested token.LeftParen ok = paren_tested
-watched_tested token.Else ok = else_tested
+watched_tested (token.Punctuation sign.LeftParen) ok = paren_tested
+watched_tested (token.Keyword keyword.Else) ok = else_tested
 watched_tested e ok = never ok
 
-marks_only : (ss : List Symbol) {w v : List Tok} {s t : Pile} → are_marks ss ≡ true → Trace ss w s v t → w ≡ v
-marks_only [] ok ended = refl
-marks_only (symbol.Mark m ∷ ss) ok (mark_passed n is done more) = marks_only ss ok more
-marks_only (symbol.Terminal e ∷ ss) ok tr = never ok
-marks_only (symbol.Nonterminal e ∷ ss) ok tr = never ok
+actions_only : (ss : List Symbol) {w v : List Tok} {s t : Pile} → are_actions ss ≡ true → Trace ss w s v t → w ≡ v
+actions_only [] ok ended = refl
+actions_only (symbol.Action m ∷ ss) ok (action_passed n is done more) = actions_only ss ok more
+actions_only (symbol.Terminal e ∷ ss) ok tr = never ok
+actions_only (symbol.Nonterminal e ∷ ss) ok tr = never ok
 
 -- what may come behind a part is what comes there
 may_come : (o : Option Terminal) (guard : Guard) (n : ℕ) (ss : List Symbol) {u1 u r v : List Tok} {s t y z : Pile} → next_fits o guard n ss ≡ true → Goes ss r y v z → Trace ss u1 s u t → Guarded guard (coming u) v
-    → Avoids o r ⊎ ((is_kept n ≡ true) × (coming u1 ≡ terminal_number token.Else))
+    → Avoids o r ⊎ ((is_kept n ≡ true) × (coming u1 ≡ terminal_number (token.Keyword keyword.Else)))
 may_come None guard n ss ok goes tr may = inl tt
 may_come (Some e) guard n ss {r = r} {v = v} ok goes tr may =
-    let all = and_parts (is_watched e && not (comes_first (terminal_number e) ss)) (not (may_be_empty ss) || (is_avoided guard.avoid e && (not guard.kept || (is_kept n && are_marks ss)))) ok in
+    let all = and_parts (is_watched e && not (comes_first (terminal_number e) ss)) (not (may_be_empty ss) || (is_avoided guard.avoid e && (not guard.kept || (is_kept n && are_actions ss)))) ok in
     let first = and_parts (is_watched e) (not (comes_first (terminal_number e) ss)) all.0 in
     elim (comes_behind (terminal_number e) (watched_tested e first.0) goes (not-true _ first.1)) [
       | inl differs ↦ inl differs
       | inr empty ↦
-          let here = and_parts (is_avoided guard.avoid e) (not guard.kept || (is_kept n && are_marks ss)) (follows (may_be_empty ss) (is_avoided guard.avoid e && (not guard.kept || (is_kept n && are_marks ss))) all.1 empty.1) in
+          let here = and_parts (is_avoided guard.avoid e) (not guard.kept || (is_kept n && are_actions ss)) (follows (may_be_empty ss) (is_avoided guard.avoid e && (not guard.kept || (is_kept n && are_actions ss))) all.1 empty.1) in
           elim may [
             | inl avoids ↦ inl (subst (λ q. Avoids (Some e) q) (sym empty.0) (avoided_there guard.avoid e v here.0 avoids))
             | inr kept ↦
-                let marks = and_parts (is_kept n) (are_marks ss) (follows guard.kept (is_kept n && are_marks ss) here.1 kept.0) in
-                inr (marks.0, ap coming (marks_only ss marks.1 tr) ∙ kept.1)
+                let actions = and_parts (is_kept n) (are_actions ss) (follows guard.kept (is_kept n && are_actions ss) here.1 kept.0) in
+                inr (actions.0, ap coming (actions_only ss actions.1 tr) ∙ kept.1)
           ]
     ]
 
@@ -181,11 +183,11 @@ part_on guard ss n {σ = σ} τ u1 u {b = b} {s = s} {t = t} {z = z} (y, ts, on,
           ),
     )
 
--- what a mark moves to, by what it is
-moves_at : (n : ℕ) (m : Mark) (e : Option ℕ) (σ τ : State) (stay eat : State → Option State) → mark_with n ≡ Some m → then_go (move_at (mark_with n) e σ) stay eat ≡ Some τ → then_go (move (rule m) e σ) stay eat ≡ Some τ
+-- what an action moves to, by what it is
+moves_at : (n : ℕ) (m : Action) (e : Option ℕ) (σ τ : State) (stay eat : State → Option State) → action_with n ≡ Some m → then_go (move_at (action_with n) e σ) stay eat ≡ Some τ → then_go (move (rule m) e σ) stay eat ≡ Some τ
 moves_at n m e σ τ stay eat is ok = ap (λ o. then_go (move_at o e σ) stay eat) (sym is) ∙ ok
 
-stays_at : (n : ℕ) (m : Mark) (σ τ : State) (stay : State → Option State) → mark_with n ≡ Some m → then_go (move_at (mark_with n) None σ) stay (λ q. None) ≡ Some τ → (q : State) × (move (rule m) None σ ≡ stays q) × (stay q ≡ Some τ)
+stays_at : (n : ℕ) (m : Action) (σ τ : State) (stay : State → Option State) → action_with n ≡ Some m → then_go (move_at (action_with n) None σ) stay (λ q. None) ≡ Some τ → (q : State) × (move (rule m) None σ ≡ stays q) × (stay q ≡ Some τ)
 stays_at n m σ τ stay is ok = elim (stay_cases (move (rule m) None σ) stay (λ q. None) τ (moves_at n m None σ τ stay (λ q. None) is ok)) [
   | inl found ↦ found
   | inr (q, moves, more) ↦ absurd (let h : None ≡ Some _ = more in cc)
@@ -199,22 +201,22 @@ sound guard (symbol.Terminal e ∷ ss) σ τ {u = u} ok (token_passed passed tr)
     let i = if_some (is_read e) (advance guard ss (add (word (shown_number e)) σ)) τ ok in token_on guard ss e τ u i.0 g (λ h. sound guard ss (add (word (shown_number e)) σ) τ i.1 tr h)
 sound guard (symbol.Terminal e ∷ ss) σ τ {u = u} ok (half_passed passed tr) g =
     let i = if_some (is_read e) (advance guard ss (add (word (shown_number e)) σ)) τ ok in token_on guard ss e τ u i.0 g (λ h. sound guard ss (add (word (shown_number e)) σ) τ i.1 tr h)
-sound guard (symbol.Mark n ∷ symbol.Terminal e ∷ ss) σ τ {w = w} {u = u} ok (mark_passed m is done (token_passed {x = x} {w = v} passed tr)) g =
+sound guard (symbol.Action n ∷ symbol.Terminal e ∷ ss) σ τ {w = w} {u = u} ok (action_passed m is done (token_passed {x = x} {w = v} passed tr)) g =
     elim (stay_cases (move (rule m) (Some e) σ) (λ q. advance guard (symbol.Terminal e ∷ ss) q) (λ q. advance guard ss q) τ (moves_at n m (Some e) σ τ (λ q. advance guard (symbol.Terminal e ∷ ss) q) (λ q. advance guard ss q) is ok)) [
       | inl (q, moves, more) ↦ stay_on guard (symbol.Terminal e ∷ ss) n m (Some e) q τ w u is moves done g (λ h. sound guard (symbol.Terminal e ∷ ss) q τ more (token_passed {x = x} passed tr) h)
       | inr (q, moves, more) ↦ eat_on guard ss n e m q τ x v u is moves passed done g (λ h. sound guard ss q τ more tr h)
     ]
-sound guard (symbol.Mark n ∷ symbol.Terminal e ∷ ss) σ τ {w = w} {u = u} ok (mark_passed m is done (half_passed {x = x} {w = v} passed tr)) g =
+sound guard (symbol.Action n ∷ symbol.Terminal e ∷ ss) σ τ {w = w} {u = u} ok (action_passed m is done (half_passed {x = x} {w = v} passed tr)) g =
     elim (stay_cases (move (rule m) (Some e) σ) (λ q. advance guard (symbol.Terminal e ∷ ss) q) (λ q. advance guard ss q) τ (moves_at n m (Some e) σ τ (λ q. advance guard (symbol.Terminal e ∷ ss) q) (λ q. advance guard ss q) is ok)) [
       | inl (q, moves, more) ↦ stay_on guard (symbol.Terminal e ∷ ss) n m (Some e) q τ w u is moves done g (λ h. sound guard (symbol.Terminal e ∷ ss) q τ more (half_passed {x = x} passed tr) h)
       | inr (q, moves, more) ↦ first_half_closes e (number (entire x)) passed (not_second e (eats_itself (rule m) e σ q moves))
     ]
-sound guard (symbol.Mark n ∷ []) σ τ {w = w} {u = u} ok (mark_passed m is done tr) g =
+sound guard (symbol.Action n ∷ []) σ τ {w = w} {u = u} ok (action_passed m is done tr) g =
     let (q, moves, more) = stays_at n m σ τ (λ q. advance guard [] q) is ok in stay_on guard [] n m None q τ w u is moves done g (λ h. sound guard [] q τ more tr h)
-sound guard (symbol.Mark n ∷ symbol.Mark k ∷ ss) σ τ {w = w} {u = u} ok (mark_passed m is done tr) g =
-    let (q, moves, more) = stays_at n m σ τ (λ q. advance guard (symbol.Mark k ∷ ss) q) is ok in
-    stay_on guard (symbol.Mark k ∷ ss) n m None q τ w u is moves done g (λ h. sound guard (symbol.Mark k ∷ ss) q τ more tr h)
-sound guard (symbol.Mark n ∷ symbol.Nonterminal k ∷ ss) σ τ {w = w} {u = u} ok (mark_passed m is done tr) g =
+sound guard (symbol.Action n ∷ symbol.Action k ∷ ss) σ τ {w = w} {u = u} ok (action_passed m is done tr) g =
+    let (q, moves, more) = stays_at n m σ τ (λ q. advance guard (symbol.Action k ∷ ss) q) is ok in
+    stay_on guard (symbol.Action k ∷ ss) n m None q τ w u is moves done g (λ h. sound guard (symbol.Action k ∷ ss) q τ more tr h)
+sound guard (symbol.Action n ∷ symbol.Nonterminal k ∷ ss) σ τ {w = w} {u = u} ok (action_passed m is done tr) g =
     let (q, moves, more) = stays_at n m σ τ (λ q. advance guard (symbol.Nonterminal k ∷ ss) q) is ok in
     stay_on guard (symbol.Nonterminal k ∷ ss) n m None q τ w u is moves done g (λ h. sound guard (symbol.Nonterminal k ∷ ss) q τ more tr h)
 sound guard (symbol.Nonterminal n ∷ ss) σ τ {w = w} {u = u} {s = s} ok (part_passed {u = v} {t = t} claim tr) g =

@@ -16,7 +16,7 @@ use Rattle.sp_round_trip.proofs.ElseBranches.{else_if_shown, else_shown, no_else
 use Rattle.sp_round_trip.proofs.LeftOut.{last_comma_shown, semicolon_shown, no_semicolon_shown}
 use Rattle.sp_round_trip.proofs.FieldHooks.{no_hooks_shown, hooks_shown}
 use Rattle.sp_round_trip.proofs.HookDeclarations.{on_shown}
-use Rattle.sp_round_trip.proofs.HookPaths.{more_path_shown, path_event_shown, path_end_shown}
+use Rattle.sp_round_trip.proofs.HookPaths.{more_path_shown, path_hook_name_shown, path_end_shown}
 use Rattle.sp_round_trip.proofs.IfStatements.{if_shown}
 use Rattle.sp_round_trip.proofs.IntegerBases.{number_base_shown, integer_base_shown}
 use Rattle.sp_round_trip.proofs.KeptTrees.{alone_shown, parentheses_shown}
@@ -46,7 +46,7 @@ alternatives =
     ∷ alternative Part.Decls 1 no_declarations_shown
     ∷ alternative Part.Decl 9 on_shown
     ∷ alternative Part.OnPath 0 more_path_shown
-    ∷ alternative Part.OnPath 1 path_event_shown
+    ∷ alternative Part.OnPath 1 path_hook_name_shown
     ∷ alternative Part.OnPath 2 path_end_shown
     ∷ alternative Part.OptParen 0 parameters_shown
     ∷ alternative Part.OptParen 1 no_parameters_shown

@@ -6,15 +6,15 @@ use Rattle.std.proofs.lemmas.Bool.{cases_Bool, eqb-true}
 use Rattle.sp_lex.specs.declared.kinds.TokenKind.{TokenKind}
 use Rattle.sp_parser.specs.declared.symbol.Symbol.TheVariants as symbol
 use Rattle.sp_grammar.specs.Written.{Part, part_number}
-use Rattle.sp_ast.specs.Operators.{level}
-use Rattle.sp_ast.specs.declared.operators.BinaryOp.{BinaryOp}
-use Rattle.sp_ast.specs.declared.operators.BinaryOp.TheVariants as binary
+use Rattle.sp_words.specs.Operators.{level}
+use Rattle.sp_words.specs.declared.operators.BinaryOp.{BinaryOp}
+use Rattle.sp_words.specs.declared.operators.BinaryOp.TheVariants as binary
 use Rattle.sp_ast.specs.declared.forms.Form.{Form}
 use Rattle.sp_ast.specs.declared.forms.Form.TheVariants as form_is
 use Rattle.sp_ast.specs.declared.forms.ExprForm.TheVariants as expr_is
 use Rattle.sp_ast.specs.Trees.{Tree, Trees, node, none, trees}
-use Rattle.sp_build.specs.declared.groups.Group.TheVariants.{Expressions as expressions}
-use Rattle.sp_build.specs.Groups.{is_of}
+use Rattle.sp_ast.specs.declared.groups.Group.TheVariants.{Expressions as expressions}
+use Rattle.sp_ast.specs.Groups.{is_of}
 use Rattle.sp_build.proofs.Told.{never}
 use Rattle.sp_print.specs.Canonical.{form_level, spelled}
 use Rattle.sp_round_trip.specs.Bare.{nowhere}

@@ -1,29 +1,28 @@
--- The shapes in which what was read stands on a pile, and what each mark makes of them: the words stay.
+-- The shapes in which what was read stands on a pile, and what each action makes of them: the words stay.
 use Rattle.std.specs.Prelude.{option_map, length, ◌&&◌, ◌||◌, if◌then◌else◌}
 use Rattle.std.proofs.Common.{◌≡◌, ◌⊎◌, ℕ, suc, List, [], ◌∷◌, ◌++◌, reverse, Bool, true, false, ◌==◌, Option, Some, None, inl, inr, refl, sym, ◌∙◌, ap, subst}
 use Rattle.std.proofs.lemmas.Bool.{and_parts, eqb-true}
 use Rattle.std.proofs.lemmas.List.{append-nil}
-use Rattle.sp_lex.specs.declared.kinds.Attribute.TheVariants as attribute
 use Rattle.sp_lex.specs.declared.kinds.TokenKind.{TokenKind}
 use Rattle.sp_lex.specs.declared.kinds.TokenKind.TheVariants as token
 use Rattle.sp_parser.specs.Grammar.{takes, All}
-use Rattle.sp_grammar.specs.declared.marks.Mark.{Mark}
-use Rattle.sp_grammar.specs.declared.marks.Mark.TheVariants as build
+use Rattle.sp_grammar.specs.declared.actions.Action.{Action}
+use Rattle.sp_grammar.specs.declared.actions.Action.TheVariants as build
 use Rattle.sp_grammar.specs.Terminals.{terminal_number}
 use Rattle.sp_grammar.specs.declared.terminals.Terminal.TheVariants as terminal
 use Rattle.sp_ast.specs.declared.forms.Form.{Form}
-use Rattle.sp_ast.specs.declared.words.AttributeName.{AttributeName}
-use Rattle.sp_ast.specs.declared.words.AttributeName.TheVariants as attribute_name
-use Rattle.sp_ast.specs.declared.words.IntWord.{IntWord}
-use Rattle.sp_ast.specs.declared.words.IntWord.TheVariants as integer
+use Rattle.sp_words.specs.declared.words.AttributeName.{AttributeName}
+use Rattle.sp_words.specs.declared.words.AttributeName.TheVariants as attribute_name
+use Rattle.sp_words.specs.declared.words.IntWord.{IntWord}
+use Rattle.sp_words.specs.declared.words.IntWord.TheVariants as integer
 use Rattle.sp_ast.specs.Trees.{Tree, absent, tree as tree_of, in_row as row_of}
-use Rattle.sp_build.specs.Rules.{Leaf, always, by_name, by_string, by_bytes, by_regex, by_number, by_integer, by_event, Rule, begins, leaves_out, takes as takes_leaf, gathers, closes, closes_integer, closes_attribute, encloses, joins, wraps, rule}
-use Rattle.sp_build.specs.Tokens.{integer_of, attribute_of, hook_name_of}
+use Rattle.sp_build.specs.Rules.{Leaf, always, by_name, by_string, by_bytes, by_regex, by_number, by_integer, by_hook_name, Rule, begins, leaves_out, takes as takes_leaf, gathers, closes, closes_integer, closes_attribute, encloses, joins, wraps, rule}
+use Rattle.sp_build.specs.Tokens.{integer_of, attribute_of}
 use Rattle.sp_build.proofs.Standing.{some_equal, not_some, if_some}
 use Rattle.sp_build.proofs.Told.{never}
 use Rattle.sp_print.specs.declared.layouts.Separator.{Separator}
 use Rattle.sp_print.specs.declared.layouts.Separator.TheVariants as separator
-use Rattle.sp_print.specs.Own.{own_words, integer_keyword, attribute_token}
+use Rattle.sp_print.specs.Own.{own_words}
 use Rattle.sp_print.specs.Words.{Word, fixed, name, text as literal, bytes, regex, number as numeral}
 use Rattle.sp_printed_words.specs.Sound.{read_as}
 use Rattle.sp_round_trip.specs.Bare.{nowhere}
@@ -32,7 +31,7 @@ use Rattle.sp_round_trip.proofs.Held.{Pile, started, made, form_told, does}
 use Rattle.sp_round_trip.proofs.Goes.{Tok, tells, telling_of, number, pushed, pushed_append}
 use Rattle.sp_round_trip.proofs.HeardTokens.{heard_by_kind, lone_says, tok_words, whole_word}
 use Rattle.sp_round_trip.proofs.HeardWords.{carries, fixed_words, heard_of, heard}
-use Rattle.sp_round_trip.proofs.Leaves.{LeafSays, EachForm, is_always, of_told, mapped, event_told, integer_is, hook_is}
+use Rattle.sp_round_trip.proofs.Leaves.{LeafSays, EachForm, is_always, of_told, mapped, hook_name_told, integer_is}
 use Rattle.sp_round_trip.proofs.Shapes.{Shape, word, tree, one, optional, left_out, listed, in_row, words, shapes_of, rest_shapes, tree_words, text_of, Split, trees_in, wrote, joined_split, parted, only_words, words_in, covers, covers_on, no_shapes, are_ordered, node_words}
 use Rattle.sp_round_trip.proofs.ShapeRuns.{State, base, inner, adds, is_whole, is_lone, words_at, left_over, depth, shut, or_else, holds, are_parts, whole_shapes, after, begins_with, is_said, pairs, enters, floor}
 use Rattle.sp_round_trip.proofs.Singles.{is_single, kind_for}
@@ -127,15 +126,13 @@ makes_own form w ks rest ts is same ok sq all =
     )
 
 abbrev integer_word : IntWord → List Word
-integer_word i = fixed (token.Keyword (integer_keyword i)) ∷ []
+integer_word i = fixed (token.Integer i) ∷ []
 
 abbrev attribute_word : AttributeName → List Word
-attribute_word a = fixed (token.Attribute (attribute_token a)) ∷ []
+attribute_word a = fixed (token.Attribute a) ∷ []
 
-attribute_is : (kind : TokenKind) (a : AttributeName) → attribute_of kind ≡ Some a → kind ≡ token.Attribute (attribute_token a)
-attribute_is (token.Attribute attribute.Priority) a e = not_some e
-attribute_is (token.Attribute attribute.Size) a e = ap (λ x. token.Attribute (attribute_token x)) (some_equal e)
-attribute_is (token.Attribute x) a e = ap (λ x. token.Attribute (attribute_token x)) (some_equal e)
+attribute_is : (kind : TokenKind) (a : AttributeName) → attribute_of kind ≡ Some a → kind ≡ token.Attribute a
+attribute_is (token.Attribute x) a e = ap token.Attribute (some_equal e)
 attribute_is kind a e = not_some e
 
 integer_heard : (w : Word) (i : IntWord) → integer_of (read_as w) ≡ Some i → heard_of w ≡ integer_word i
@@ -152,15 +149,15 @@ IsOwned (takes_leaf (always form)) = Unit {0}
 IsOwned (takes_leaf l) = LeafSays l × EachForm (λ form. shapes_of form ≡ (words (heard (own_words form)) ++ []) ++ []) l
 IsOwned _ = Unit {0}
 
-pub rule_owned : (m : Mark) → IsOwned (rule m)
+pub rule_owned : (m : Action) → IsOwned (rule m)
 rule_owned build.Begin = tt
 rule_owned build.Name = (λ x. refl, λ x. refl)
-rule_owned build.Text = (λ x. refl, λ x. refl)
+rule_owned build.String = (λ x. refl, λ x. refl)
 rule_owned build.Number = (λ x. refl, λ x. refl)
-rule_owned build.Event = (λ x. refl, λ x. refl)
+rule_owned build.HookName = (λ x. refl, λ x. refl)
 rule_owned build.IntType = (λ x. refl, λ x. refl)
 rule_owned build.NameTarget = (λ x. refl, λ x. refl)
-rule_owned build.EventTarget = (λ x. refl, λ x. refl)
+rule_owned build.HookTarget = (λ x. refl, λ x. refl)
 rule_owned build.Attribute = λ x. refl
 rule_owned build.BytesBase = (λ x. refl, λ x. refl)
 rule_owned build.RegexBase = (λ x. refl, λ x. refl)
@@ -216,28 +213,28 @@ gathers_on by v cs st st' b s t o ok h =
     moved st' st' b (made (row_of ts) ∷ under) t (λ r. text (inner false cs st) b s o r) refl (sym (gathered_so (telling_of v) s t ts (telling_of w) under is h))
     (shut_on false cs (tree (listed by) ∷ []) (tree (in_row by)) st st' b under sp w lower ok (row_of ts) (makes_row by ts))
 
--- what a mark makes of what stands on a pile, the words stay
-pub marked : (r : Rule) → IsOwned r → (v : Word) (st st' : State) (b s t : Pile) (o : Stands st b s) → after r st ≡ Some st' → does r (telling_of v) s ≡ Some t → Next st' b t (λ r. text st b s o r)
-marked begins owned v st st' b s t o ok h = moved (inner false [] st) st' b (started (telling_of v) ∷ s) t (λ r. text st b s o r) (some_equal ok) (some_equal h) ((tt, v, s, refl, o), λ r. refl)
-marked leaves_out owned v st st' b s t o ok h = moved (adds (tree left_out ∷ []) st) st' b (made absent ∷ s) t (λ r. text st b s o r) (some_equal ok) (some_equal h) (stands_with (tree left_out ∷ []) st b s o (tt, tt))
-marked (takes_leaf (always form)) owned v st st' b s t o ok h =
+-- what an action makes of what stands on a pile, the words stay
+pub acted : (r : Rule) → IsOwned r → (v : Word) (st st' : State) (b s t : Pile) (o : Stands st b s) → after r st ≡ Some st' → does r (telling_of v) s ≡ Some t → Next st' b t (λ r. text st b s o r)
+acted begins owned v st st' b s t o ok h = moved (inner false [] st) st' b (started (telling_of v) ∷ s) t (λ r. text st b s o r) (some_equal ok) (some_equal h) ((tt, v, s, refl, o), λ r. refl)
+acted leaves_out owned v st st' b s t o ok h = moved (adds (tree left_out ∷ []) st) st' b (made absent ∷ s) t (λ r. text st b s o r) (some_equal ok) (some_equal h) (stands_with (tree left_out ∷ []) st b s o (tt, tt))
+acted (takes_leaf (always form)) owned v st st' b s t o ok h =
     let (none_there, is) = if_some (no_shapes (shapes_of form)) (Some (adds (tree one ∷ []) st)) st' ok in
     let u = tree_of form nowhere [] in
     moved (adds (tree one ∷ []) st) st' b (made u ∷ s) t (λ r. text st b s o r) (some_equal is) (some_equal h)
     (said_so (adds (tree one ∷ []) st) b (made u ∷ s) (λ r. text st b s o (tree_words u r)) (λ r. text st b s o r) (λ r. ap (text st b s o) (sym (node_words form [] tt [] (no_shapes_are (shapes_of form) none_there) refl refl r)))
     (stands_with (tree one ∷ []) st b s o ((u, refl), tt)))
-marked gathers owned v (inner false cs st) st' b s t o ok h = elim (or_some (shut cs (tree (listed separator.Nothing) ∷ []) (tree (in_row separator.Nothing)) st) (shut cs (tree (listed separator.ElseIf) ∷ []) (tree (in_row separator.ElseIf)) st) st' ok) [
+acted gathers owned v (inner false cs st) st' b s t o ok h = elim (or_some (shut cs (tree (listed separator.Nothing) ∷ []) (tree (in_row separator.Nothing)) st) (shut cs (tree (listed separator.ElseIf) ∷ []) (tree (in_row separator.ElseIf)) st) st' ok) [
   | inl plainly ↦ gathers_on separator.Nothing v cs st st' b s t o plainly h
   | inr branches ↦ gathers_on separator.ElseIf v cs st st' b s t o branches h
 ]
-marked (closes slots form) owned v (inner false cs st) st' b s t o ok h =
+acted (closes slots form) owned v (inner false cs st) st' b s t o ok h =
     let (sp, w, under, is, lower) = o in
     let ts = trees_in cs sp in
     let (ordered, made_so) = if_some (are_ordered (shapes_of form)) (shut cs (shapes_of form) (tree one) st) st' ok in
     let (f, told_so, pile) = closed_so slots (λ p. Some form) s t ts (telling_of w) under is h in
     moved st' st' b (made (tree_of form nowhere ts) ∷ under) t (λ r. text (inner false cs st) b s o r) refl (ap (λ g. made (tree_of g nowhere ts) ∷ under) (some_equal told_so) ∙ sym pile)
     (shut_on false cs (shapes_of form) (tree one) st st' b under sp w lower made_so (tree_of form nowhere ts) (makes_node form ts ordered))
-marked (closes_integer slots form) owned v (inner true cs st) st' b s t o ok h =
+acted (closes_integer slots form) owned v (inner true cs st) st' b s t o ok h =
     let (sp, w, under, is, lower) = o in
     let ts = trees_in cs sp in
     let rest = rest_shapes (form integer.Uint8) in
@@ -246,7 +243,7 @@ marked (closes_integer slots form) owned v (inner true cs st) st' b s t o ok h =
     let (i, word_is, form_is) = mapped form (integer_of (read_as w)) f told_so in
     moved st' st' b (made (tree_of (form i) nowhere ts) ∷ under) t (λ r. text (inner true cs st) b s o r) refl (ap (λ g. made (tree_of g nowhere ts) ∷ under) form_is ∙ sym pile)
     (shut_on true cs rest (tree one) st st' b under sp w lower made_so (tree_of (form i) nowhere ts) (makes_own (form i) w (integer_word i) rest ts (owned i) (integer_heard w i word_is) ordered))
-marked (closes_attribute slots form) owned v (inner true cs st) st' b s t o ok h =
+acted (closes_attribute slots form) owned v (inner true cs st) st' b s t o ok h =
     let (sp, w, under, is, lower) = o in
     let ts = trees_in cs sp in
     let rest = rest_shapes (form attribute_name.Size) in
@@ -255,22 +252,22 @@ marked (closes_attribute slots form) owned v (inner true cs st) st' b s t o ok h
     let (a, word_is, form_is) = mapped form (attribute_of (read_as w)) f told_so in
     moved st' st' b (made (tree_of (form a) nowhere ts) ∷ under) t (λ r. text (inner true cs st) b s o r) refl (ap (λ g. made (tree_of g nowhere ts) ∷ under) form_is ∙ sym pile)
     (shut_on true cs rest (tree one) st st' b under sp w lower made_so (tree_of (form a) nowhere ts) (makes_own (form a) w (attribute_word a) rest ts (owned a) (attribute_heard w a word_is) ordered))
-marked encloses owned v (inner false cs st) st' b s t o ok h =
+acted encloses owned v (inner false cs st) st' b s t o ok h =
     let (sp, w, under, is, lower) = o in
     let ts = trees_in cs sp in
     let (u, alone, pile) = enclosed_so (telling_of v) s t ts (telling_of w) under is h in
     moved st' st' b (made u ∷ under) t (λ r. text (inner false cs st) b s o r) refl (sym pile)
     (shut_on false cs (tree one ∷ []) (tree one) st st' b under sp w lower ok u (makes_enclosed u ts alone))
-marked (joins slots form) owned v (base cs) st' b s t o ok h =
+acted (joins slots form) owned v (base cs) st' b s t o ok h =
     let (test, is) = if_some (are_parts (reverse slots) && whole_shapes cs (shapes_of form) (length (reverse slots))) (Some (base (tree one ∷ []))) st' ok in
     let (only_parts, whole_so) = and_parts (are_parts (reverse slots)) (whole_shapes cs (shapes_of form) (length (reverse slots))) test in
     let (long, now) = whole_made form cs (length (reverse slots)) b s o whole_so in
     moved (base (tree one ∷ [])) st' b (made (tree_of form nowhere (trees_in cs o.0)) ∷ b) t (λ r. text (base cs) b s o r) (some_equal is) (sym (joined_so slots form (telling_of v) s t b (trees_in cs o.0) o.1 only_parts long h)) now
-marked (wraps g form) owned v (base cs) st' b s t o ok h =
+acted (wraps g form) owned v (base cs) st' b s t o ok h =
     let (test, is) = if_some (whole_shapes cs (shapes_of form) 1) (Some (base (tree one ∷ []))) st' ok in
     let (long, now) = whole_made form cs 1 b s o test in
     moved (base (tree one ∷ [])) st' b (made (tree_of form nowhere (trees_in cs o.0)) ∷ b) t (λ r. text (base cs) b s o r) (some_equal is) (sym (wrapped_so g form (telling_of v) s t b (trees_in cs o.0) o.1 long h)) now
-marked r owned v st st' b s t o ok h = not_some ok
+acted r owned v st st' b s t o ok h = not_some ok
 
 -- the tree of a token tells what the token does
 told_says : (l : Leaf) (w : Word) (form : Form) → LeafSays l → is_always l ≡ false → form_told l (read_as w) w ≡ Some form → heard (own_words form) ≡ heard_of w ++ []
@@ -283,10 +280,10 @@ told_says (by_number its) (numeral n) form says other h = ap (λ f. heard (own_w
 told_says (by_integer its) w form says other h =
     let (i, is, same) = mapped its (integer_of (read_as w)) form h in
     ap (λ f. heard (own_words f)) (sym same) ∙ ap heard (says i) ∙ ap (λ ws. ws ++ []) (sym (integer_heard w i is))
-told_says (by_event its) w form says other h =
-    let (k, is, same) = event_told (read_as w) its w form h in
+told_says (by_hook_name its) w form says other h =
+    let (k, is, same) = hook_name_told (read_as w) its w form h in
     let here : heard_of w ≡ fixed (token.Hook k) ∷ [] = heard_by_kind w (ap carries is) ∙ ap fixed_words is in
-    ap (λ f. heard (own_words f)) (sym same) ∙ ap heard (says (hook_name_of k)) ∙ ap (λ h. fixed (token.Hook h) ∷ []) (hook_is k) ∙ ap (λ ws. ws ++ []) (sym here)
+    ap (λ f. heard (own_words f)) (sym same) ∙ ap heard (says k) ∙ ap (λ ws. ws ++ []) (sym here)
 told_says l w form says other h = not_some h
 
 -- a tree that is put where its words are these
@@ -310,7 +307,7 @@ leaf_on l says each other e x st st' b s t o ok h done =
     moved (adds (tree one ∷ []) st) st' b (made (tree_of form nowhere []) ∷ s) t (λ r. text st b s o (tok_words x ++ r)) (some_equal is) (sym pile)
     (said_so (adds (tree one ∷ []) st) b (made (tree_of form nowhere []) ∷ s) (λ r. text st b s o (ks ++ r)) (λ r. text st b s o (tok_words x ++ r)) (λ r. ap (λ y. text st b s o (tok_words y ++ r)) x_is) (leaf_stands form ks st b s o it))
 
--- a token that is read behind a mark to which it belongs
+-- a token that is read behind an action to which it belongs
 pub paired : (r : Rule) → IsOwned r → (e : ℕ) (x : Tok) (st st' : State) (b s t : Pile) (o : Stands st b s) → pairs r e st ≡ Some st' → takes e (number x) ≡ All → does r (tells x) s ≡ Some t → Next st' b t (λ r. text st b s o (tok_words x ++ r))
 paired begins owned e x st st' b s t o ok h done =
     let (test, is) = if_some (begins_with e) (Some (inner true [] st)) st' ok in
@@ -335,7 +332,7 @@ paired (takes_leaf (by_bytes its)) owned e x st st' b s t o ok h done = leaf_on 
 paired (takes_leaf (by_regex its)) owned e x st st' b s t o ok h done = leaf_on (by_regex its) owned.0 owned.1 refl e x st st' b s t o ok h done
 paired (takes_leaf (by_number its)) owned e x st st' b s t o ok h done = leaf_on (by_number its) owned.0 owned.1 refl e x st st' b s t o ok h done
 paired (takes_leaf (by_integer its)) owned e x st st' b s t o ok h done = leaf_on (by_integer its) owned.0 owned.1 refl e x st st' b s t o ok h done
-paired (takes_leaf (by_event its)) owned e x st st' b s t o ok h done = leaf_on (by_event its) owned.0 owned.1 refl e x st st' b s t o ok h done
+paired (takes_leaf (by_hook_name its)) owned e x st st' b s t o ok h done = leaf_on (by_hook_name its) owned.0 owned.1 refl e x st st' b s t o ok h done
 paired r owned e x st st' b s t o ok h done = not_some ok
 
 pub paired_whole : (r : Rule) (e : ℕ) (st st' : State) → pairs r e st ≡ Some st' → is_whole e ≡ true
@@ -349,7 +346,7 @@ paired_whole (takes_leaf (by_bytes its)) e st st' ok = (if_some (is_whole e) (So
 paired_whole (takes_leaf (by_regex its)) e st st' ok = (if_some (is_whole e) (Some (adds (tree one ∷ []) st)) st' ok).0
 paired_whole (takes_leaf (by_number its)) e st st' ok = (if_some (is_whole e) (Some (adds (tree one ∷ []) st)) st' ok).0
 paired_whole (takes_leaf (by_integer its)) e st st' ok = (if_some (is_whole e) (Some (adds (tree one ∷ []) st)) st' ok).0
-paired_whole (takes_leaf (by_event its)) e st st' ok = (if_some (is_whole e) (Some (adds (tree one ∷ []) st)) st' ok).0
+paired_whole (takes_leaf (by_hook_name its)) e st st' ok = (if_some (is_whole e) (Some (adds (tree one ∷ []) st)) st' ok).0
 paired_whole r e st st' ok = not_some ok
 
 -- a part that closes what began before it

@@ -9,29 +9,32 @@ use Rattle.sp_lex.specs.declared.kinds.TokenKind.{TokenKind}
 use Rattle.sp_lex.specs.declared.kinds.TokenKind.TheVariants as token
 use Rattle.sp_lex.specs.declared.kinds.Absent.TheVariants as absent_word
 use Rattle.sp_lex.specs.declared.tokens.Token.{Token}
-use Rattle.sp_lex.specs.declared.kinds.Mark.TheVariants as mark
+use Rattle.sp_words.specs.declared.punctuation.Punctuation.TheVariants as punctuation
 use Rattle.sp_lex.specs.Lexed.{Lexed}
 use Rattle.sp_lex.specs.Literals.{number_value}
 use Rattle.sp_lex.specs.Readings.{bytes_of, token_at}
 use Rattle.sp_literals.specs.Values.{string_value, bytes_value, numbered, regex_text}
-use Rattle.sp_parser.specs.declared.symbol.Event.{Event}
-use Rattle.sp_grammar.specs.declared.marks.Mark.{Mark}
-use Rattle.sp_grammar.specs.declared.marks.Mark.TheVariants as build
-use Rattle.sp_grammar.specs.Marks.{mark_with}
+use Rattle.sp_parser.specs.declared.symbol.ActionAt.{ActionAt}
+use Rattle.sp_grammar.specs.declared.actions.Action.{Action}
+use Rattle.sp_grammar.specs.declared.actions.Action.TheVariants as build
+use Rattle.sp_grammar.specs.Actions.{action_with}
 use Rattle.sp_ast.specs.declared.forms.Form.{Form}
-use Rattle.sp_ast.specs.declared.words.IntWord.{IntWord}
-use Rattle.sp_ast.specs.declared.words.AttributeName.{AttributeName}
+use Rattle.sp_words.specs.declared.operators.BinaryOp.TheVariants as binary
+use Rattle.sp_words.specs.declared.operators.UnaryOp.TheVariants as unary
+use Rattle.sp_words.specs.declared.operators.AssignOp.TheVariants as assign
+use Rattle.sp_words.specs.declared.words.IntWord.{IntWord}
+use Rattle.sp_words.specs.declared.words.AttributeName.{AttributeName}
 use Rattle.sp_ast.specs.Trees.{Tree, absent, trees, tree, in_row, respan, span_of}
-use Rattle.sp_build.specs.declared.stack.Item.TheVariants.{Begun as begun, Built as built}
-use Rattle.sp_build.specs.declared.groups.Group.TheVariants.{Expressions as expressions}
-use Rattle.sp_build.specs.declared.groups.Sort.{Sort}
-use Rattle.sp_build.specs.declared.groups.Sort.TheVariants.{One as one}
-use Rattle.sp_build.specs.declared.groups.Slot.{Slot}
-use Rattle.sp_build.specs.declared.groups.Slot.TheVariants.{Part as part, Several as several}
-use Rattle.sp_build.specs.Groups.{fits, is_of, is_node}
-use Rattle.sp_build.specs.Rules.{Leaf, always, by_name, by_string, by_bytes, by_regex, by_number, by_integer, by_event, Rule, begins, leaves_out, takes, gathers, closes, closes_integer, closes_attribute, encloses, joins, wraps, rule}
-use Rattle.sp_build.specs.Tokens.{form_of, integer_of, attribute_of, hook_name_of}
-use Rattle.sp_build.specs.Building.{Stack, Left, left, then_do, popped, gathered, popped_all, opened, parts_of, popped_parts, close_with, push, push_if, worded, token_of, no_token, stretch, stretch_from, done_by, marked, with_mark, go_on, all_done}
+use Rattle.sp_build.specs.Items.{begun, built}
+use Rattle.sp_ast.specs.declared.groups.Group.TheVariants.{Expressions as expressions}
+use Rattle.sp_ast.specs.declared.groups.Sort.{Sort}
+use Rattle.sp_ast.specs.declared.groups.Sort.TheVariants.{One as one}
+use Rattle.sp_ast.specs.declared.groups.Slot.{Slot}
+use Rattle.sp_ast.specs.declared.groups.Slot.TheVariants.{Part as part, Several as several}
+use Rattle.sp_ast.specs.Groups.{fits, is_of, is_node}
+use Rattle.sp_build.specs.Rules.{Leaf, always, by_name, by_string, by_bytes, by_regex, by_number, by_integer, by_hook_name, Rule, begins, leaves_out, takes, gathers, closes, closes_integer, closes_attribute, encloses, joins, wraps, rule}
+use Rattle.sp_build.specs.Tokens.{form_of, integer_of, attribute_of}
+use Rattle.sp_build.specs.Building.{Stack, Left, left, then_do, popped, gathered, popped_all, opened, parts_of, popped_parts, close_with, push, push_if, worded, token_of, no_token, stretch, stretch_from, done_by, acted, with_action, go_on, all_done}
 use Rattle.sp_print.specs.Own.{own_words}
 use Rattle.sp_print.specs.Words.{Word, fixed, name, text, bytes, regex, number}
 use Rattle.sp_read_unit.specs.Modules.{IsModuleTree}
@@ -57,18 +60,18 @@ RuleTells (joins slots form) = all_fixed (own_words form) ≡ true
 RuleTells (wraps g form) = all_fixed (own_words form) ≡ true
 RuleTells _ = Unit {0}
 
-rule_tells : (m : Mark) → RuleTells (rule m)
+rule_tells : (m : Action) → RuleTells (rule m)
 rule_tells build.Begin = tt
 rule_tells build.Absent = tt
 rule_tells build.Row = tt
 rule_tells build.Paren = tt
 rule_tells build.Name = λ x. refl
-rule_tells build.Text = λ x. refl
+rule_tells build.String = λ x. refl
 rule_tells build.Number = λ x. refl
-rule_tells build.Event = λ x. refl
+rule_tells build.HookName = λ x. refl
 rule_tells build.IntType = λ x. refl
 rule_tells build.NameTarget = λ x. refl
-rule_tells build.EventTarget = λ x. refl
+rule_tells build.HookTarget = λ x. refl
 rule_tells build.Attribute = λ x. refl
 rule_tells build.BytesBase = λ x. refl
 rule_tells build.RegexBase = λ x. refl
@@ -79,6 +82,9 @@ rule_tells build.StringExpr = λ x. refl
 rule_tells build.BytesExpr = λ x. refl
 rule_tells build.RegexExpr = λ x. refl
 rule_tells build.TypedNumberExpr = λ x. refl
+rule_tells (build.Binary binary.Or) = refl
+rule_tells (build.Unary unary.Not) = refl
+rule_tells (build.Assign assign.Set) = refl
 rule_tells m = refl
 
 -- What holds of all words of one text each that the profile has, and of those that the tokens of a text tell, holds of
@@ -199,15 +205,15 @@ module _ (P : Word → Type 0) (of_fixed : (k : TokenKind) → is_fixed k ≡ tr
   leaf_holds (by_regex form) tells kind its told = tt
   leaf_holds (by_number form) tells token.Number its told = by_one (own_words (form (number_value its))) (number (number_value its)) (tells (number_value its)) (told (number (number_value its)) (refl, refl))
   leaf_holds (by_number form) tells kind its told = tt
-  leaf_holds (by_event form) tells (token.Hook h) its told = fixed_hold (own_words (form (hook_name_of h))) (ap all_fixed (tells (hook_name_of h)))
-  leaf_holds (by_event form) tells kind its told = tt
+  leaf_holds (by_hook_name form) tells (token.Hook h) its told = fixed_hold (own_words (form h)) (ap all_fixed (tells h))
+  leaf_holds (by_hook_name form) tells kind its told = tt
 
   leaf_on : (o : Option Form) (span : _) (s : Stack) → LeafHolds o → On s → OnSome (push_if (option_map (λ form. tree form span []) o) s)
   leaf_on None span s h on = tt
   leaf_on (Some form) span s h on = ((h, tt), on)
 
   -- no token at all tells nothing
-  none_told : (its : List ℕ) → TokenTells (token.Mark mark.Semicolon) its
+  none_told : (its : List ℕ) → TokenTells (token.Punctuation punctuation.Semicolon) its
   none_told its (fixed kind) told = of_fixed kind told.0.1
   none_told its (name x) told = ⊎_elim (λ e. absurd cc) (λ e. absurd cc) told.0
   none_told its (number n) told = let e = told.0 in absurd cc
@@ -252,16 +258,16 @@ module _ (P : Word → Type 0) (of_fixed : (k : TokenKind) → is_fixed k ≡ tr
   go_some None go h by = tt
   go_some (Some s) go h by = by s h
 
-  mark_on : (o : Option Mark) (source : List ℕ) (tokens : List Token) → EachTells source tokens → (n : ℕ) (s : Stack) → On s → OnSome (with_mark o (λ m. marked m source tokens n s))
-  mark_on None source tokens each n s on = tt
-  mark_on (Some m) source tokens each n s on = done_on (rule m) (rule_tells m) source tokens each n s on
+  action_on : (o : Option Action) (source : List ℕ) (tokens : List Token) → EachTells source tokens → (n : ℕ) (s : Stack) → On s → OnSome (with_action o (λ m. acted m source tokens n s))
+  action_on None source tokens each n s on = tt
+  action_on (Some m) source tokens each n s on = done_on (rule m) (rule_tells m) source tokens each n s on
 
-  all_on : (source : List ℕ) (tokens : List Token) → EachTells source tokens → (events : List Event) (s : Stack) → On s → OnSome (all_done source tokens events s)
+  all_on : (source : List ℕ) (tokens : List Token) → EachTells source tokens → (actions : List ActionAt) (s : Stack) → On s → OnSome (all_done source tokens actions s)
   all_on source tokens each [] s on = on
-  all_on source tokens each (e ∷ events) s on =
-      go_some (with_mark (mark_with e.mark) (λ m. marked m source tokens e.at s)) (λ next. all_done source tokens events next) (mark_on (mark_with e.mark) source tokens each e.at s on) (λ next next_on. all_on source tokens each events next next_on)
+  all_on source tokens each (e ∷ actions) s on =
+      go_some (with_action (action_with e.action) (λ m. acted m source tokens e.at s)) (λ next. all_done source tokens actions next) (action_on (action_with e.action) source tokens each e.at s on) (λ next next_on. all_on source tokens each actions next next_on)
 
   -- those that a module tells
   pub module_tells : (lexed : Lexed) (m : Tree) → EachTells lexed.text lexed.list → IsModuleTree lexed m → TellsOnly P m
-  module_tells lexed m each (marks, derived, built_so, kind) =
-      let on : On (built m ∷ []) = subst (λ o. OnSome o) built_so (all_on lexed.text lexed.list each marks [] tt) in on.0
+  module_tells lexed m each (actions, derived, built_so, kind) =
+      let on : On (built m ∷ []) = subst (λ o. OnSome o) built_so (all_on lexed.text lexed.list each actions [] tt) in on.0

@@ -6,6 +6,7 @@ use Rattle.std.proofs.lemmas.List.{append-nil}
 use Rattle.sp_lex.specs.declared.kinds.TokenKind.{TokenKind}
 use Rattle.sp_parser.specs.declared.symbol.Symbol.{Symbol}
 use Rattle.sp_parser.specs.Grammar.{Applies, right, production_of}
+use Rattle.sp_words.specs.declared.punctuation.Punctuation.TheVariants as sign
 use Rattle.sp_grammar.specs.declared.terminals.Terminal.TheVariants as token
 use Rattle.sp_grammar.specs.declared.terminals.Terminal.{Terminal}
 use Rattle.sp_grammar.specs.Terminals.{terminal_number}
@@ -82,18 +83,18 @@ expression_again n p level guard w u free fits {s = s} a may (ts, a_chunk us (fo
           (subst (λ q. Goes (right own n p) (before q v) c v (pushed (us ++ []) c)) (words last) (goes last v c (may v (subst (λ l. MayPass l v) level_is pass)))))),
     )
 
-avoids_it : (o : Option Terminal) (v : List Tok) → avoids_only token.LeftParen o ≡ true → Avoids (Some token.LeftParen) v → Avoids o v
+avoids_it : (o : Option Terminal) (v : List Tok) → avoids_only (token.Punctuation sign.LeftParen) o ≡ true → Avoids (Some (token.Punctuation sign.LeftParen)) v → Avoids o v
 avoids_it None v ok avoids = tt
-avoids_it (Some f) v ok avoids = subst (λ n. (coming v == n) ≡ false) (eqb-true (terminal_number token.LeftParen) (terminal_number f) ok) avoids
+avoids_it (Some f) v ok avoids = subst (λ n. (coming v == n) ≡ false) (eqb-true (terminal_number (token.Punctuation sign.LeftParen)) (terminal_number f) ok) avoids
 
 spelled_again : (n p level : ℕ) → IsFree n p → is_again (expression level) n (right own n p) ≡ true → {w u : List Tok} {s t : Pile} → Applies own n p (map number w) → Trace (right own n p) w s u t → ClaimAs (expression level) n w s t u
 spelled_again n p level free ok {w = w} {u = u} a tr =
-    elim (or_cases (is_spelled n true (advance unguarded (right own n p) ([] ∷ []))) (avoids_only token.LeftParen (avoided n) && is_spelled n false (advance (guard_of n) (right own n p) ([] ∷ []))) ok) [
+    elim (or_cases (is_spelled n true (advance unguarded (right own n p) ([] ∷ []))) (avoids_only (token.Punctuation sign.LeftParen) (avoided n) && is_spelled n false (advance (guard_of n) (right own n p) ([] ∷ []))) ok) [
       | inl passes ↦
           let (l, found, is, fits) = spelled_some n true (advance unguarded (right own n p) ([] ∷ [])) passes in
           expression_again n p l unguarded w u free fits a (λ v pass. inl tt) (left_by unguarded (right own n p) (built l ∷ []) found tr)
       | inr avoids ↦
-          let b = and_parts (avoids_only token.LeftParen (avoided n)) (is_spelled n false (advance (guard_of n) (right own n p) ([] ∷ []))) avoids in
+          let b = and_parts (avoids_only (token.Punctuation sign.LeftParen) (avoided n)) (is_spelled n false (advance (guard_of n) (right own n p) ([] ∷ []))) avoids in
           let (l, found, is, fits) = spelled_some n false (advance (guard_of n) (right own n p) ([] ∷ [])) b.1 in
           expression_again n p l (guard_of n) w u free fits a (λ v pass. elim pass [
             | inl all ↦ absurd (let below : l < 15 = ltb-true l 15 is in omega (arith, below, all))

@@ -1,4 +1,4 @@
--- Readings of a text by the grammar in its own words are readings of the words that its tokens tell, with what their marks
+-- Readings of a text by the grammar in its own words are readings of the words that its tokens tell, with what their actions
 -- build, and back.
 use Rattle.std.specs.Prelude.{option_map}
 use Rattle.std.proofs.Common.{◌≡◌, ℕ, suc, ◌+◌, get_or, arith, List, [], ◌∷◌, map, Bool, true, false, cond, ◌==◌, Option, Some, refl, ap, sym, ◌∙◌, subst}
@@ -6,10 +6,10 @@ use Rattle.std.proofs.Math.ListN.{get_or-map}
 use Rattle.std.proofs.lemmas.Simd.{map-map}
 use Rattle.sp_lex.specs.Lexed.{Lexed}
 use Rattle.sp_parser.specs.declared.symbol.Symbol.{Symbol}
-use Rattle.sp_parser.specs.declared.symbol.Event.{Event}
-use Rattle.sp_parser.specs.Grammar.{takes, Nothing, First, All, Applies, SECOND, CLOSE, event}
-use Rattle.sp_grammar.specs.declared.marks.Mark.{Mark}
-use Rattle.sp_grammar.specs.Marks.{mark_with}
+use Rattle.sp_parser.specs.declared.symbol.ActionAt.{ActionAt}
+use Rattle.sp_parser.specs.Grammar.{takes, Nothing, First, All, Applies, SECOND, CLOSE, action_at}
+use Rattle.sp_grammar.specs.declared.actions.Action.{Action}
+use Rattle.sp_grammar.specs.Actions.{action_with}
 use Rattle.sp_grammar.specs.Own.{own}
 use Rattle.sp_grammar.specs.Reads.{Reads}
 use Rattle.sp_grammar.specs.Reads as reads
@@ -18,7 +18,7 @@ use Rattle.sp_grammar.specs.Written.{Part, part as part_symbol}
 use Rattle.sp_grammar.specs.declared.language.Start.TheVariants.{Module}
 use Rattle.sp_runs.specs.Kinds.{numbers_of, number_of, terminal_of}
 use Rattle.sp_ast.specs.Trees.{Tree}
-use Rattle.sp_build.specs.Groups.{is_of}
+use Rattle.sp_ast.specs.Groups.{is_of}
 use Rattle.sp_build.specs.Starting.{group_of}
 use Rattle.sp_build.specs.Building.{all_done, no_token}
 use Rattle.sp_build.specs.Rules.{rule}
@@ -47,9 +47,9 @@ second_is_whole e h = by_kind (e == CLOSE) (e == SECOND) h
     by_kind false true h = absurd cc
     by_kind false false h = absurd cc
 
--- a mark that was passed has its rule, which did what it does
-mark_passed : (o : Option Mark) (go : Mark → Option Pile) (on : Pile → Option Pile) (z : Pile) → and_then (and_then o go) on ≡ Some z → (m : Mark) × (t : Pile) × (o ≡ Some m) × (go m ≡ Some t) × (on t ≡ Some z)
-mark_passed o go on z h = let (t, there, then_on) = then_some (and_then o go) on z h in let (m, is, did) = then_some o go t there in (m, t, is, did, then_on)
+-- an action that was passed has its rule, which did what it does
+action_passed : (o : Option Action) (go : Action → Option Pile) (on : Pile → Option Pile) (z : Pile) → and_then (and_then o go) on ≡ Some z → (m : Action) × (t : Pile) × (o ≡ Some m) × (go m ≡ Some t) × (on t ≡ Some z)
+action_passed o go on z h = let (t, there, then_on) = then_some (and_then o go) on z h in let (m, is, did) = then_some o go t there in (m, t, is, did, then_on)
 
 module _ (tell : ℕ → Telling) where
   -- from a place on, the tokens tell these words
@@ -61,8 +61,8 @@ module _ (tell : ℕ → Telling) where
   next_told i [] h = h
   next_told i (x ∷ w) h = h.0
 
-  -- what a reading leaves: up to place j, where these kinds stand and these marks are still to pass
-  record Gone (ss : List Symbol) (w : List Tok) (s : Pile) (j : ℕ) (v : List ℕ) (τ : List Event) (z : Pile) : Type 0 where
+  -- what a reading leaves: up to place j, where these kinds stand and these actions are still to pass
+  record Gone (ss : List Symbol) (w : List Tok) (s : Pile) (j : ℕ) (v : List ℕ) (τ : List ActionAt) (z : Pile) : Type 0 where
     rest : List Tok
     pile : Pile
     goes : Goes ss w s rest pile
@@ -70,7 +70,7 @@ module _ (tell : ℕ → Telling) where
     stands : Stands j rest
     does : does_all tell τ pile ≡ Some z
 
-  goes_of_reads : {ss : List Symbol} {i j : ℕ} {k l : List ℕ} {ρ τ : List Event} → Reads own ss i k ρ j l τ → (w : List Tok) (s z : Pile) → map number w ≡ k → Stands i w → does_all tell ρ s ≡ Some z → Gone ss w s j l τ z
+  goes_of_reads : {ss : List Symbol} {i j : ℕ} {k l : List ℕ} {ρ τ : List ActionAt} → Reads own ss i k ρ j l τ → (w : List Tok) (s z : Pile) → map number w ≡ k → Stands i w → does_all tell ρ s ≡ Some z → Gone ss w s j l τ z
   goes_of_reads reads.nothing w s z kinds stands done = record { rest = w; pile = s; goes = goes.nothing; kinds = kinds; stands = stands; does = done }
   goes_of_reads (reads.whole t r) [] s z kinds stands done = absurd cc
   goes_of_reads (reads.whole {e = e} {k = k} {w = ks} t r) (x ∷ w) s z kinds stands done =
@@ -84,37 +84,37 @@ module _ (tell : ℕ → Telling) where
       let same = parts_same (number (entire x)) k (map number w) ks kinds in
       let a = goes_of_reads r (half x ∷ w) s z (ap (λ l. SECOND ∷ l) same.1) stands done in
       record { rest = a.rest; pile = a.pile; goes = goes.first_half (ap (takes e) same.0 ∙ t) a.goes; kinds = a.kinds; stands = a.stands; does = a.does }
-  goes_of_reads (reads.mark {i = i} {m = n} {ρ = ρ} r) w s z kinds stands done =
-      let (m, t, is, built, then_done) = mark_passed (mark_with n) (λ m. does (rule m) (tell i) s) (λ next. does_all tell ρ next) z done in
+  goes_of_reads (reads.action {i = i} {m = n} {ρ = ρ} r) w s z kinds stands done =
+      let (m, t, is, built, then_done) = action_passed (action_with n) (λ m. does (rule m) (tell i) s) (λ next. does_all tell ρ next) z done in
       let a = goes_of_reads r w t z kinds stands then_done in
-      record { rest = a.rest; pile = a.pile; goes = goes.mark m is (ap (λ told. does (rule m) told s) (sym (next_told i w stands)) ∙ built) a.goes; kinds = a.kinds; stands = a.stands; does = a.does }
+      record { rest = a.rest; pile = a.pile; goes = goes.action m is (ap (λ told. does (rule m) told s) (sym (next_told i w stands)) ∙ built) a.goes; kinds = a.kinds; stands = a.stands; does = a.does }
   goes_of_reads (reads.part {n = n} p applies r q) w s z kinds stands done =
       let a = goes_of_reads r w s z kinds stands done in
       let b = goes_of_reads q a.rest a.pile z a.kinds a.stands a.does in
       record { rest = b.rest; pile = b.pile; goes = goes.part p (subst (λ k. Applies own n p k) (sym kinds) applies) a.goes b.goes; kinds = b.kinds; stands = b.stands; does = b.does }
 
-  -- A reading of words from place i on ends at a place, and passes marks before any that are left, which do what it does.
+  -- A reading of words from place i on ends at a place, and passes actions before any that are left, which do what it does.
   record Read (ss : List Symbol) (i : ℕ) (w : List Tok) (s : Pile) (v : List Tok) (t : Pile) : Type 0 where
     place : ℕ
     stands : Stands place v
-    marks : (τ : List Event) → (ρ : List Event) × Reads own ss i (map number w) ρ place (map number v) τ × (does_all tell ρ s ≡ does_all tell τ t)
+    actions : (τ : List ActionAt) → (ρ : List ActionAt) × Reads own ss i (map number w) ρ place (map number v) τ × (does_all tell ρ s ≡ does_all tell τ t)
 
   reads_of_goes : {ss : List Symbol} {w v : List Tok} {s t : Pile} → Goes ss w s v t → (i : ℕ) → Stands i w → Read ss i w s v t
-  reads_of_goes goes.nothing i stands = record { place = i; stands = stands; marks = λ τ. (τ, reads.nothing, refl) }
+  reads_of_goes goes.nothing i stands = record { place = i; stands = stands; actions = λ τ. (τ, reads.nothing, refl) }
   reads_of_goes (goes.whole t r) i stands =
       let a = reads_of_goes r (suc i) stands.1 in
-      record { place = a.place; stands = a.stands; marks = λ τ. (let b = a.marks τ in (b.0, reads.whole t b.1, b.2)) }
+      record { place = a.place; stands = a.stands; actions = λ τ. (let b = a.actions τ in (b.0, reads.whole t b.1, b.2)) }
   reads_of_goes (goes.first_half t r) i stands =
       let a = reads_of_goes r i stands in
-      record { place = a.place; stands = a.stands; marks = λ τ. (let b = a.marks τ in (b.0, reads.half t b.1, b.2)) }
-  reads_of_goes (goes.mark {n = n} {w = w} {s = s} m is built r) i stands =
+      record { place = a.place; stands = a.stands; actions = λ τ. (let b = a.actions τ in (b.0, reads.half t b.1, b.2)) }
+  reads_of_goes (goes.action {n = n} {w = w} {s = s} m is built r) i stands =
       let a = reads_of_goes r i stands in
       record {
         place = a.place;
         stands = a.stands;
-        marks = λ τ. (let b = a.marks τ in (
-          event n i ∷ b.0,
-          reads.mark b.1,
+        actions = λ τ. (let b = a.actions τ in (
+          action_at n i ∷ b.0,
+          reads.action b.1,
           ap (λ o. and_then (and_then o (λ k. does (rule k) (tell i) s)) (λ next. does_all tell b.0 next)) is
               ∙ ap (λ told. and_then (does (rule m) told s) (λ next. does_all tell b.0 next)) (next_told i w stands)
               ∙ ap (λ o. and_then o (λ next. does_all tell b.0 next)) built ∙ b.2,
@@ -126,7 +126,7 @@ module _ (tell : ℕ → Telling) where
       record {
         place = b.place;
         stands = b.stands;
-        marks = λ τ. (let d = b.marks τ in let c = a.marks d.0 in (c.0, reads.part p applies c.1 d.1, c.2 ∙ d.2));
+        actions = λ τ. (let d = b.actions τ in let c = a.actions d.0 in (c.0, reads.part p applies c.1 d.1, c.2 ∙ d.2));
       }
 
 -- words stand there if the tokens tell them one for one, and nothing behind them
@@ -158,9 +158,9 @@ whole_module w [] s t r e h = let same : s ≡ made t ∷ [] = cc in subst (λ p
 
 -- a module that was read is read from the words that its tokens tell
 pub goes_of_tree : (lexed : Lexed) (m : Tree) (ws : List Word) → told lexed ≡ map telling_of ws → IsModuleTree lexed m → ReadsModule (before ws []) (bare m)
-goes_of_tree lexed m ws e (marks, read, built_so, kind) =
+goes_of_tree lexed m ws e (actions, read, built_so, kind) =
     let tell = tell_at lexed.text lexed.list in
-    let done : does_all tell marks [] ≡ Some (made (bare m) ∷ []) = sym (all_held lexed.text lexed.list marks []) ∙ ap (λ o. option_map (piled tell) o) built_so in
+    let done : does_all tell actions [] ≡ Some (made (bare m) ∷ []) = sym (all_held lexed.text lexed.list actions []) ∙ ap (λ o. option_map (piled tell) o) built_so in
     let gone = goes_of_reads tell read.1 (before ws []) [] (made (bare m) ∷ []) (sym (told_numbers lexed ws e)) (told_stand lexed ws e) done in
     whole_module (before ws []) gone.rest gone.pile (bare m) gone.goes gone.kinds gone.does
 
@@ -169,7 +169,7 @@ pub tree_of_goes : (lexed : Lexed) (ws : List Word) (t : Tree) → told lexed �
 tree_of_goes lexed ws t e r kind =
     let tell = tell_at lexed.text lexed.list in
     let read = reads_of_goes tell r 0 (told_stand lexed ws e) in
-    let (marks, is, done) = read.marks [] in
-    let left = one_left tell (all_done lexed.text lexed.list marks []) t (all_held lexed.text lexed.list marks [] ∙ done) in
+    let (actions, is, done) = read.actions [] in
+    let left = one_left tell (all_done lexed.text lexed.list actions []) t (all_held lexed.text lexed.list actions [] ∙ done) in
     let group : is_of (group_of Module) left.0 ≡ true = sym (of_bare (group_of Module) left.0) ∙ ap (λ v. is_of (group_of Module) v) left.2 ∙ kind in
-    (left.0, (marks, subst (λ ks. IsSentence Module ks marks) (sym (told_numbers lexed ws e)) (read.place, is), left.1, group), left.2)
+    (left.0, (actions, subst (λ ks. IsSentence Module ks actions) (sym (told_numbers lexed ws e)) (read.place, is), left.1, group), left.2)

@@ -1,26 +1,25 @@
 -- A number with its integer type, as in `uint8(3)`.
 use Rattle.std.proofs.Common.{ℕ, List, [], ◌∷◌, refl, arith}
 use Rattle.sp_parser.specs.Grammar.{right}
-use Rattle.sp_grammar.specs.declared.marks.Mark.TheVariants as build
+use Rattle.sp_grammar.specs.declared.actions.Action.TheVariants as build
 use Rattle.sp_grammar.specs.Written.{Part, part_number}
 use Rattle.sp_grammar.specs.Own.{own}
-use Rattle.sp_ast.specs.declared.words.IntWord.{IntWord}
+use Rattle.sp_words.specs.declared.words.IntWord.{IntWord}
 use Rattle.sp_ast.specs.declared.forms.Form.{Form}
 use Rattle.sp_ast.specs.declared.forms.Form.TheVariants as form_is
 use Rattle.sp_ast.specs.declared.forms.ExprForm.TheVariants as expr_is
 use Rattle.sp_ast.specs.Trees.{Tree, tree}
-use Rattle.sp_build.specs.declared.groups.Group.TheVariants.{Numbers as numbers}
-use Rattle.sp_build.specs.declared.groups.Slot.{Slot}
-use Rattle.sp_build.specs.declared.groups.Slot.TheVariants.{Part as slot}
-use Rattle.sp_build.specs.declared.groups.Sort.TheVariants.{One as one}
+use Rattle.sp_ast.specs.declared.groups.Group.TheVariants.{Numbers as numbers}
+use Rattle.sp_ast.specs.declared.groups.Slot.{Slot}
+use Rattle.sp_ast.specs.declared.groups.Slot.TheVariants.{Part as slot}
+use Rattle.sp_ast.specs.declared.groups.Sort.TheVariants.{One as one}
 use Rattle.sp_build.specs.Tokens.{integer_of}
 use Rattle.sp_round_trip.specs.Bare.{nowhere}
 use Rattle.sp_round_trip.proofs.Held.{Pile}
-use Rattle.sp_round_trip.proofs.Goes.{Tok, telling_of, next, nothing, whole, mark}
+use Rattle.sp_round_trip.proofs.Goes.{Tok, telling_of, next, nothing, whole, action}
 use Rattle.sp_round_trip.proofs.Shown.{Claim, Spells, Trace}
 use Rattle.sp_round_trip.proofs.Levels.{primary_at}
 use Rattle.sp_round_trip.proofs.IntegerBases.{integer_taken, integer_word}
-use Rattle.sp_round_trip.proofs.Leaves.{integer_again}
 use Rattle.sp_round_trip.proofs.Steps.{passes_token, passes_begin, passes_told, passes_none, passes_number, chosen, CloseBy, numeral}
 
 abbrev typed : IntWord → Form
@@ -40,7 +39,7 @@ typed_spells w n closes = record {
   high = omega arith;
   reads = λ last v s pass.
       primary_at 15 (omega arith) (omega arith)
-      (chosen (part_number Part.Primary) 17 (omega arith) refl (mark build.Begin refl refl (whole (integer_taken w) (whole refl (mark build.Number refl refl (whole refl (whole refl (mark build.TypedNumberExpr refl (closes (telling_of (integer_word w)) s (integer_again w)) nothing))))))));
+      (chosen (part_number Part.Primary) 17 (omega arith) refl (action build.Begin refl refl (whole (integer_taken w) (whole refl (action build.Number refl refl (whole refl (whole refl (action build.TypedNumberExpr refl (closes (telling_of (integer_word w)) s refl) nothing))))))));
 }
 
 pub typed_number_shown : (w u : List Tok) (s t : Pile) → Trace (right own (part_number Part.Primary) 17) w s u t → Claim (part_number Part.Primary) w s t u

@@ -3,7 +3,7 @@ use Rattle.std.proofs.Common.{ℕ, ◌≡◌, ◌+◌, ◌-◌, ◌≤◌, ◌<�
 use Rattle.std.proofs.lemmas.List.{drop-map, length-map, length-drop}
 use Rattle.sp_lex.specs.declared.tokens.Token.{Token}
 use Rattle.sp_lex.specs.Readings.{InOrder}
-use Rattle.sp_parser.specs.declared.symbol.Event.{Event}
+use Rattle.sp_parser.specs.declared.symbol.ActionAt.{ActionAt}
 use Rattle.sp_parser.specs.declared.outcome.Outcome.{Outcome}
 use Rattle.sp_grammar.specs.declared.language.Start.{Start}
 use Rattle.sp_grammar.specs.Sentences.{IsSentence, IsLongestPrefix, IsParsed}
@@ -13,7 +13,7 @@ use Rattle.sp_base.specs.declared.kinds.MKind.{MKind}
 use Rattle.sp_lex.specs.Faults.{OnDiag}
 use Rattle.sp_lex.specs.declared.tokens.ReadFault.{ReadFault}
 use Rattle.sp_lex.specs.declared.tokens.ReadFault.TheVariants as fault
-use Rattle.sp_runs.specs.Runs.{IsLongestRun, IsText, IsRefused, refused_at, refused_with}
+use Rattle.sp_runs.specs.Runs.{IsLongestRun, IsPhrase, IsRefused, refused_at, refused_with}
 
 -- there are no more tokens than bytes
 pub count_in_order : (at : ℕ) (tokens : List Token) (len : ℕ) → InOrder at tokens len → at + length tokens ≤ len
@@ -41,11 +41,11 @@ run_within start tokens at m h l =
 pub run_of : (start : Start) (tokens : List Token) (ks : List ℕ) (at m : ℕ) → ks ≡ numbers_of tokens → IsLongestPrefix start (drop at ks) m → IsLongestRun start (drop at tokens) m
 run_of start tokens ks at m e l = subst (λ w. IsLongestPrefix start w m) (numbers_from tokens ks at e) l
 
-pub text_of : (start : Start) (tokens : List Token) (ks : List ℕ) (at m : ℕ) (marks : List Event) → ks ≡ numbers_of tokens → IsSentence start (take m (drop at ks)) marks → IsText start (drop at tokens) m marks
-text_of start tokens ks at m marks e d = subst (λ w. IsSentence start (take m w) marks) (numbers_from tokens ks at e) d
+pub text_of : (start : Start) (tokens : List Token) (ks : List ℕ) (at m : ℕ) (actions : List ActionAt) → ks ≡ numbers_of tokens → IsSentence start (take m (drop at ks)) actions → IsPhrase start (drop at tokens) m actions
+text_of start tokens ks at m actions e d = subst (λ w. IsSentence start (take m w) actions) (numbers_from tokens ks at e) d
 
-pub none_of : (start : Start) (tokens : List Token) (ks : List ℕ) (at m : ℕ) → ks ≡ numbers_of tokens → ((marks : List Event) → IsSentence start (take m (drop at ks)) marks → ⊥) → (marks : List Event) → IsText start (drop at tokens) m marks → ⊥
-none_of start tokens ks at m e d marks t = d marks (subst (λ w. IsSentence start (take m w) marks) (sym (numbers_from tokens ks at e)) t)
+pub none_of : (start : Start) (tokens : List Token) (ks : List ℕ) (at m : ℕ) → ks ≡ numbers_of tokens → ((actions : List ActionAt) → IsSentence start (take m (drop at ks)) actions → ⊥) → (actions : List ActionAt) → IsPhrase start (drop at tokens) m actions → ⊥
+none_of start tokens ks at m e d actions t = d actions (subst (λ w. IsSentence start (take m w) actions) (sym (numbers_from tokens ks at e)) t)
 
 -- what an outcome says
 pub parsed_as : (start : Start) (w : List ℕ) (at : ℕ) (o p : Outcome) → o ≡ p → IsParsed start w at o → IsParsed start w at p
@@ -53,7 +53,7 @@ parsed_as start w at o p e h = subst (λ z. IsParsed start w at z) e h
 
 -- a refusal behind the longest run, which is no text
 pub refused_of : (start : Start) (tokens : List Token) (at end m to : ℕ) (r : ReadFault) → r ≡ fault.Diag (refused_at end (drop to tokens)) (refused_with (drop to tokens)) → to ≡ at + m
-    → IsLongestRun start (drop at tokens) m → ((marks : List Event) → IsText start (drop at tokens) m marks → ⊥) → OnDiag (λ span kind. IsRefused start tokens at end span kind) r
+    → IsLongestRun start (drop at tokens) m → ((actions : List ActionAt) → IsPhrase start (drop at tokens) m actions → ⊥) → OnDiag (λ span kind. IsRefused start tokens at end span kind) r
 refused_of start tokens at end m to r e z l none =
     subst (λ f. OnDiag (λ span kind. IsRefused start tokens at end span kind) f) (sym e)
     (m, l, none, ap (λ j. refused_at end (drop j tokens)) z, ap (λ j. refused_with (drop j tokens)) z)

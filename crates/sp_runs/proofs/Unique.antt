@@ -1,13 +1,13 @@
 -- A run of tokens has one derivation, and a list of tokens one longest run.
 use Rattle.std.proofs.Common.{◌≡◌, ℕ, zero, suc, ◌+◌, ◌<◌, ◌≤◌, List, [], ◌∷◌, ◌++◌, length, take, drop, ap, ◌∙◌, sym, subst, refl, arith, append_assoc}
 use Rattle.sp_lex.specs.declared.tokens.Token.{Token}
-use Rattle.sp_parser.specs.declared.symbol.Event.{Event}
+use Rattle.sp_parser.specs.declared.symbol.ActionAt.{ActionAt}
 use Rattle.sp_parser.specs.Grammar.{AreKinds}
 use Rattle.sp_grammar.specs.declared.language.Start.{Start}
 use Rattle.sp_grammar.specs.Sentences.{IsSentence, BeginsSentence, IsLongestPrefix}
 use Rattle.sp_grammar.proofs.OwnWords.{read_one_way}
 use Rattle.sp_runs.specs.Kinds.{numbers_of}
-use Rattle.sp_runs.specs.Runs.{IsLongestRun, IsText}
+use Rattle.sp_runs.specs.Runs.{IsLongestRun, IsPhrase}
 use Rattle.sp_runs.specs.TokenKinds.{tokens_are_kinds}
 
 kinds_take : (xs : List ℕ) (n : ℕ) → AreKinds xs → AreKinds (take n xs)
@@ -59,5 +59,5 @@ pub one_longest : (start : Start) (tokens : List Token) (m n : ℕ) → IsLonges
 one_longest start tokens m n x y =
     same_place m n (not_longer start (numbers_of tokens) m n (tokens_are_kinds tokens) x y) (not_longer start (numbers_of tokens) n m (tokens_are_kinds tokens) y x)
 
-pub one_derivation : (start : Start) (tokens : List Token) (m : ℕ) (first second : List Event) → IsText start tokens m first → IsText start tokens m second → first ≡ second
+pub one_derivation : (start : Start) (tokens : List Token) (m : ℕ) (first second : List ActionAt) → IsPhrase start tokens m first → IsPhrase start tokens m second → first ≡ second
 one_derivation start tokens m first second p q = read_one_way start (take m (numbers_of tokens)) first second p q

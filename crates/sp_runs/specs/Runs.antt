@@ -6,7 +6,7 @@ use Rattle.sp_base.specs.declared.places.Span.{Span}
 use Rattle.sp_lex.specs.declared.kinds.TokenKind.{TokenKind}
 use Rattle.sp_lex.specs.declared.kinds.TokenKind.TheVariants as token_kind
 use Rattle.sp_lex.specs.declared.tokens.Token.{Token}
-use Rattle.sp_parser.specs.declared.symbol.Event.{Event}
+use Rattle.sp_parser.specs.declared.symbol.ActionAt.{ActionAt}
 use Rattle.sp_parser.specs.declared.symbol.Symbol.{Symbol}
 use Rattle.sp_parser.specs.declared.symbol.Symbol.TheVariants as symbol
 use Rattle.sp_parser.specs.Grammar.{Table, Production}
@@ -18,14 +18,14 @@ use Rattle.sp_runs.specs.Kinds.{numbers_of}
 abbrev pub IsLongestRun : Start → List Token → ℕ → Type 0
 IsLongestRun start tokens m = IsLongestPrefix start (numbers_of tokens) m
 
--- the first m tokens are a text of this kind, and the grammar reads them passing these marks
-abbrev pub IsText : Start → List Token → ℕ → List Event → Type 0
-IsText start tokens m marks = IsSentence start (take m (numbers_of tokens)) marks
+-- the first m tokens are a text of this kind, and the grammar reads them passing these actions
+abbrev pub IsPhrase : Start → List Token → ℕ → List ActionAt → Type 0
+IsPhrase start tokens m actions = IsSentence start (take m (numbers_of tokens)) actions
 
 -- What is read of the tokens from a place on, and the place behind it: their longest run, which is a text.
-abbrev pub IsRead : Start → List Token → ℕ → List Event → ℕ → Type 0
-IsRead start tokens at marks to =
-    (m : ℕ) × (to ≡ at + m) × IsLongestRun start (drop at tokens) m × IsText start (drop at tokens) m marks
+abbrev pub IsRead : Start → List Token → ℕ → List ActionAt → ℕ → Type 0
+IsRead start tokens at actions to =
+    (m : ℕ) × (to ≡ at + m) × IsLongestRun start (drop at tokens) m × IsPhrase start (drop at tokens) m actions
 
 -- where a text is refused before these tokens: at the first of them, or at the end of the source
 abbrev pub refused_at : ℕ → List Token → Span
@@ -46,7 +46,7 @@ refused_with (token ∷ tokens) = unexpected token.kind
 abbrev pub IsRefused : Start → List Token → ℕ → ℕ → Span → MKind → Type 0
 IsRefused start tokens at end span kind =
     (m : ℕ) × IsLongestRun start (drop at tokens) m
-    × ((marks : List Event) → ¬ IsText start (drop at tokens) m marks)
+    × ((actions : List ActionAt) → ¬ IsPhrase start (drop at tokens) m actions)
     × (span ≡ refused_at end (drop (at + m) tokens))
     × (kind ≡ refused_with (drop (at + m) tokens))
 

@@ -1,12 +1,13 @@
 // Reads texts with the answers that they must have, and tells which have another. A line is the answer, ` | `, what is
 // read, ` | ` and the text. The answer is `text` or the refusal's number, and the place behind the text or of the refusal.
 // What is read is `type`, `expr`, `stmt` or `module`, with the number of tokens before it behind an `@`, if there are any.
-// Of `marks` and such a word the answer is `marks` and the marks of the derivation, those of names, paths and rows left out.
+// Of `actions` and such a word the answer is `actions` and the actions of the derivation, those of names, paths and rows left out;
+// operations between operands and before one are told by their operators.
 // The text is in the form of `stored_cases`.
 #![tactic(auto)]
 
 use sp_base::{Place, place_of};
-use sp_grammar::{Mark, Start, mark_of};
+use sp_grammar::{Action, Start, action_of};
 use sp_lex::{ReadFault, Token, lex};
 use sp_runs::{Parsed, read_from};
 use std::alloc::{AllocError, Global};
@@ -58,16 +59,18 @@ fn parsed(alloc: Global, source: &[u8], start: Start) -> Result<Parsed, ReadFaul
     read_from(alloc, &tokens, start, 0)
 }
 
-/// The marks of the text's derivation by their names.
-fn marks(alloc: Global, source: &[u8], start: Start) -> Result<String, AllocError> {
-    let mut words = format!(in alloc; "marks")?;
+/// The actions of the text's derivation by their names.
+fn actions(alloc: Global, source: &[u8], start: Start) -> Result<String, AllocError> {
+    let mut words = format!(in alloc; "actions")?;
     match parsed(alloc, source, start) {
         Ok(parsed) => {
-            for passed in parsed.events.as_slice() {
-                match mark_of(passed.mark) {
-                    Some(Mark::Begin | Mark::Name | Mark::Path | Mark::Row | Mark::Absent) | None =>
-                        {}
-                    Some(mark) => words = format!(in alloc; "{words} {mark:?}")?,
+            for passed in parsed.actions.as_slice() {
+                match action_of(passed.action) {
+                    Some(Action::Begin | Action::Name | Action::Path | Action::Row | Action::Absent)
+                    | None => {}
+                    Some(Action::Binary(op)) => words = format!(in alloc; "{words} {op:?}")?,
+                    Some(Action::Unary(op)) => words = format!(in alloc; "{words} {op:?}")?,
+                    Some(action) => words = format!(in alloc; "{words} {action:?}")?,
                 }
             }
             Ok(words)
@@ -109,7 +112,7 @@ fn answer(alloc: Global, source: &[u8], start: Start, at: u32) -> Result<String,
 fn asked(alloc: Global, what: &str, text: &str) -> Result<String, AllocError> {
     let source = bytes_of(alloc, text.as_bytes())?;
     if let Some((_, word)) = what.split_once(" ") {
-        return marks(alloc, source.as_slice(), start_of(word));
+        return actions(alloc, source.as_slice(), start_of(word));
     }
     match what.split_once("@") {
         Some((word, at)) => answer(

@@ -12,7 +12,7 @@ use Rattle.sp_runs.specs.Runs.{refused_at as run_refused_at, refused_with}
 use Rattle.sp_runs.proofs.Unique.{one_longest}
 use Rattle.sp_lex.specs.Lexed.{Lexed}
 use Rattle.sp_ast.specs.Trees.{Tree}
-use Rattle.sp_build.specs.declared.stack.Item.TheVariants.{Built as built}
+use Rattle.sp_build.specs.Items.{built}
 use Rattle.sp_build.specs.Building.{IsBuilt}
 use Rattle.sp_read_unit.specs.Modules.{IsModuleText, IsModuleTree, IsModuleRefused}
 use Rattle.sp_read_unit.proofs.Whole.{one_module}
@@ -131,7 +131,7 @@ same_tree t u e = cc
 tree_of_tokens : (lexed : Lexed) (t u : Tree) → IsModuleTree lexed t → IsModuleTree lexed u → t ≡ u
 tree_of_tokens lexed t u x y =
     let e = one_module lexed.list x.0 y.0 x.1 y.1 in
-    let z : IsBuilt lexed.text lexed.list y.0 t = subst (λ marks. IsBuilt lexed.text lexed.list marks t) e x.2 in
+    let z : IsBuilt lexed.text lexed.list y.0 t = subst (λ actions. IsBuilt lexed.text lexed.list actions t) e x.2 in
     same_tree t u (sym z ∙ y.2)
 
 one_tree : (text : List ℕ) (t u : Tree) → IsModuleOf text t → IsModuleOf text u → t ≡ u

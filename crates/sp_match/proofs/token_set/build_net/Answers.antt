@@ -28,7 +28,9 @@ returns c =
     (subst (λ z. IsClosed c.deref-2.result.now z c.close.new.set) c.deref_mut.ensures.value
     (c.close.ensures.closed (rw c.deref-2.ensures.value b.orderly) (rw (c.deref_mut.ensures.value, c.deref-2.ensures.value) room))) in
     let items = with_items_is c.in_ok-start.start c.close.new.set (closed.len ∙ sym c.in_ok-start.start.ok.0) in
-    record {
-      net = subst (λ z. IsNetOf c.args.tokens.now c.loop-i.net.items z) (sym items) (whole_net c.args.tokens.now c.loop-i.net.items c.loop-i.first.items c.in_ok-start.start.items c.close.new.set b spots room closed c.requires.none_empty);
-      room = ap length items ∙ closed.len ∙ room;
-    }
+    let whole : IsNetOf c.args.tokens.now c.loop-i.net.items c.close.new.set = whole_net c.args.tokens.now c.loop-i.net.items c.loop-i.first.items c.in_ok-start.start.items c.close.new.set b spots room closed c.requires.none_empty in
+    let start_is : c.deref-4.result.now ≡ c.close.new.set = c.deref-4.ensures.value ∙ items in
+    let size : length c.close.new.set ≡ length c.loop-i.net.items = closed.len ∙ room in
+    c.in_ok-set.ensures c.args.tokens.now
+    (subst (λ z. IsNetOf c.args.tokens.now z c.deref-4.result.now) (sym c.deref-3.ensures.value) (subst (IsNetOf c.args.tokens.now c.loop-i.net.items) (sym start_is) whole))
+    (ap length start_is ∙ size ∙ ap length (sym c.deref-3.ensures.value))

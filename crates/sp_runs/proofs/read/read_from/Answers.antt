@@ -1,6 +1,6 @@
 use Rattle.std.proofs.Common.{◌≡◌, ◌≤◌, ◌+◌, length, drop, ap, ◌∙◌, arith}
 use Rattle.sp_grammar.specs.Sentences.{IsParsed}
-use Rattle.sp_parser.specs.declared.outcome.Outcome.TheVariants.{Text, Refused}
+use Rattle.sp_parser.specs.declared.outcome.Outcome.TheVariants.{Phrase, Refused}
 use Rattle.sp_lex.specs.declared.tokens.ReadFault.TheVariants as fault
 use Rattle.sp_runs.specs.Kinds.{numbers_of}
 use Rattle.sp_runs.specs.Runs.{refused_at, refused_with}
@@ -9,23 +9,23 @@ use Rattle.sp_runs.proofs.read.read_from.Goals as goal
 
 pub overflow_cast-result : goal.overflow_cast-result
 overflow_cast-result c =
-    let p : IsParsed c.args.start (drop c.args.at (numbers_of c.as_slice.result.now)) c.args.at (Text c.in-Text.events c.in-Text.to) = parsed_as c.args.start _ c.args.at _ _ c.in-Text.is c.in_ok-events.ensures in
-    let place : c.in-Text.to ≡ c.args.at + p.0 = p.1 in
+    let p : IsParsed c.args.start (drop c.args.at (numbers_of c.as_slice.result.now)) c.args.at (Phrase c.in-Phrase.actions c.in-Phrase.to) = parsed_as c.args.start _ c.args.at _ _ c.in-Phrase.is c.in_ok-actions.ensures in
+    let place : c.in-Phrase.to ≡ c.args.at + p.0 = p.1 in
     let within : c.args.at + p.0 ≤ length c.args.tokens.now.list = run_within c.args.start c.args.tokens.now.list c.args.at p.0 c.requires.at (run_of c.args.start c.args.tokens.now.list (numbers_of c.as_slice.result.now) c.args.at p.0 (ap numbers_of c.as_slice.ensures) p.2) in
     let fewer : 0 + length c.args.tokens.now.list ≤ length c.args.tokens.now.text = count_in_order 0 c.args.tokens.now.list (length c.args.tokens.now.text) c.are_of_their_text.ensures.order in
     let small : length c.args.tokens.now.text ≤ 1048576 = c.are_of_their_text.ensures.small in
     omega arith
 
-pub returns-in-Text-clause-read : goal.returns-in-Text-clause-read
-returns-in-Text-clause-read c =
-    let p : IsParsed c.args.start (drop c.args.at (numbers_of c.as_slice.result.now)) c.args.at (Text c.in-Text.events c.in-Text.to) = parsed_as c.args.start _ c.args.at _ _ c.in-Text.is c.in_ok-events.ensures in
+pub returns-in-Phrase-clause-read : goal.returns-in-Phrase-clause-read
+returns-in-Phrase-clause-read c =
+    let p : IsParsed c.args.start (drop c.args.at (numbers_of c.as_slice.result.now)) c.args.at (Phrase c.in-Phrase.actions c.in-Phrase.to) = parsed_as c.args.start _ c.args.at _ _ c.in-Phrase.is c.in_ok-actions.ensures in
     let e = ap numbers_of c.as_slice.ensures in
-    let d = text_of c.args.start c.args.tokens.now.list (numbers_of c.as_slice.result.now) c.args.at p.0 c.in-Text.events.items e p.3 in
+    let d = text_of c.args.start c.args.tokens.now.list (numbers_of c.as_slice.result.now) c.args.at p.0 c.in-Phrase.actions.items e p.3 in
     (p.0, p.1, run_of c.args.start c.args.tokens.now.list (numbers_of c.as_slice.result.now) c.args.at p.0 e p.2, d)
 
 pub returns-in-Refused-clause-refused : goal.returns-in-Refused-clause-refused
 returns-in-Refused-clause-refused c =
-    let p : IsParsed c.args.start (drop c.args.at (numbers_of c.as_slice.result.now)) c.args.at (Refused c.in-Refused.to) = parsed_as c.args.start _ c.args.at _ _ c.in-Refused.is c.in_ok-events.ensures in
+    let p : IsParsed c.args.start (drop c.args.at (numbers_of c.as_slice.result.now)) c.args.at (Refused c.in-Refused.to) = parsed_as c.args.start _ c.args.at _ _ c.in-Refused.is c.in_ok-actions.ensures in
     let e = ap numbers_of c.as_slice.ensures in
     refused_of c.args.start c.args.tokens.now.list c.args.at (length c.args.tokens.now.text) p.0 c.in-Refused.to c.refusal.result
     (c.refusal.ensures

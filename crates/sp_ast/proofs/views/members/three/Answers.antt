@@ -1,0 +1,7 @@
+use Rattle.std.proofs.Common.{rules, ◌∷◌, []}
+use Rattle.sp_ast.specs.declared.groups.Slot.TheVariants.{Part as part}
+use Rattle.sp_ast.proofs.Several.{other_parts}
+use Rattle.sp_ast.proofs.views.members.three.Goals as goal
+
+pub two-b-requires : goal.two-b-requires
+two-b-requires g c κs = (search rules, other_parts _ (part g.B.Member.sort ∷ part g.C.Member.sort ∷ []) _ _ _ c.first-a.ensures c.requires)

@@ -1,0 +1,7 @@
+use Rattle.std.proofs.Common.{rules, ◌∷◌, []}
+use Rattle.sp_ast.specs.declared.groups.Slot.TheVariants.{Part as part}
+use Rattle.sp_ast.proofs.Several.{other_parts}
+use Rattle.sp_ast.proofs.views.members.two.Goals as goal
+
+pub one-requires : goal.one-requires
+one-requires g c κs = (search rules, other_parts _ (part g.B.Member.sort ∷ []) _ _ _ c.first-a.ensures c.requires)

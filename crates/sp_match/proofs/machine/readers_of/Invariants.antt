@@ -1,0 +1,12 @@
+use Rattle.std.proofs.Common.{◌≡◌, ℕ, ◌<◌, ◌≤◌, length, false}
+use Rattle.sp_match.specs.Bits.{holds}
+use Rattle.sp_match.specs.Nets.{at}
+use Rattle.sp_match.specs.Tables.{reads_byte}
+use Rattle.sp_match.proofs.machine.readers_of.Given as goal
+
+abbrev pub invariant-loop-i : goal.invariant-loop-i
+invariant-loop-i l = record {
+  done : (p : ℕ) → p < l.i → holds l.set.items p ≡ reads_byte (at l.net p) l.byte;
+  rest : (p : ℕ) → l.i ≤ p → holds l.set.items p ≡ false;
+  len : length l.set.items ≡ l.words;
+}

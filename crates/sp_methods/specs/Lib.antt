@@ -1,0 +1,9 @@
+pub mod Kinds
+pub mod Conversions
+pub mod Separated
+pub mod Decoding
+pub mod Answers
+pub mod Methods
+pub mod Taken
+pub mod Laws
+pub mod Kept

@@ -1,0 +1,4 @@
+pub mod Told
+pub mod Rounds
+pub mod Rows
+pub mod Links

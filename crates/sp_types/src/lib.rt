@@ -1,0 +1,14 @@
+//! Types of the checked language: their parts are shared, so that a copy costs nothing, and bounded, so that whatever walks
+//! over one stays short.
+#![tactic(auto)]
+
+mod compare;
+mod laws;
+#[cfg(test)]
+mod tests;
+mod types;
+mod words;
+
+pub use laws::same_is_equal;
+pub use types::{Level, MOST_WRITTEN, Type};
+pub use words::{Maker, Word, wider};

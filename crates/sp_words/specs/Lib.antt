@@ -1,0 +1,4 @@
+pub mod Keywords
+pub mod Punctuation
+pub mod Operators
+pub mod Words
