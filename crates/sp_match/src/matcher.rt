@@ -46,6 +46,17 @@ impl<'s> Matcher<'s> {
         })
     }
 
+    /// Forgets all bytes that were read. It takes no memory.
+    pub fn restart(&mut self)
+        ensures count { steps self.new ≡ 0 }
+        ensures read { (tokens : List Syntax) (w : List ℕ) → HasRead self.old tokens w
+            → HasRead self.new tokens [] }
+    {
+        self.state = Some(0);
+        self.best = None;
+        self.stepped = 0;
+    }
+
     /// Leaves a state of the table: the live spots are its own.
     fn leave_state(&mut self, state: u32)
         ensures count { steps self.new ≡ steps self.old }
