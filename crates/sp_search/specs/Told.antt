@@ -20,13 +20,16 @@ wants_of s = s.attempt.wants
 abbrev pub found_of : Search → Found
 found_of s = s.found
 
--- what the bytes w, given from the present start on, come to
+-- What is found so far, by the bytes w that were given from the present start on: the start, where a token begins
+-- with them; nothing, where none does yet, and one may; or that the start is the end of the ended view.
 abbrev pub Stands : List Syntax → List ℕ → Bool → ℕ → List ℕ → ℕ → Found → Type 0
 Stands tokens d ended passed w start (found.At k) = (k ≡ start) × (passed < length d) × HasToken tokens w
 Stands tokens d ended passed w start found.Need = NoMatch tokens w × (CanGrow tokens w ⊎ (w ≡ []))
 Stands tokens d ended passed w start found.Nowhere = (ended ≡ true) × (passed ≡ length d)
 
--- the same of the parts of a search
+-- Of a search for these members from the place `from` on, all that it was told is of the data `d`: each byte that was
+-- given is theirs at its place, and if an end was told the view has ended behind them. The places before the present
+-- start have failed by them, and the bytes from there up to the wanted place were given since.
 pub record PartsTold (m : Matcher) (start wants : ℕ) (now : Found) (tokens : List Syntax) (from : ℕ) (d : List ℕ) (ended : Bool) : Type 0 where
   pub passed : ℕ
   pub read : ℕ
@@ -37,9 +40,7 @@ pub record PartsTold (m : Matcher) (start wants : ℕ) (now : Found) (tokens : L
   pub given : HasRead m tokens (take read (drop passed d))
   pub stands : Stands tokens d ended passed (take read (drop passed d)) start now
 
--- All that a search for these members from the place `from` on was told is of these data: each byte that was given
--- is theirs at its place, and if an end was told the view has ended behind them. The places before its start have
--- failed by them, and the bytes from there up to the wanted place were given since.
+-- all that the search was told is of these data
 abbrev pub HasTold : Search → List Syntax → ℕ → List ℕ → Bool → Type 0
 HasTold s tokens from d ended = PartsTold s.attempt.matcher s.attempt.start s.attempt.wants s.found tokens from d ended
 
