@@ -7,51 +7,14 @@
 ghost use Rattle.std.specs.Prelude.{◌≡◌, ◌≤◌, ◌<◌, ℕ, length, IfOk};
 ghost use Rattle.sp_match.specs.Sizes.{steps};
 
-use sp_match::{Matcher, Regex, RegexFault, SetFault, TokenSet, Verdict, parse};
+use sp_match::{Matcher, SetFault, TokenSet, Verdict};
 use std::alloc::{AllocError, Global};
 use std::io;
 use std::io::Read;
+use token_members::{behind_line, read_members};
 
 /// More bytes than a text has.
 const LONGEST: usize = 268_435_456;
-
-/// Where the first line ends.
-fn line_end(text: &[u8]) -> usize
-    ensures { result ≤ length text.now }
-{
-    for i in 0..text.len() {
-        if text[i] == b'\n' {
-            return i;
-        }
-    }
-    text.len()
-}
-
-/// What stands behind the first line.
-fn behind_line(text: &[u8]) -> &[u8] {
-    let end = line_end(text);
-    if end < text.len() {
-        &text[end + 1..]
-    } else {
-        &text[end..]
-    }
-}
-
-/// The member of a line.
-fn member(alloc: Global, line: &[u8]) -> Result<Option<Regex>, AllocError> {
-    match line {
-        [b'l', bytes @ ..] => match Regex::literal(alloc, bytes) {
-            Ok(regex) => Ok(Some(regex)),
-            Err(_) => Err(AllocError),
-        },
-        [b'r', text @ ..] => match parse(alloc, text) {
-            Ok(regex) => Ok(Some(regex)),
-            Err(RegexFault::Bad(_)) => Ok(None),
-            Err(RegexFault::NoMemory) => Err(AllocError),
-        },
-        _ => Ok(None),
-    }
-}
 
 /// What the tokens of a text come to.
 #[derive(Clone, Copy)]
@@ -126,27 +89,6 @@ fn whole(alloc: Global, set: &TokenSet, text: &[u8]) -> Result<Sum, AllocError>
             bytes: 0,
         }),
     }
-}
-
-/// The text behind the members, which are put into a list.
-fn read_members<'t>(
-    alloc: Global,
-    lines: &'t [u8],
-    all: &mut Vec<Regex>,
-) -> Result<&'t [u8], AllocError> {
-    let mut rest = lines;
-    for _ in 0..lines.len() {
-        let end = line_end(rest);
-        let line = &rest[..end];
-        rest = behind_line(rest);
-        if line.is_empty() {
-            break;
-        }
-        if let Some(regex) = member(alloc, line)? {
-            all.push(regex)?;
-        }
-    }
-    Ok(rest)
 }
 
 /// What an input comes to, if its set is built.

@@ -4,75 +4,17 @@
 //! where a token begins, and how many bytes the search has asked for.
 #![tactic(auto)]
 
-ghost use Rattle.std.specs.Prelude.{◌≡◌, ◌≤◌, ◌<◌, ℕ, length, IfOk};
+ghost use Rattle.std.specs.Prelude.{◌≤◌, length};
 
-use sp_match::{Regex, RegexFault, SetFault, TokenSet, parse};
+use sp_match::{SetFault, TokenSet};
 use sp_search::{Found, Search};
 use std::alloc::{AllocError, Global};
 use std::io;
 use std::io::Read;
+use token_members::{behind_line, read_members};
 
 /// More bytes than a text has.
 const LONGEST: usize = 268_435_456;
-
-/// Where the first line ends.
-fn line_end(text: &[u8]) -> usize
-    ensures { result ≤ length text.now }
-{
-    for i in 0..text.len() {
-        if text[i] == b'\n' {
-            return i;
-        }
-    }
-    text.len()
-}
-
-/// What stands behind the first line.
-fn behind_line(text: &[u8]) -> &[u8] {
-    let end = line_end(text);
-    if end < text.len() {
-        &text[end + 1..]
-    } else {
-        &text[end..]
-    }
-}
-
-/// The member of a line.
-fn member(alloc: Global, line: &[u8]) -> Result<Option<Regex>, AllocError> {
-    match line {
-        [b'l', bytes @ ..] => match Regex::literal(alloc, bytes) {
-            Ok(regex) => Ok(Some(regex)),
-            Err(_) => Err(AllocError),
-        },
-        [b'r', text @ ..] => match parse(alloc, text) {
-            Ok(regex) => Ok(Some(regex)),
-            Err(RegexFault::Bad(_)) => Ok(None),
-            Err(RegexFault::NoMemory) => Err(AllocError),
-        },
-        _ => Ok(None),
-    }
-}
-
-/// The text behind the members, which are put into a list.
-fn read_members<'t>(
-    alloc: Global,
-    lines: &'t [u8],
-    all: &mut Vec<Regex>,
-) -> Result<&'t [u8], AllocError> {
-    let mut rest = lines;
-    for _ in 0..lines.len() {
-        let end = line_end(rest);
-        let line = &rest[..end];
-        rest = behind_line(rest);
-        if line.is_empty() {
-            break;
-        }
-        if let Some(regex) = member(alloc, line)? {
-            all.push(regex)?;
-        }
-    }
-    Ok(rest)
-}
 
 /// Gives all bytes that are wanted and there. How many they are.
 fn advance(search: &mut Search<'_>, text: &[u8]) -> u64

@@ -8,68 +8,10 @@
 
 ghost use Rattle.std.specs.Prelude.{◌≡◌, ◌≤◌, length};
 
-use sp_match::{Matcher, Regex, RegexFault, SetFault, TokenSet, Verdict, parse};
+use sp_match::{Matcher, Regex, SetFault, TokenSet, Verdict};
 use std::alloc::{AllocError, Global};
 use std::io;
-
-fn digit(byte: u8) -> u8 {
-    match byte {
-        b'0'..=b'9' => byte - b'0',
-        b'a'..=b'f' => byte - b'a' + 10,
-        _ => 0,
-    }
-}
-
-/// The bytes of a hexadecimal text.
-fn bytes_of(alloc: Global, text: &[u8]) -> Result<Vec<u8>, AllocError> {
-    let mut bytes = Vec::new(alloc);
-    let mut rest = text;
-    for _ in 0..text.len() {
-        match rest {
-            [high, low, behind @ ..] => {
-                bytes.push(digit(*high).wrapping_mul(16).wrapping_add(digit(*low)))?;
-                rest = behind;
-            }
-            _ => break,
-        }
-    }
-    Ok(bytes)
-}
-
-/// The member of this text, if it is one.
-fn member(alloc: Global, text: &[u8]) -> Result<Option<Regex>, AllocError> {
-    match text {
-        [b'l', hex @ ..] => {
-            let bytes = bytes_of(alloc, hex)?;
-            match Regex::literal(alloc, bytes.as_slice()) {
-                Ok(regex) => Ok(Some(regex)),
-                Err(_) => Err(AllocError),
-            }
-        }
-        [_, hex @ ..] => {
-            let bytes = bytes_of(alloc, hex)?;
-            match parse(alloc, bytes.as_slice()) {
-                Ok(regex) => Ok(Some(regex)),
-                Err(RegexFault::Bad(_)) => Ok(None),
-                Err(RegexFault::NoMemory) => Err(AllocError),
-            }
-        }
-        [] => Ok(None),
-    }
-}
-
-fn members(alloc: Global, text: &str) -> Result<Vec<Regex>, AllocError> {
-    let mut all = Vec::new(alloc);
-    if text == "-" {
-        return Ok(all);
-    }
-    for part in text.split(',') {
-        if let Some(regex) = member(alloc, part.as_bytes())? {
-            all.push(regex)?;
-        }
-    }
-    Ok(all)
-}
+use token_members::{add_bytes, members};
 
 fn show(alloc: Global, text: &mut String, verdict: Verdict) -> Result<(), AllocError> {
     match verdict {
@@ -116,7 +58,8 @@ fn answer(alloc: Global, tokens: &[Regex], bytes: &str) -> Result<String, AllocE
     if bytes == "-" {
         return String::from_str(alloc, "ok");
     }
-    let input = bytes_of(alloc, bytes.as_bytes())?;
+    let mut input = Vec::new(alloc);
+    add_bytes(bytes.as_bytes(), &mut input)?;
     let mut text = String::new(alloc);
     if input.len() <= 65536 {
         verdicts(alloc, &set, input.as_slice(), false, &mut text)?;

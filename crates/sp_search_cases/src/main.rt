@@ -8,77 +8,24 @@
 
 ghost use Rattle.std.specs.Prelude.{◌≡◌, ◌≤◌, ◌^◌, IfOk};
 
-use sp_match::{Regex, RegexFault, SetFault, TokenSet, parse};
+use sp_match::{Regex, SetFault, TokenSet};
 use sp_search::{Found, Search};
 use std::alloc::{AllocError, Global};
 use std::io;
+use token_members::{add_bytes, members};
 
 /// The last place of a byte, and one more.
 const FARTHEST: u64 = 4_611_686_018_427_387_904;
-
-fn digit(byte: u8) -> u8 {
-    match byte {
-        b'0'..=b'9' => byte - b'0',
-        b'a'..=b'f' => byte - b'a' + 10,
-        _ => 0,
-    }
-}
-
-/// The bytes of a hexadecimal text, behind those that are there.
-fn add_bytes(text: &[u8], bytes: &mut Vec<u8>) -> Result<(), AllocError> {
-    let mut rest = text;
-    for _ in 0..text.len() {
-        match rest {
-            [high, low, behind @ ..] => {
-                bytes.push(digit(*high).wrapping_mul(16).wrapping_add(digit(*low)))?;
-                rest = behind;
-            }
-            _ => break,
-        }
-    }
-    Ok(())
-}
 
 /// The number of a decimal text.
 fn number(text: &[u8]) -> u64 {
     let mut sum: u64 = 0;
     for byte in text {
-        sum = sum.wrapping_mul(10).wrapping_add(u64::from(digit(*byte)));
+        sum = sum
+            .wrapping_mul(10)
+            .wrapping_add(u64::from(byte.saturating_sub(b'0')));
     }
     sum
-}
-
-/// The member of this text, if it is one.
-fn member(alloc: Global, text: &[u8]) -> Result<Option<Regex>, AllocError> {
-    let mut bytes = Vec::new(alloc);
-    match text {
-        [b'l', hex @ ..] => {
-            add_bytes(hex, &mut bytes)?;
-            match Regex::literal(alloc, bytes.as_slice()) {
-                Ok(regex) => Ok(Some(regex)),
-                Err(_) => Err(AllocError),
-            }
-        }
-        [_, hex @ ..] => {
-            add_bytes(hex, &mut bytes)?;
-            match parse(alloc, bytes.as_slice()) {
-                Ok(regex) => Ok(Some(regex)),
-                Err(RegexFault::Bad(_)) => Ok(None),
-                Err(RegexFault::NoMemory) => Err(AllocError),
-            }
-        }
-        [] => Ok(None),
-    }
-}
-
-fn members(alloc: Global, text: &str) -> Result<Vec<Regex>, AllocError> {
-    let mut all = Vec::new(alloc);
-    for part in text.split(',') {
-        if let Some(regex) = member(alloc, part.as_bytes())? {
-            all.push(regex)?;
-        }
-    }
-    Ok(all)
 }
 
 /// Gives the byte that is wanted, or tells the end behind the last one. Whether there was something to tell.
