@@ -6,7 +6,7 @@
 // was found, or `.` for Nowhere.
 #![tactic(auto)]
 
-ghost use Rattle.std.specs.Prelude.{◌≡◌, ◌≤◌, ◌^◌, IfOk};
+ghost use Rattle.std.specs.Prelude.{◌≤◌, ◌^◌};
 
 use sp_match::{Regex, SetFault, TokenSet};
 use sp_search::{Found, Search};
