@@ -11,3 +11,4 @@ pub mod Whole
 pub mod Words
 pub mod Tabling
 pub mod Stepping
+pub mod Lists

@@ -2,7 +2,6 @@
 ghost use Rattle.std.specs.Prelude.{◌≡◌, ◌≢◌, ℕ, ◌*◌, ◌<◌, ◌≤◌, ◌==◌, ◌||◌, ◌&&◌, true, false, length, IfOk};
 ghost use Rattle.std.proofs.Common.{get_or};
 ghost use Rattle.std.specs.Int.{bit_at};
-ghost use Rattle.sp_match.specs.Sets.{has};
 ghost use Rattle.sp_match.specs.Bits.{holds};
 
 use sp_base::NoMemory;
@@ -125,17 +124,4 @@ pub fn meets(set: &Vec<u64>, other: &Vec<u64>) -> bool
         }
     }
     false
-}
-
-/// The set that is told by a truth value for each spot, in so many words.
-pub fn packed(alloc: Global, set: &[bool], words: usize) -> Result<Vec<u64>, NoMemory>
-    ensures spots { length set.now ≤ 64 * words
-        → IfOk result (λ bits. (p : ℕ) → holds bits.items p ≡ has set.now p) }
-    ensures len { IfOk result (λ bits. length bits.items ≡ words) }
-{
-    let mut bits = none(alloc, words)?;
-    for spot in 0..set.len() {
-        put_if(&mut bits, spot, set[spot]);
-    }
-    Ok(bits)
 }
