@@ -125,3 +125,12 @@ pub fn meets(set: &Vec<u64>, other: &Vec<u64>) -> bool
     }
     false
 }
+
+/// How many spots are in the set.
+pub fn count(set: &Vec<u64>) -> usize {
+    let mut sum: usize = 0;
+    for word in set {
+        sum = sum.saturating_add(word.count_ones() as usize);
+    }
+    sum
+}

@@ -8,7 +8,7 @@ ghost use Rattle.sp_match.specs.Running.{IsNext};
 ghost use Rattle.sp_match.specs.Tables.{IsMachineOf, IsAcceptance, acceptance_at, IsStates, AreKept, IsState};
 ghost use Rattle.sp_match.specs.Sizes.{IsTableOf};
 
-use crate::bits::{assign, none};
+use crate::bits::{assign, count, none};
 use crate::index::Index;
 use crate::machine::Machine;
 use sp_base::NoMemory;
@@ -19,6 +19,9 @@ const MOVES: usize = 262144;
 
 /// The most words of all sets of a table.
 const WORDS: usize = 524288;
+
+/// The most live spots of all sets from which a table has moves: what the moves cost to make.
+const LIVE: usize = 1048576;
 
 /// What a set of live spots tells: its best live goal, and whether one of its spots reads on.
 #[derive(Clone, Copy)]
@@ -197,8 +200,13 @@ impl Table {
         let room = room_of(machine);
         let mut index = Index::new(alloc, 4 * room as usize)?;
         let mut table = Table::begin(alloc, machine, &mut index, start)?;
+        let mut live: usize = 0;
         for state in 0..room as usize {
             if state >= table.states.sets.len() {
+                break;
+            }
+            live = live.saturating_add(count(&table.states.sets[state]));
+            if live > LIVE {
                 break;
             }
             table.add_moves(alloc, machine, &mut index, state, room)?;
