@@ -12,3 +12,4 @@ pub mod Words
 pub mod Tabling
 pub mod Stepping
 pub mod Lists
+pub mod Rows
