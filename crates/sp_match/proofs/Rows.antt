@@ -1,9 +1,9 @@
 -- The definition of the verdict, run on small sets.
-use Rattle.std.proofs.Common.{◌≡◌, ℕ, zero, suc, ◌<◌, ◌≤◌, ◌++◌, ◌&&◌, Bool, true, false, List, [], ◌∷◌, Some, None, length, take, get_or, refl, ap, sym, subst, ◌∙◌, inl, inr, arith}
+use Rattle.std.proofs.Common.{◌≡◌, ℕ, zero, suc, ◌<◌, ◌≤◌, ◌++◌, ◌&&◌, Bool, true, false, List, [], ◌∷◌, Some, None, length, take, get_or, refl, ap, ◌∙◌, inl, inr, arith}
 use Rattle.sp_regex.specs.Trees.{Syntax, byte, class, empty, followed, never, either, repeat, literal, range_of}
 use Rattle.sp_regex.specs.Syntax.{belongs}
 use Rattle.sp_regex.specs.Language.{InL, Times}
-use Rattle.sp_match.specs.Matching.{HasWord, Before, CanGrow, NoMatch, IsVerdict}
+use Rattle.sp_match.specs.Matching.{HasWord, Before, IsVerdict}
 use Rattle.sp_match.specs.declared.verdict.Verdict.TheVariants as verdict
 use Rattle.sp_match.proofs.Compiling.{and_true, not_both}
 
@@ -38,21 +38,27 @@ waits_for_ab = (refl, (0, 98, [], (omega arith, inr has_ab)))
 
 -- where the input has ended it is a
 ends_with_a : IsVerdict (a_or_ab ∷ []) (97 ∷ []) true (verdict.Match 0 1)
-ends_with_a = (inl refl, record {
-  within = omega arith;
-  matches = (omega arith, inl (inr has_a));
-  longest = λ j m le _. le;
-  first = λ j h. is_first a_or_ab j h.0;
-})
+ends_with_a = (
+  inl refl,
+  record {
+    within = omega arith;
+    matches = (omega arith, inl (inr has_a));
+    longest = λ j m le _. le;
+    first = λ j h. is_first a_or_ab j h.0;
+  },
+)
 
 -- and on ab it is ab
 takes_ab : IsVerdict (a_or_ab ∷ []) (97 ∷ 98 ∷ []) true (verdict.Match 0 2)
-takes_ab = (inl refl, record {
-  within = omega arith;
-  matches = (omega arith, inr has_ab);
-  longest = λ j m le _. le;
-  first = λ j h. is_first a_or_ab j h.0;
-})
+takes_ab = (
+  inl refl,
+  record {
+    within = omega arith;
+    matches = (omega arith, inr has_ab);
+    longest = λ j m le _. le;
+    first = λ j h. is_first a_or_ab j h.0;
+  },
+)
 
 -- [0-9]+
 abbrev digit : Syntax
@@ -93,12 +99,15 @@ no_longer (suc (suc (suc (suc m)))) le h = absurd (omega arith)
 
 -- a semicolon behind it settles that it is 12
 takes_12 : IsVerdict (number ∷ []) (49 ∷ 50 ∷ 59 ∷ []) false (verdict.Match 0 2)
-takes_12 = (inr (λ g. no_number (49 ∷ 50 ∷ 59 ∷ g.1 ∷ g.2) refl (only_member number g.0 (49 ∷ 50 ∷ 59 ∷ g.1 ∷ g.2) g.3)), record {
-  within = omega arith;
-  matches = (omega arith, has_12);
-  longest = λ j m le h. no_longer m le (only_member number j (take m (49 ∷ 50 ∷ 59 ∷ [])) h);
-  first = λ j h. is_first number j h.0;
-})
+takes_12 = (
+  inr (λ g. no_number (49 ∷ 50 ∷ 59 ∷ g.1 ∷ g.2) refl (only_member number g.0 (49 ∷ 50 ∷ 59 ∷ g.1 ∷ g.2) g.3)),
+  record {
+    within = omega arith;
+    matches = (omega arith, has_12);
+    longest = λ j m le h. no_longer m le (only_member number j (take m (49 ∷ 50 ∷ 59 ∷ [])) h);
+    first = λ j h. is_first number j h.0;
+  },
+)
 
 -- the literal AB, and A[0-9]
 abbrev a_digit : Syntax
@@ -129,12 +138,15 @@ second_first (suc (suc j)) h = absurd (let lt = h.0 in omega arith)
 
 -- on A7 it is the second, and nothing longer can come
 takes_second : IsVerdict two (65 ∷ 55 ∷ []) false (verdict.Match 1 2)
-takes_second = (inr (λ g. is_full g.0 g.1 g.2 g.3), record {
-  within = omega arith;
-  matches = (omega arith, has_a7);
-  longest = λ j m le _. le;
-  first = λ j h. second_first j h;
-})
+takes_second = (
+  inr (λ g. is_full g.0 g.1 g.2 g.3),
+  record {
+    within = omega arith;
+    matches = (omega arith, has_a7);
+    longest = λ j m le _. le;
+    first = λ j h. second_first j h;
+  },
+)
 
 -- a literal goes before a regular expression of the same word, though that is the earlier member
 abbrev tie : List Syntax
@@ -146,12 +158,15 @@ literal_first (suc zero) h = inr (refl, omega arith)
 literal_first (suc (suc j)) h = absurd (let lt = h.0 in omega arith)
 
 takes_literal : IsVerdict tie (97 ∷ 98 ∷ []) true (verdict.Match 1 2)
-takes_literal = (inl refl, record {
-  within = omega arith;
-  matches = (omega arith, refl);
-  longest = λ j m le _. le;
-  first = λ j h. literal_first j h;
-})
+takes_literal = (
+  inl refl,
+  record {
+    within = omega arith;
+    matches = (omega arith, refl);
+    longest = λ j m le _. le;
+    first = λ j h. literal_first j h;
+  },
+)
 
 -- a{2,3} on aa waits for a third
 waits_for_third : IsVerdict (repeat 2 (Some 3) (byte 97) ∷ []) (97 ∷ 97 ∷ []) false verdict.Need

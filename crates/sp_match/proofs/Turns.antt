@@ -33,7 +33,7 @@ at_is [] j x lt e = absurd (omega arith)
 at_is (y ∷ ys) zero x lt e = sym e
 at_is (y ∷ ys) (suc j) x lt e = at_is ys j x (omega arith) e
 
-jump_is : (s : Spot) (q : ℕ) → jumps s q ≡ true → is_jump s ≡ true
+pub jump_is : (s : Spot) (q : ℕ) → jumps s q ≡ true → is_jump s ≡ true
 jump_is (spot.Jump to) q j = refl
 jump_is (spot.Byte bytes next) q j = absurd (let k : false ≡ true = j in cc)
 jump_is (spot.Goal token literal) q j = absurd (let k : false ≡ true = j in cc)

@@ -77,6 +77,13 @@ pub fn contains(set: &Vec<u64>, spot: usize) -> bool
     (word_of(set, spot / 64) >> (spot % 64)) & 1 == 1
 }
 
+/// Whether a spot is in both sets.
+pub fn both_contain(set: &Vec<u64>, other: &Vec<u64>, spot: usize) -> bool
+    ensures { result ≡ (holds set.now.items spot && holds other.now.items spot) }
+{
+    contains(set, spot) && contains(other, spot)
+}
+
 /// Empties a set.
 #[tactic(auto, using(crate::proofs::Words::none_held))]
 pub fn clear(set: &mut Vec<u64>)
@@ -110,7 +117,7 @@ pub fn assign(set: &mut Vec<u64>, other: &Vec<u64>)
     merge(set, other);
 }
 
-/// Whether a spot is in both sets.
+/// Whether some spot is in both sets.
 pub fn meets(set: &Vec<u64>, other: &Vec<u64>) -> bool
     ensures some { result ≡ true → (p : ℕ) × (holds set.now.items p ≡ true)
         × (holds other.now.items p ≡ true) }

@@ -5,7 +5,7 @@ ghost use Rattle.sp_match.specs.Sets.{has};
 ghost use Rattle.sp_match.specs.Nets.{at, jumps, is_jump, Orderly};
 ghost use Rattle.sp_match.specs.Running.{IsClosed, Closing};
 
-use crate::bits::{contains, put_if, word_of};
+use crate::bits::{both_contain, put_if, word_of};
 use crate::spot::Spot;
 
 /// Adds all spots of a list.
@@ -32,26 +32,28 @@ fn jump_from(set: &mut Vec<u64>, spot: &Spot)
 }
 
 /// Adds what a spot of a word jumps to, if it is in the set.
-fn close_spot(net: &[Spot], set: &mut Vec<u64>, word: usize, bit: usize)
+fn close_spot(net: &[Spot], jumping: &Vec<u64>, set: &mut Vec<u64>, word: usize, bit: usize)
     requires { bit < 64 }
     ensures closing { (initial : ℕ → Bool) → Orderly net.now
         → length net.now < 64 * length set.old.items
+        → ((p : ℕ) → holds jumping.now.items p ≡ is_jump (at net.now p))
         → Closing net.now initial (holds set.old.items) (word * 64 + bit + 1)
         → Closing net.now initial (holds set.new.items) (word * 64 + bit) }
     ensures len { length set.new.items ≡ length set.old.items }
 {
     if word <= net.len() / 64 {
         let spot = word * 64 + bit;
-        if spot < net.len() && contains(set, spot) {
+        if spot < net.len() && both_contain(set, jumping, spot) {
             jump_from(set, &net[spot]);
         }
     }
 }
 
 /// Adds what the spots of a word jump to.
-fn close_word(net: &[Spot], set: &mut Vec<u64>, word: usize)
+fn close_word(net: &[Spot], jumping: &Vec<u64>, set: &mut Vec<u64>, word: usize)
     ensures closing { (initial : ℕ → Bool) → Orderly net.now
         → length net.now < 64 * length set.old.items
+        → ((p : ℕ) → holds jumping.now.items p ≡ is_jump (at net.now p))
         → Closing net.now initial (holds set.old.items) ((word + 1) * 64)
         → Closing net.now initial (holds set.new.items) (word * 64) }
     ensures len { length set.new.items ≡ length set.old.items }
@@ -59,7 +61,7 @@ fn close_word(net: &[Spot], set: &mut Vec<u64>, word: usize)
     let mut bit = 64;
     while bit > 0 {
         bit -= 1;
-        close_spot(net, set, word, bit);
+        close_spot(net, jumping, set, word, bit);
     }
 }
 
@@ -75,7 +77,7 @@ pub fn close(net: &[Spot], jumping: &Vec<u64>, set: &mut Vec<u64>)
     while word > 0 {
         word -= 1;
         if set[word] & word_of(jumping, word) > 0 {
-            close_word(net, set, word);
+            close_word(net, jumping, set, word);
         }
     }
 }
