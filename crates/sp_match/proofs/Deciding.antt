@@ -133,7 +133,7 @@ from_byte net g p w b (here x) = absurd (byte_is_no_goal (at net g) b x)
 from_byte net g p w b (over {b = c} {w = v} m r) = (c, v, refl)
 from_byte net g p w b (through {q = q} j r) = absurd (byte_is_no_jump (at net p) q b j)
 
-module _ {tokens : List Syntax} {net : List Spot} {start : List Bool} (n : IsNetOf tokens net start) where
+module _ {tokens : List Syntax} {net : List Spot} {start : List ℕ} (n : IsNetOf tokens net start) where
   pub live_has : (w : List ℕ) (live : ℕ → Bool) → Stands tokens net w live → (g : ℕ) → live g ≡ true → is_goal (at net g) ≡ true → HasWord tokens (goal_token (at net g)) w
   live_has w live s g h is = ((n.begins.goals g is).0, subst (InL (get_or tokens (goal_token (at net g)) empty)) (append-nil w) (s.came g [] is (g, h, here is)))
 

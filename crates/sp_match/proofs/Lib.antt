@@ -11,3 +11,5 @@ pub mod Whole
 pub mod Words
 pub mod Tabling
 pub mod Stepping
+pub mod Lists
+pub mod Rows

@@ -1,5 +1,5 @@
 -- Repetitions without a greatest number, as a jump back to where they begin.
-use Rattle.std.proofs.Common.{◌≡◌, ℕ, zero, suc, ◌+◌, ◌<◌, ◌≤◌, ◌++◌, ◌==◌, ◌&&◌, ◌||◌, not, ◌⊎◌, Bool, true, false, List, [], ◌∷◌, length, refl, ap, sym, subst, ◌∙◌, inl, inr, arith, append_assoc, length-append, eqb-true, eq-eqb}
+use Rattle.std.proofs.Common.{◌≡◌, ℕ, zero, suc, ◌+◌, ◌<◌, ◌≤◌, ◌++◌, ◌==◌, ◌&&◌, ◌||◌, not, ◌⊎◌, true, false, List, [], ◌∷◌, length, refl, ap, sym, subst, ◌∙◌, inl, inr, arith, append_assoc, length-append, eqb-true, eq-eqb}
 use Rattle.sp_regex.specs.Language.{Times}
 use Rattle.sp_match.specs.declared.spot.Spot.{Spot}
 use Rattle.sp_match.specs.Sets.{has}
@@ -8,17 +8,17 @@ use Rattle.sp_match.specs.Nets.{at, moves, jumps, is_goal, Reads, here, over, th
 use Rattle.sp_match.proofs.Compiling.{order, either_true, left_true, right_true, both_true, and_true, true_or_false, not_both, not_of_false, not_true, agree_part, not_below, compiled_same}
 
 -- the spot s is at each spot of the set
-pub record IsLoop (to : List Bool) (s : Spot) : Type 0 where
+pub record IsLoop (to : List ℕ) (s : Spot) : Type 0 where
   pub jumps : (q : ℕ) → jumps s q ≡ has to q
   pub no_goal : is_goal s ≡ true → ⊥
   pub no_move : (x q : ℕ) → moves s x q ≡ true → ⊥
 
-pub loop_read : (to : List Bool) (a : ℕ) (other : List Spot) (s : Spot) → at other a ≡ s → IsLoop to s → (g : ℕ) (w : List ℕ) → Reads other g a w → ReadsSome other g to w
+pub loop_read : (to : List ℕ) (a : ℕ) (other : List Spot) (s : Spot) → at other a ≡ s → IsLoop to s → (g : ℕ) (w : List ℕ) → Reads other g a w → ReadsSome other g to w
 loop_read to a other s e l g w (here x) = absurd (l.no_goal (ap is_goal (sym e) ∙ x))
 loop_read to a other s e l g w (over {b = x} {q = q} m r) = absurd (l.no_move x q (ap (λ z. moves z x q) (sym e) ∙ m))
 loop_read to a other s e l g w (through {q = q} j r) = (q, sym (l.jumps q) ∙ ap (λ z. jumps z q) (sym e) ∙ j, r)
 
-pub loop_begins : (to : List Bool) (a : ℕ) (other : List Spot) (s : Spot) → at other a ≡ s → IsLoop to s → (g : ℕ) (w : List ℕ) → ReadsSome other g to w → Reads other g a w
+pub loop_begins : (to : List ℕ) (a : ℕ) (other : List Spot) (s : Spot) → at other a ≡ s → IsLoop to s → (g : ℕ) (w : List ℕ) → ReadsSome other g to w → Reads other g a w
 loop_begins to a other s e l g w r = through (ap (λ z. jumps z r.0) e ∙ l.jumps r.0 ∙ r.1) r.2
 
 star_plus : (A : List ℕ → Type 0) (n : ℕ) (w : List ℕ) → A [] → Times n A w → Plus A w
@@ -27,7 +27,7 @@ star_plus A (suc n) w none t = (n, t)
 
 -- The loop at the spot a: its body begins at `entry` and leads back to a; from a the body is entered, or what
 -- stands behind it.
-pub record Looped (A : List ℕ → Type 0) (then entry back to : List Bool) (a b : ℕ) (net : List Spot) : Type 0 where
+pub record Looped (A : List ℕ → Type 0) (then entry back to : List ℕ) (a b : ℕ) (net : List Spot) : Type 0 where
   pub below : Below then a
   pub goes_on : (q : ℕ) × (has then q ≡ true)
   pub order : a < b
@@ -36,7 +36,7 @@ pub record Looped (A : List ℕ → Type 0) (then entry back to : List Bool) (a 
   pub back_is : (p : ℕ) → has back p ≡ (p == a)
   pub body : Compiled A back entry (a + 1) b net
 
-module _ {A : List ℕ → Type 0} {then entry back to : List Bool} {a b : ℕ} {net : List Spot} (l : Looped A then entry back to a b net) where
+module _ {A : List ℕ → Type 0} {then entry back to : List ℕ} {a b : ℕ} {net : List Spot} (l : Looped A then entry back to a b net) where
   to_cases : (p : ℕ) → has to p ≡ true → ((has entry p ≡ true) × (a + 1 ≤ p)) ⊎ (has then p ≡ true)
   to_cases p h = elim (either_true (has entry p && not (p == a)) (has then p) (sym (l.to_is p) ∙ h)) [
     | inr k ↦ inr k

@@ -1,5 +1,5 @@
 -- A part without byte positions has no word but the empty one.
-use Rattle.std.proofs.Common.{◌≡◌, ℕ, zero, suc, ◌*◌, ◌≤◌, ◌++◌, ◌⊎◌, max, Bool, List, [], ◌∷◌, Option, Some, None, length, refl, ap, sym, subst, ◌∙◌, inl, inr, arith}
+use Rattle.std.proofs.Common.{◌≡◌, ℕ, zero, suc, ◌*◌, ◌≤◌, ◌++◌, ◌⊎◌, max, List, [], ◌∷◌, Option, Some, None, length, refl, ap, sym, subst, ◌∙◌, inl, inr, arith}
 use Rattle.sp_regex.specs.Trees.{Syntax, byte, any, class, empty, followed, never, either, repeat, literal, positions_of}
 use Rattle.sp_regex.specs.Language.{InL, Times}
 use Rattle.sp_match.specs.declared.spot.Spot.{Spot}
@@ -50,8 +50,8 @@ only_empty (literal bytes) e w h = h ∙ no_length bytes e
 repeat_only : (r : Syntax) (least : ℕ) (most : Option ℕ) → positions_of r ≡ 0 → (w : List ℕ) → InL (repeat least most r) w → w ≡ []
 repeat_only r least most e w h = times_nil (InL r) h.0 w (only_empty r e) h.3
 
-pub repeated_then : (r : Syntax) (least : ℕ) (most : Option ℕ) (then : List Bool) (net : List Spot) → positions_of r ≡ 0 → InL (repeat least most r) [] → Below then (length net) → IsCompiled (InL (repeat least most r)) then then net net
+pub repeated_then : (r : Syntax) (least : ℕ) (most : Option ℕ) (then : List ℕ) (net : List Spot) → positions_of r ≡ 0 → InL (repeat least most r) [] → Below then (length net) → IsCompiled (InL (repeat least most r)) then then net net
 repeated_then r least most then net e has below = is_same (λ w. w ≡ []) (InL (repeat least most r)) then then net net (λ w z. subst (InL (repeat least most r)) (sym z) has) (λ w h. repeat_only r least most e w h) (is_nothing then net below)
 
-pub repeated_none : (r : Syntax) (least : ℕ) (most : Option ℕ) (then entry : List Bool) (net : List Spot) → positions_of r ≡ 0 → (InL (repeat least most r) [] → ⊥) → entry ≡ [] → IsCompiled (InL (repeat least most r)) then entry net net
+pub repeated_none : (r : Syntax) (least : ℕ) (most : Option ℕ) (then entry : List ℕ) (net : List Spot) → positions_of r ≡ 0 → (InL (repeat least most r) [] → ⊥) → entry ≡ [] → IsCompiled (InL (repeat least most r)) then entry net net
 repeated_none r least most then entry net e misses none = is_none (InL (repeat least most r)) then entry net (λ p. ap (λ z. has z p) none) (λ u q h t. misses (subst (InL (repeat least most r)) (repeat_only r least most e u h) h))

@@ -10,7 +10,7 @@ use Rattle.sp_match.specs.Sets.{has}
 use Rattle.sp_match.specs.Nets.{at, moves, jumps, is_goal, Reads, here, over, through, ReadsSome, Alive, AliveAt, Leads, Orderly, goal_token, goal_literal}
 use Rattle.sp_match.specs.Parts.{IsCompiled}
 use Rattle.sp_match.specs.Matching.{kind, is_literal}
-use Rattle.sp_match.specs.Running.{ClosedUnder, Begins, Stands, IsNetOf, IsNext}
+use Rattle.sp_match.specs.Running.{ClosedUnder, Begins, Stands, IsNetOf, IsNext, IsClosed}
 use Rattle.sp_match.proofs.Compiling.{either_true, left_true, right_true, order, before_or_not}
 use Rattle.sp_match.proofs.Growing.{orderly_pushed, no_goal_behind, at_pushed, at_before, length_pushed, at_behind, no_moves, no_jumps}
 
@@ -63,7 +63,7 @@ goal_read net s g p w e i (here x) = (refl, refl)
 goal_read net s g p w e i (over {b = b} {q = q} m r) = absurd (goal_moves s b q i (subst (λ z. moves z b q ≡ true) e m))
 goal_read net s g p w e i (through {q = q} j r) = absurd (goal_jumps s q i (subst (λ z. jumps z q ≡ true) e j))
 
-pub record Added (r : Syntax) (start entry begin back : List Bool) (tokens : List Syntax) (s : Spot) (first second third : List Spot) : Type 0 where
+pub record Added (r : Syntax) (start entry begin back : List ℕ) (tokens : List Syntax) (s : Spot) (first second third : List Spot) : Type 0 where
   pub knows : Begins tokens first start
   pub pushed : second ≡ first ++ s ∷ []
   pub goal : is_goal s ≡ true
@@ -74,7 +74,7 @@ pub record Added (r : Syntax) (start entry begin back : List Bool) (tokens : Lis
   pub no_empty : InL r [] → ⊥
   pub begin_is : (p : ℕ) → has begin p ≡ (has start p || has entry p)
 
-module _ {r : Syntax} {start entry begin back : List Bool} {tokens : List Syntax} {s : Spot} {first second third : List Spot} (a : Added r start entry begin back tokens s first second third) where
+module _ {r : Syntax} {start entry begin back : List ℕ} {tokens : List Syntax} {s : Spot} {first second third : List Spot} (a : Added r start entry begin back tokens s first second third) where
   long : length second ≡ length first + 1
   long = ap length a.pushed ∙ length_pushed first s
 
@@ -100,7 +100,7 @@ module _ {r : Syntax} {start entry begin back : List Bool} {tokens : List Syntax
   begin_cases p e = either_true (has start p) (has entry p) (sym (a.begin_is p) ∙ e)
 
   added_orderly : Orderly third
-  added_orderly = a.body.orderly (subst Orderly (sym a.pushed) (orderly_pushed first s (λ b q m. absurd (goal_moves s b q a.goal m)) (λ q m. goal_jumps s q a.goal m) a.knows.orderly))
+  added_orderly = a.body.orderly (subst Orderly (sym a.pushed) (orderly_pushed first s (λ b q m. absurd (goal_moves s b q a.goal m)) (λ q m. absurd (goal_jumps s q a.goal m)) a.knows.orderly))
 
   grown_alive : (p : ℕ) → AliveAt first p → AliveAt third p
   grown_alive p x = (x.0, x.1, grown_read first third kept x.0 p x.1 x.2)
@@ -222,7 +222,7 @@ pub closed_step : (net : List Spot) (live : ℕ → Bool) → ClosedUnder net li
 closed_step net live closed g p b w h (over {q = q} m r) = (p, q, h, m, r)
 closed_step net live closed g p b w h (through {q = q} j r) = closed_step net live closed g q b w (closed p q h j) r
 
-pub stands_next : (tokens : List Syntax) (net : List Spot) (start : List Bool) (live next : ℕ → Bool) (w : List ℕ) (b : ℕ) → IsNetOf tokens net start → Stands tokens net w live → IsNext net live next b → Stands tokens net (w ++ b ∷ []) next
+pub stands_next : (tokens : List Syntax) (net : List Spot) (start : List ℕ) (live next : ℕ → Bool) (w : List ℕ) (b : ℕ) → IsNetOf tokens net start → Stands tokens net w live → IsNext net live next b → Stands tokens net (w ++ b ∷ []) next
 stands_next tokens net start live next w b n s step = record {
   closed = step.closed;
   alive = λ q h. step.alive n.begins.lively q h;
@@ -236,12 +236,12 @@ stands_next tokens net start live next w b n s step = record {
       (s.came g (b ∷ t) is (y.0, y.2, over y.3 y.4));
 }
 
-pub stands_first : (tokens : List Syntax) (net : List Spot) (start : List Bool) (live : ℕ → Bool) → ((p : ℕ) → live p ≡ has start p) → IsNetOf tokens net start → Stands tokens net [] live
-stands_first tokens net start live same n = record {
-  closed = λ p q h j. same q ∙ n.closed p q (sym (same p) ∙ h) j;
-  alive = λ p h. n.begins.alive p (sym (same p) ∙ h);
-  goes_on = λ g t is x. let y = n.begins.is_read g t is x in (y.0, same y.0 ∙ y.1, y.2);
-  came = λ g t is x. n.begins.reads g t is (x.0, sym (same x.0) ∙ x.1, x.2);
+pub stands_first : (tokens : List Syntax) (net : List Spot) (start : List ℕ) (live : ℕ → Bool) → IsClosed net (has start) live → IsNetOf tokens net start → Stands tokens net [] live
+stands_first tokens net start live c n = record {
+  closed = c.closed;
+  alive = c.alive n.begins.lively (λ q h. n.begins.alive q h);
+  goes_on = λ g t is x. let y = n.begins.is_read g t is x in (y.0, c.keeps y.0 y.1, y.2);
+  came = λ g t is x. n.begins.reads g t is (c.came x.0 x.1 g t x.2);
 }
 
 pub stands_same : (tokens : List Syntax) (net : List Spot) (w : List ℕ) (live other : ℕ → Bool) → ((p : ℕ) → other p ≡ live p) → Stands tokens net w live → Stands tokens net w other

@@ -1,5 +1,5 @@
 -- One turn of each loop over a machine's words, rows and goals.
-use Rattle.std.proofs.Common.{◌≡◌, ◌≢◌, ℕ, zero, suc, ◌+◌, ◌*◌, ◌/◌, ◌%◌, ◌^◌, ◌<◌, ◌≤◌, ◌++◌, ◌==◌, ◌||◌, Bool, true, false, List, [], ◌∷◌, Some, None, length, get_or, refl, ap, sym, subst, ◌∙◌, inl, inr, arith, length-append, eqb-true, eq-eqb}
+use Rattle.std.proofs.Common.{◌≡◌, ◌≢◌, ℕ, zero, suc, ◌+◌, ◌*◌, ◌/◌, ◌%◌, ◌^◌, ◌<◌, ◌≤◌, ◌++◌, ◌==◌, ◌||◌, ◌⊎◌, Bool, true, false, List, [], ◌∷◌, Some, None, length, get_or, refl, ap, sym, subst, ◌∙◌, inl, inr, arith, length-append, eqb-true, eq-eqb}
 use Rattle.std.proofs.lemmas.List.{get_or_past}
 use Rattle.std.specs.Global.{Vec}
 use Rattle.std.specs.Int.{bit_at}
@@ -8,7 +8,7 @@ use Rattle.std.proofs.lemmas.Nat.Bits.{bit_at_and, bit_at-zero, bit_at-lt, bit_a
 use Rattle.sp_match.specs.declared.spot.Spot.{Spot}
 use Rattle.sp_match.specs.declared.spot.Spot.TheVariants as spot
 use Rattle.sp_match.specs.declared.machine.Goal.{Goal}
-use Rattle.sp_match.specs.Bits.{holds, row, Fits, IsStep, IsStepTo, IsWordStep, IsWordTurn}
+use Rattle.sp_match.specs.Bits.{holds, row, led, IsStep, IsStepTo, IsWordStep, IsWordTurn}
 use Rattle.sp_match.specs.Nets.{at, is_goal, goal_token, goal_literal}
 use Rattle.sp_match.specs.Tables.{goal_at, goal_found, AreGoals}
 use Rattle.sp_match.proofs.Compiling.{order, before_or_not, either_true, left_true, right_true, not_both, true_or_false}
@@ -17,10 +17,6 @@ use Rattle.sp_match.proofs.Tabling.{row_before, row_new, row_past}
 
 pub holds_none : (q : ℕ) → holds [] q ≡ false
 holds_none q = ap (λ z. z == 1) (bit_at-zero (q % 64))
-
-pub or_nothing : (x y : Bool) → y ≡ false → x ≡ (x || y)
-or_nothing true y e = refl
-or_nothing false y e = sym e
 
 -- a row that is not there holds nothing
 pub past_none : (rows : List (Vec ℕ)) (i q : ℕ) → length rows ≤ i → holds (row rows i) q ≡ false
@@ -36,35 +32,31 @@ rows_turn P xs x n long old new i lt = elim (order i n) [
   ]
 ]
 
-pub rows_fit : (xs : List (Vec ℕ)) (words : ℕ) → ((i : ℕ) → i < length xs → length (row xs i) ≤ words) → Fits xs words
-rows_fit xs words fit i = elim (before_or_not i (length xs)) [
-  | inl lt ↦ fit i lt
-  | inr ge ↦ (let e : length (row xs i) ≡ 0 = ap length (row_past xs i ge) in omega arith)
-]
-
 -- the bits of a word
 
 bit_within : (n i : ℕ) → n < 2 ^ 64 → bit_at n i ≡ 1 → i < 64
 bit_within n i small one = elim (before_or_not i 64) [ inl lt ↦ lt | inr ge ↦ absurd (let z = bit_at_above n 64 i small ge in omega arith) ]
 
-pub word_begins : (follows : List (Vec ℕ)) (word spots : ℕ) (old : ℕ → Bool) → IsWordTurn follows word spots spots old old
-word_begins follows word spots old = record {
+pub word_begins : (nexts : List ℕ) (word spots : ℕ) (old : ℕ → Bool) → IsWordTurn nexts word spots spots old old
+word_begins nexts word spots old = record {
   keeps = λ q h. h;
   came = λ q h. inl h;
-  goes = λ bit q one none h. absurd (omega arith);
+  goes = λ bit one none. absurd (omega arith);
   within = λ bit one. one;
 }
 
-pub word_turn : (follows : List (Vec ℕ)) (word spots rest bit left : ℕ) (old mid new : ℕ → Bool) → spots < 2 ^ 64 → left < 2 ^ 64 → bit_at rest bit ≡ 1 → bit_at left bit ≡ 0 → ((i : ℕ) → i < 64 → i ≢ bit → bit_at left i ≡ bit_at rest i) → ((q : ℕ) → new q ≡ (mid q || holds (row follows (word * 64 + bit)) q)) → IsWordTurn follows word spots rest old mid → IsWordTurn follows word spots left old new
-word_turn follows word spots rest bit left old mid new small less one gone others is t = record {
-  keeps = λ q h. is q ∙ left_true (mid q) (holds (row follows (word * 64 + bit)) q) (t.keeps q h);
-  came = λ q h. elim (either_true (mid q) (holds (row follows (word * 64 + bit)) q) (sym (is q) ∙ h)) [
+pub word_turn : (nexts : List ℕ) (word spots rest bit left : ℕ) (old mid new : ℕ → Bool) → spots < 2 ^ 64 → left < 2 ^ 64 → bit_at rest bit ≡ 1 → bit_at left bit ≡ 0 → ((i : ℕ) → i < 64 → i ≢ bit → bit_at left i ≡ bit_at rest i) → ((q : ℕ) → new q ≡ (mid q || (q == led nexts (word * 64 + bit)))) → IsWordTurn nexts word spots rest old mid → IsWordTurn nexts word spots left old new
+word_turn nexts word spots rest bit left old mid new small less one gone others is t = record {
+  keeps = λ q h. is q ∙ left_true (mid q) (q == led nexts (word * 64 + bit)) (t.keeps q h);
+  came = λ q h. elim (either_true (mid q) (q == led nexts (word * 64 + bit)) (sym (is q) ∙ h)) [
     | inl x ↦ t.came q x
-    | inr x ↦ inr (bit, t.within bit one, x)
+    | inr x ↦ inr (bit, t.within bit one, sym (eqb-true q (led nexts (word * 64 + bit)) x))
   ];
-  goes = λ i q set clear h. elim (true_or_false (i == bit)) [
-    | inl e ↦ is q ∙ right_true (mid q) (holds (row follows (word * 64 + bit)) q) (subst (λ z. holds (row follows (word * 64 + z)) q ≡ true) (eqb-true i bit e) h)
-    | inr e ↦ is q ∙ left_true (mid q) (holds (row follows (word * 64 + bit)) q) (t.goes i q set (sym (others i (bit_within spots i small set) (λ same. not_both (eq-eqb i bit same) e)) ∙ clear) h)
+  goes = λ i set clear. elim (true_or_false (i == bit)) [
+    | inl e ↦ (let q = led nexts (word * 64 + i) in let same : q ≡ led nexts (word * 64 + bit) = ap (λ z. led nexts (word * 64 + z)) (eqb-true i bit e) in
+        is q ∙ right_true (mid q) (q == led nexts (word * 64 + bit)) (eq-eqb q (led nexts (word * 64 + bit)) same))
+    | inr e ↦ (let q = led nexts (word * 64 + i) in
+        is q ∙ left_true (mid q) (q == led nexts (word * 64 + bit)) (t.goes i set (sym (others i (bit_within spots i small set) (λ same. not_both (eq-eqb i bit same) e)) ∙ clear)))
   ];
   within = λ i set. elim (true_or_false (i == bit)) [
     | inl e ↦ absurd (let k = ap (bit_at left) (eqb-true i bit e) in omega arith)
@@ -72,23 +64,23 @@ word_turn follows word spots rest bit left old mid new small less one gone other
   ];
 }
 
-pub word_done : (follows : List (Vec ℕ)) (word spots rest : ℕ) (old new : ℕ → Bool) → rest ≡ 0 → IsWordTurn follows word spots rest old new → IsWordStep follows word spots old new
-word_done follows word spots rest old new e t = record {
+pub word_done : (nexts : List ℕ) (word spots rest : ℕ) (old new : ℕ → Bool) → rest ≡ 0 → IsWordTurn nexts word spots rest old new → IsWordStep nexts word spots old new
+word_done nexts word spots rest old new e t = record {
   keeps = t.keeps;
   came = t.came;
-  goes = λ bit q one h. t.goes bit q one (ap (λ z. bit_at z bit) e ∙ bit_at-zero bit) h;
+  goes = λ bit one. t.goes bit one (ap (λ z. bit_at z bit) e ∙ bit_at-zero bit);
 }
 
 -- all words
 
-pub step_begins : (live readers : ℕ → Bool) (follows : List (Vec ℕ)) (next : ℕ → Bool) → ((q : ℕ) → next q ≡ false) → IsStepTo 0 live readers follows next
-step_begins live readers follows next none = record {
+pub step_begins : (live readers : ℕ → Bool) (nexts : List ℕ) (next : ℕ → Bool) → ((q : ℕ) → next q ≡ false) → IsStepTo 0 live readers nexts next
+step_begins live readers nexts next none = record {
   came = λ q h. absurd (not_both h (none q));
-  goes = λ p q lt h k f. absurd (omega arith);
+  goes = λ p lt h k. absurd (omega arith);
 }
 
-pub step_turn : (live readers : List ℕ) (follows : List (Vec ℕ)) (i spots : ℕ) (mid new : ℕ → Bool) → get_or live i 0 < 2 ^ 64 → spots ≡ bit_and (get_or live i 0) (get_or readers i 0) → IsWordStep follows i spots mid new → IsStepTo i (holds live) (holds readers) follows mid → IsStepTo (i + 1) (holds live) (holds readers) follows new
-step_turn live readers follows i spots mid new small e w s = record {
+pub step_turn : (live readers : List ℕ) (nexts : List ℕ) (i spots : ℕ) (mid new : ℕ → Bool) → get_or live i 0 < 2 ^ 64 → spots ≡ bit_and (get_or live i 0) (get_or readers i 0) → IsWordStep nexts i spots mid new → IsStepTo i (holds live) (holds readers) nexts mid → IsStepTo (i + 1) (holds live) (holds readers) nexts new
+step_turn live readers nexts i spots mid new small e w s = record {
   came = λ q h. elim (w.came q h) [
     | inl x ↦ s.came q x
     | inr x ↦ (let bit = x.0 in
@@ -98,15 +90,15 @@ step_turn live readers follows i spots mid new small e w s = record {
         let place : (i * 64 + bit) % 64 ≡ bit = omega arith in
         (i * 64 + bit, rw (word, place) (is_one (bit_at (get_or live i 0) bit) both.0), rw (word, place) (is_one (bit_at (get_or readers i 0) bit) both.1), x.2))
   ];
-  goes = λ p q lt h k f. elim (order (p / 64) i) [
-    | inl less ↦ w.keeps q (s.goes p q less h k f)
+  goes = λ p lt h k. elim (order (p / 64) i) [
+    | inl less ↦ w.keeps (led nexts p) (s.goes p less h k)
     | inr ge ↦ elim ge [
       | inl is ↦ (let bit = p % 64 in
           let a : bit_at (get_or live i 0) bit ≡ 1 = ap (λ z. bit_at (get_or live z 0) bit) (sym is) ∙ one_is (bit_at (get_or live (p / 64) 0) bit) h in
           let b : bit_at (get_or readers i 0) bit ≡ 1 = ap (λ z. bit_at (get_or readers z 0) bit) (sym is) ∙ one_is (bit_at (get_or readers (p / 64) 0) bit) k in
           let both : bit_at spots bit ≡ 1 = ap (λ z. bit_at z bit) e ∙ bit_at_and (get_or live i 0) (get_or readers i 0) bit ∙ (omega arith) in
           let place : i * 64 + bit ≡ p = omega arith in
-          w.goes bit q both (subst (λ z. holds (row follows z) q ≡ true) (sym place) f))
+          subst (λ z. new (led nexts z) ≡ true) place (w.goes bit both))
       | inr gt ↦ absurd (omega arith)
     ]
   ];
@@ -118,18 +110,34 @@ held_within set p h = elim (before_or_not (p / 64) (length set)) [
   | inr ge ↦ absurd (not_both h (ap (λ z. z == 1) (ap (λ z. bit_at z (p % 64)) (get_or_past set (p / 64) 0 ge) ∙ bit_at-zero (p % 64))))
 ]
 
-pub step_done : (live readers : List ℕ) (follows : List (Vec ℕ)) (n : ℕ) (next : ℕ → Bool) → n ≡ length live → IsStepTo n (holds live) (holds readers) follows next → IsStep (holds live) (holds readers) follows next
-step_done live readers follows n next e s = record {
+pub step_done : (live readers : List ℕ) (nexts : List ℕ) (n : ℕ) (next : ℕ → Bool) → n ≡ length live → IsStepTo n (holds live) (holds readers) nexts next → IsStep (holds live) (holds readers) nexts next
+step_done live readers nexts n next e s = record {
   came = s.came;
-  goes = λ p q h k f. s.goes p q (let lt = held_within live p h in omega arith) h k f;
+  goes = λ p h k. s.goes p (let lt = held_within live p h in omega arith) h k;
 }
 
 -- no reader, no step
-pub no_step : (live readers : ℕ → Bool) (follows : List (Vec ℕ)) (next : ℕ → Bool) → ((q : ℕ) → next q ≡ false) → ((q : ℕ) → readers q ≡ false) → IsStep live readers follows next
-no_step live readers follows next none nobody = record {
+pub no_step : (live readers : ℕ → Bool) (nexts : List ℕ) (next : ℕ → Bool) → ((q : ℕ) → next q ≡ false) → ((q : ℕ) → readers q ≡ false) → IsStep live readers nexts next
+no_step live readers nexts next none nobody = record {
   came = λ q h. absurd (not_both h (none q));
-  goes = λ p q h k f. absurd (not_both k (nobody p));
+  goes = λ p h k. absurd (not_both k (nobody p));
 }
+
+-- one next spot more
+pub next_more : (nexts : List ℕ) (x p : ℕ) → (led (nexts ++ x ∷ []) p ≡ led nexts p) ⊎ ((p ≡ length nexts) × (led (nexts ++ x ∷ []) p ≡ x))
+next_more [] x zero = inr (refl, refl)
+next_more [] x (suc p) = inl refl
+next_more (y ∷ ys) x zero = inl refl
+next_more (y ∷ ys) x (suc p) = elim (next_more ys x p) [ inl e ↦ inl e | inr e ↦ inr (ap suc e.0, e.1) ]
+
+pub next_new : (nexts : List ℕ) (x : ℕ) → led (nexts ++ x ∷ []) (length nexts) ≡ x
+next_new [] x = refl
+next_new (y ∷ ys) x = next_new ys x
+
+pub next_kept : (nexts : List ℕ) (x p : ℕ) → p < length nexts → led (nexts ++ x ∷ []) p ≡ led nexts p
+next_kept [] x p lt = absurd (omega arith)
+next_kept (y ∷ ys) x zero lt = refl
+next_kept (y ∷ ys) x (suc p) lt = next_kept ys x p (omega arith)
 
 -- goals
 

@@ -1,91 +1,139 @@
 -- One turn of each loop of a run, and the empty word.
-use Rattle.std.proofs.Common.{◌≡◌, ℕ, zero, suc, ◌+◌, ◌<◌, ◌++◌, ◌&&◌, ◌||◌, ◌⊎◌, Bool, true, false, List, [], ◌∷◌, length, get_or, refl, ap, sym, subst, ◌∙◌, inl, inr, arith, fold}
-use Rattle.std.proofs.lemmas.List.{get_or_past}
+use Rattle.std.proofs.Common.{◌≡◌, ℕ, zero, suc, ◌+◌, ◌*◌, ◌/◌, ◌<◌, ◌≤◌, ◌++◌, ◌==◌, ◌||◌, ◌⊎◌, Bool, true, false, List, [], ◌∷◌, length, get_or, refl, ap, sym, subst, ◌∙◌, inl, inr, arith, fold, eqb-true, eq-eqb}
+use Rattle.std.specs.Global.{Vec}
 use Rattle.sp_regex.specs.Trees.{Syntax, empty, never, either, sequence, alternatives}
 use Rattle.sp_regex.specs.Language.{InL, Times}
 use Rattle.sp_match.specs.declared.spot.Spot.{Spot}
 use Rattle.sp_match.specs.declared.spot.Spot.TheVariants as spot
-use Rattle.sp_match.specs.Sets.{has}
-use Rattle.sp_match.specs.Nets.{at, jumps, is_jump, through, Orderly}
+use Rattle.sp_match.specs.Sets.{class_has}
+use Rattle.sp_match.specs.Nets.{at, moves, jumps, is_jump, through, Orderly}
+use Rattle.sp_match.specs.Bits.{holds, row, led, IsStep}
+use Rattle.sp_match.specs.Tables.{reads_byte, next_of, AreNexts, AreClasses, AreReaders}
 use Rattle.sp_match.specs.Parts.{InAll}
-use Rattle.sp_match.specs.Running.{Closing, IsClosed}
+use Rattle.sp_match.specs.Running.{Closing, IsClosed, IsNext}
 use Rattle.sp_match.proofs.Compiling.{order, before_or_not, either_true, left_true, right_true, both_true, and_true, not_both}
 use Rattle.sp_match.proofs.Running.{within_jumps}
 use Rattle.sp_match.proofs.Steps.{in_order_forth}
 
-pub has_within : (set : List Bool) (q : ℕ) → has set q ≡ true → q < length set
-has_within set q h = elim (before_or_not q (length set)) [ inl lt ↦ lt | inr ge ↦ absurd (not_both h (get_or_past set q false ge)) ]
+-- a spot that reads a byte is then at its next spot
+pub reader_moves : (s : Spot) (b q : ℕ) → reads_byte s b ≡ true → next_of s ≡ q → moves s b q ≡ true
+reader_moves (spot.Byte bytes next) b q r e = and_true (class_has bytes.items b) (q == next) r (eq-eqb q next (sym e))
+reader_moves (spot.Jump to) b q r e = absurd (let k : false ≡ true = r in cc)
+reader_moves (spot.Goal token literal) b q r e = absurd (let k : false ≡ true = r in cc)
+reader_moves spot.Nothing b q r e = absurd (let k : false ≡ true = r in cc)
+
+pub mover_reads : (s : Spot) (b q : ℕ) → moves s b q ≡ true → (reads_byte s b ≡ true) × (q ≡ next_of s)
+mover_reads (spot.Byte bytes next) b q m = let two = both_true (class_has bytes.items b) (q == next) m in (two.0, eqb-true q next two.1)
+mover_reads (spot.Jump to) b q m = absurd (let k : false ≡ true = m in cc)
+mover_reads (spot.Goal token literal) b q m = absurd (let k : false ≡ true = m in cc)
+mover_reads spot.Nothing b q m = absurd (let k : false ≡ true = m in cc)
 
 pub at_is : (net : List Spot) (j : ℕ) (x : Spot) → j < length net → x ≡ get_or net j x → at net j ≡ x
 at_is [] j x lt e = absurd (omega arith)
 at_is (y ∷ ys) zero x lt e = sym e
 at_is (y ∷ ys) (suc j) x lt e = at_is ys j x (omega arith) e
 
-jump_is : (s : Spot) (q : ℕ) → jumps s q ≡ true → is_jump s ≡ true
+pub jump_is : (s : Spot) (q : ℕ) → jumps s q ≡ true → is_jump s ≡ true
 jump_is (spot.Jump to) q j = refl
 jump_is (spot.Byte bytes next) q j = absurd (let k : false ≡ true = j in cc)
 jump_is (spot.Goal token literal) q j = absurd (let k : false ≡ true = j in cc)
 jump_is spot.Nothing q j = absurd (let k : false ≡ true = j in cc)
 
-pub closing_turn : (net : List Spot) (initial set new : List Bool) (i j : ℕ) (x : Spot) (on : Bool) → Orderly net → j + 1 ≡ i → x ≡ get_or net j x → on ≡ has set j → ((q : ℕ) → q < length set → has new q ≡ (has set q || (on && jumps x q))) → length new ≡ length set → Closing net initial set i → Closing net initial new j
-closing_turn net initial set new i j x on o step is live_is jumped len c =
-    let within = c.within in
-    let room = c.room in
-    let here : at net j ≡ x = at_is net j x (omega arith) is in
-    let cases : (q : ℕ) → has new q ≡ true → (has set q ≡ true) ⊎ ((has set j ≡ true) × (jumps (at net j) q ≡ true)) =
-    λ q h. elim (either_true (has set q) (on && jumps x q) (sym (jumped q (let k = has_within new q h in omega arith)) ∙ h)) [
-      | inl k ↦ inl k
-      | inr k ↦ (let two = both_true on (jumps x q) k in inr (sym live_is ∙ two.0, ap (λ z. jumps z q) here ∙ two.1))
-    ] in
-    let old : (q : ℕ) → has set q ≡ true → has new q ≡ true =
-    λ q h. jumped q (has_within set q h) ∙ left_true (has set q) (on && jumps x q) h in
+-- a spot that is not in the set, or jumps nowhere
+pub closing_skip : (net : List Spot) (initial set : ℕ → Bool) (j : ℕ) → ((q : ℕ) → set j ≡ true → jumps (at net j) q ≡ true → ⊥) → Closing net initial set (j + 1) → Closing net initial set j
+closing_skip net initial set j still c = record {
+  keeps = c.keeps;
+  done = λ p q le h k. elim (order p j) [
+    | inl less ↦ absurd (omega arith)
+    | inr ge ↦ elim ge [
+      | inl e ↦ absurd (still q (subst (λ n. set n ≡ true) e h) (subst (λ n. jumps (at net n) q ≡ true) e k))
+      | inr gt ↦ c.done p q (omega arith) h k
+    ]
+  ];
+  came = c.came;
+  alive = c.alive;
+}
+
+pub closing_turn : (net : List Spot) (initial set new : ℕ → Bool) (j : ℕ) → Orderly net → set j ≡ true → ((q : ℕ) → new q ≡ (set q || jumps (at net j) q)) → Closing net initial set (j + 1) → Closing net initial new j
+closing_turn net initial set new j o live jumped c =
+    let cases : (q : ℕ) → new q ≡ true → (set q ≡ true) ⊎ (jumps (at net j) q ≡ true) = λ q h. either_true (set q) (jumps (at net j) q) (sym (jumped q) ∙ h) in
+    let old : (q : ℕ) → set q ≡ true → new q ≡ true = λ q h. jumped q ∙ left_true (set q) (jumps (at net j) q) h in
     record {
       keeps = λ q h. old q (c.keeps q h);
       done = λ p q le h k. elim (order p j) [
         | inl less ↦ absurd (omega arith)
         | inr ge ↦ elim ge [
-          | inl e ↦ (let k2 : jumps (at net j) q ≡ true = ap (λ n. jumps (at net n) q) (sym e) ∙ k in
-              let small = o.jump_within j q k2 in
-              elim (cases p h) [
-                | inl hp ↦ jumped q (omega arith) ∙ right_true (has set q) (on && jumps x q) (and_true on (jumps x q) (live_is ∙ ap (has set) (sym e) ∙ hp) (ap (λ z. jumps z q) (sym here) ∙ k2))
-                | inr two ↦ jumped q (omega arith) ∙ right_true (has set q) (on && jumps x q) (and_true on (jumps x q) (live_is ∙ two.0) (ap (λ z. jumps z q) (sym here) ∙ k2))
-              ])
+          | inl e ↦ jumped q ∙ right_true (set q) (jumps (at net j) q) (subst (λ n. jumps (at net n) q ≡ true) e k)
           | inr gt ↦ elim (cases p h) [
             | inl hp ↦ old q (c.done p q (omega arith) hp k)
-            | inr two ↦ (let less = o.earlier j p two.1 (jump_is (at net p) q k) in absurd (omega arith))
+            | inr two ↦ (let less = o.earlier j p two (jump_is (at net p) q k) in absurd (omega arith))
           ]
         ]
       ];
-      sound = λ q h g w r. elim (cases q h) [
-        | inl hq ↦ c.sound q hq g w r
-        | inr two ↦ c.sound j two.0 g w (through two.1 r)
+      came = λ q h g w r. elim (cases q h) [
+        | inl hq ↦ c.came q hq g w r
+        | inr two ↦ c.came j live g w (through two r)
       ];
-      alive = λ lively live q h. elim (cases q h) [
-        | inl hq ↦ c.alive lively live q hq
-        | inr two ↦ lively j q (inr two.1)
+      alive = λ lively first q h. elim (cases q h) [
+        | inl hq ↦ c.alive lively first q hq
+        | inr two ↦ lively j q (inr two)
       ];
-      room = len ∙ c.room;
-      within = omega arith;
     }
 
-pub closing_begin : (net : List Spot) (set : List Bool) → length set ≡ length net → Closing net set set (length net)
-closing_begin net set room = record {
+pub closing_begin : (net : List Spot) (set : ℕ → Bool) (n : ℕ) → length net ≤ n → Closing net set set n
+closing_begin net set n room = record {
   keeps = λ q h. h;
   done = λ p q le h k. let lt = within_jumps net p q k in absurd (omega arith);
-  sound = λ q h g w r. (q, h, r);
-  alive = λ lively live. live;
-  room = room;
-  within = omega arith;
+  came = λ q h g w r. (q, h, r);
+  alive = λ lively first. first;
 }
 
-pub closed_done : (net : List Spot) (initial set : List Bool) (i : ℕ) → i ≡ 0 → length initial ≡ length net → Closing net initial set i → IsClosed net initial set
-closed_done net initial set i e room c = record {
+-- a word without a spot that jumps
+pub closing_word : (net : List Spot) (initial set : ℕ → Bool) (word : ℕ) → ((p : ℕ) → p / 64 ≡ word → set p ≡ true → is_jump (at net p) ≡ false) → Closing net initial set ((word + 1) * 64) → Closing net initial set (word * 64)
+closing_word net initial set word none c = record {
+  keeps = c.keeps;
+  done = λ p q le h k. elim (before_or_not p ((word + 1) * 64)) [
+    | inl lt ↦ absurd (not_both (jump_is (at net p) q k) (none p (omega arith) h))
+    | inr ge ↦ c.done p q ge h k
+  ];
+  came = c.came;
+  alive = c.alive;
+}
+
+pub closed_done : (net : List Spot) (initial set : ℕ → Bool) (i : ℕ) → i ≡ 0 → Closing net initial set i → IsClosed net initial set
+closed_done net initial set i e c = record {
   keeps = c.keeps;
   closed = λ p q h k. c.done p q (omega arith) h k;
-  sound = c.sound;
+  came = c.came;
   alive = c.alive;
-  len = c.room ∙ sym room;
 }
+
+-- the readers of a byte's class read the byte
+pub readers_read : (net : List Spot) (of firsts : List ℕ) (read : List (Vec ℕ)) (c b : ℕ) → AreClasses net of firsts 256 → AreReaders net firsts read → b < 256 → c ≡ get_or of b 0 → (p : ℕ) → holds (row read c) p ≡ reads_byte (at net p) b
+readers_read net of firsts read c b classes readers lt is p =
+    (let within = classes.within b lt in readers c p (omega arith)) ∙ ap (λ k. reads_byte (at net p) (get_or firsts k 0)) is ∙ classes.like b lt p
+
+pub closed_same : (net : List Spot) (initial other set : ℕ → Bool) → ((p : ℕ) → initial p ≡ other p) → IsClosed net initial set → IsClosed net other set
+closed_same net initial other set same c = record {
+  keeps = λ q h. c.keeps q (same q ∙ h);
+  closed = c.closed;
+  came = λ q h g w r. let y = c.came q h g w r in (y.0, sym (same y.0) ∙ y.1, y.2);
+  alive = λ lively first. c.alive lively (λ q h. first q (sym (same q) ∙ h));
+}
+
+-- what a step leads to, and all that this jumps to, is the next set
+pub step_closed : (net : List Spot) (live readers first next : ℕ → Bool) (nexts : List ℕ) (b : ℕ) → Orderly net → ((p : ℕ) → readers p ≡ reads_byte (at net p) b) → AreNexts net nexts → IsStep live readers nexts first → IsClosed net first next → IsNext net live next b
+step_closed net live readers first next nexts b o reads are s c =
+    let is : (p : ℕ) → reads_byte (at net p) b ≡ true → led nexts p ≡ next_of (at net p) =
+    λ p r. are p (o.next_within p b (next_of (at net p)) (reader_moves (at net p) b (next_of (at net p)) r refl)) in
+    let moved : (p q : ℕ) → reads_byte (at net p) b ≡ true → led nexts p ≡ q → moves (at net p) b q ≡ true = λ p q r e. reader_moves (at net p) b q r (sym (is p r) ∙ e) in
+    record {
+      goes = λ p q h m. let k = mover_reads (at net p) b q m in
+          c.keeps q (subst (λ z. first z ≡ true) (is p k.0 ∙ sym k.1) (s.goes p h (reads p ∙ k.0)));
+      closed = c.closed;
+      came = λ q h g w r. let x = c.came q h g w r in let y = s.came x.0 x.1 in (y.0, x.0, y.1, moved y.0 x.0 (sym (reads y.0) ∙ y.2) y.3, x.2);
+      alive = λ lively. c.alive lively (λ q h. let y = s.came q h in lively y.0 q (inl (b, moved y.0 q (sym (reads y.0) ∙ y.2) y.3)));
+    }
 
 -- the empty word
 

@@ -3,14 +3,12 @@ use Rattle.std.proofs.Common.{◌≡◌, ℕ, zero, suc, ◌+◌, ◌<◌, ◌�
 use Rattle.std.proofs.lemmas.List.{take_more}
 use Rattle.sp_regex.specs.Trees.{Syntax, empty, never, followed, either, sequence, alternatives, positions_of}
 use Rattle.sp_match.specs.declared.spot.Spot.{Spot}
-use Rattle.sp_match.specs.Sets.{has}
 use Rattle.sp_match.specs.Matching.{HasWord, NoMatch, is_literal, Settled, BestSoFar, NoneEmpty}
-use Rattle.sp_match.specs.Running.{Begins, Stands, IsNetOf, IsNext, IsWinner, IsClosed, newest_of}
+use Rattle.sp_match.specs.Running.{Begins, Stands, IsNetOf, IsNext, IsWinner, newest_of}
 use Rattle.sp_match.specs.Tables.{NoneReads}
 use Rattle.sp_match.specs.Sizes.{positions_together}
 use Rattle.sp_match.proofs.Compiling.{not_both}
 use Rattle.sp_match.proofs.Running.{stands_next}
-use Rattle.sp_match.proofs.Turns.{has_within}
 use Rattle.sp_match.proofs.Deciding.{best_next, grows_live}
 
 followed_no_literal : (xs : List Syntax) (a : Syntax) → is_literal a ≡ false → is_literal (fold followed a xs) ≡ false
@@ -44,7 +42,7 @@ positions_next xs i total p limit x lt e f g =
     let more : positions_together (take (i + 1) xs) ≡ positions_together (take i xs) + positions_of x = ap positions_together (take_item xs i x lt e) ∙ together_more (take i xs) x in
     omega arith
 
-pub begins_more : (tokens : List Syntax) (i : ℕ) (x : Syntax) (net : List Spot) (start : List Bool) → i < length tokens → x ≡ get_or tokens i x → Begins (take i tokens ++ x ∷ []) net start → Begins (take (i + 1) tokens) net start
+pub begins_more : (tokens : List Syntax) (i : ℕ) (x : Syntax) (net : List Spot) (start : List ℕ) → i < length tokens → x ≡ get_or tokens i x → Begins (take i tokens ++ x ∷ []) net start → Begins (take (i + 1) tokens) net start
 begins_more tokens i x net start lt e b = subst (λ z. Begins z net start) (sym (take_item tokens i x lt e)) b
 
 pub take_long : (tokens : List Syntax) (i : ℕ) → i ≤ length tokens → i ≡ length (take i tokens)
@@ -52,33 +50,14 @@ take_long tokens zero le = refl
 take_long [] (suc i) le = absurd (omega arith)
 take_long (t ∷ ts) (suc i) le = let k = take_long ts i (omega arith) in ap suc k
 
-pub whole_net : (tokens : List Syntax) (net : List Spot) (first fit set : List Bool) → Begins tokens net first → ((p : ℕ) → p < length net → has fit p ≡ has first p) → length fit ≡ length net → IsClosed net fit set → NoneEmpty tokens → IsNetOf tokens net set
-whole_net tokens net first fit set b spots len c none =
-    let came : (q : ℕ) → has fit q ≡ true → has first q ≡ true = λ q h. sym (spots q (let k = has_within fit q h in omega arith)) ∙ h in
-    let goes : (q : ℕ) → has first q ≡ true → has fit q ≡ true = λ q h. spots q (b.below q h) ∙ h in
-    record {
-      begins = record {
-        orderly = b.orderly;
-        below = λ p h. let k = has_within set p h in let l = c.len in omega arith;
-        alive = c.alive b.lively (λ q h. b.alive q (came q h));
-        lively = b.lively;
-        goals = b.goals;
-        goal_of = b.goal_of;
-        reads = λ g w is x. let y = c.sound x.0 x.1 g w x.2 in b.reads g w is (y.0, came y.0 y.1, y.2);
-        is_read = λ g w is x. let y = b.is_read g w is x in (y.0, c.keeps y.0 (goes y.0 y.1), y.2);
-      };
-      closed = c.closed;
-      none_empty = none;
-    }
-
-pub whole_step : (tokens : List Syntax) (net : List Spot) (start : List Bool) (live next : ℕ → Bool) (w : List ℕ) (b n : ℕ) (best : Option (ℕ × ℕ)) (won : Option (ℕ × Bool)) → IsNetOf tokens net start → Stands tokens net w live → BestSoFar tokens w best → IsNext net live next b → IsWinner net next won → n ≡ length w + 1 → Stands tokens net (w ++ b ∷ []) next × BestSoFar tokens (w ++ b ∷ []) (newest_of won n best)
+pub whole_step : (tokens : List Syntax) (net : List Spot) (start : List ℕ) (live next : ℕ → Bool) (w : List ℕ) (b n : ℕ) (best : Option (ℕ × ℕ)) (won : Option (ℕ × Bool)) → IsNetOf tokens net start → Stands tokens net w live → BestSoFar tokens w best → IsNext net live next b → IsWinner net next won → n ≡ length w + 1 → Stands tokens net (w ++ b ∷ []) next × BestSoFar tokens (w ++ b ∷ []) (newest_of won n best)
 whole_step tokens net start live next w b n best won is s old step wins e =
     let stand = stands_next tokens net start live next w b is s step in (
       stand,
       subst (λ k. BestSoFar tokens (w ++ b ∷ []) (newest_of won k best)) (sym e) (best_next is w b next best stand old won wins),
     )
 
-pub settled : (tokens : List Syntax) (net : List Spot) (start : List Bool) (live : ℕ → Bool) (w : List ℕ) (ended : Bool) → IsNetOf tokens net start → Stands tokens net w live → ((ended ≡ true) ⊎ NoneReads net live) → Settled tokens w ended
+pub settled : (tokens : List Syntax) (net : List Spot) (start : List ℕ) (live : ℕ → Bool) (w : List ℕ) (ended : Bool) → IsNetOf tokens net start → Stands tokens net w live → ((ended ≡ true) ⊎ NoneReads net live) → Settled tokens w ended
 settled tokens net start live w ended is s x = elim x [
   | inl e ↦ inl e
   | inr none ↦ inr (λ grows. let y = grows_live is w live s grows in not_both y.2 (none y.0 y.1))

@@ -64,11 +64,16 @@ one_not : (a b : ℕ) → min a b ≡ 0 → a ≡ 1 → (b == 1) ≡ false
 one_not a zero m e = refl
 one_not a (suc b) m e = absurd (omega arith)
 
+-- two sets that have nothing in common in one word
+pub apart_word : (set other : List ℕ) (word p : ℕ) → bit_and (get_or set word 0) (get_or other word 0) ≡ 0 → p / 64 ≡ word → holds set p ≡ true → holds other p ≡ false
+apart_word set other word p none is h =
+    let e : bit_and (get_or set (p / 64) 0) (get_or other (p / 64) 0) ≡ 0 = ap (λ z. bit_and (get_or set z 0) (get_or other z 0)) is ∙ none in
+    let x = get_or set (p / 64) 0 in let y = get_or other (p / 64) 0 in let i = p % 64 in
+    one_not (bit_at x i) (bit_at y i) (sym (bit_at_and x y i) ∙ ap (λ z. bit_at z i) e ∙ bit_at-zero i) (one_is (bit_at x i) h)
+
 -- two sets whose words have nothing in common
 pub apart : (set other : List ℕ) → ((i : ℕ) → bit_and (get_or set i 0) (get_or other i 0) ≡ 0) → (p : ℕ) → holds set p ≡ true → holds other p ≡ false
-apart set other none p h =
-    let x = get_or set (p / 64) 0 in let y = get_or other (p / 64) 0 in let i = p % 64 in
-    one_not (bit_at x i) (bit_at y i) (sym (bit_at_and x y i) ∙ ap (λ z. bit_at z i) (none (p / 64)) ∙ bit_at-zero i) (one_is (bit_at x i) h)
+apart set other none p h = apart_word set other (p / 64) p (none (p / 64)) refl h
 
 pub apart_within : (set other : List ℕ) → ((i : ℕ) → i < length set → bit_and (get_or set i 0) (get_or other i 0) ≡ 0) → (p : ℕ) → holds set p ≡ true → holds other p ≡ false
 apart_within set other none p h = apart set other (λ i. elim (before_or_not i (length set)) [

@@ -4,18 +4,13 @@ use Rattle.std.proofs.Common.{get_or}
 use Rattle.sp_regex.specs.Trees.{Syntax, empty}
 use Rattle.sp_regex.specs.Language.{InL}
 use Rattle.sp_match.specs.declared.spot.Spot.{Spot}
-use Rattle.sp_match.specs.Sets.{has}
 use Rattle.sp_match.specs.Nets.{at, moves, jumps, is_goal, goal_token, goal_literal, Reads, ReadsSome, Alive, AliveAt, Leads, Orderly}
 use Rattle.sp_match.specs.Parts.{Below}
 use Rattle.sp_match.specs.Matching.{kind, NoneEmpty}
 
--- with a spot the set has each one that it jumps to
-abbrev pub Closed : List Spot → List Bool → Type 0
-Closed net set = (p q : ℕ) → has set p ≡ true → jumps (at net p) q ≡ true → has set q ≡ true
-
 -- The automaton reads the words of the tokens: each token has a goal of its number and kind, and from the set
 -- `start` exactly the token's words are read up to it.
-pub record Begins (tokens : List Syntax) (net : List Spot) (start : List Bool) : Type 0 where
+pub record Begins (tokens : List Syntax) (net : List Spot) (start : List ℕ) : Type 0 where
   pub orderly : Orderly net
   pub below : Below start (length net)
   pub alive : Alive net start
@@ -48,9 +43,8 @@ pub record IsNext (net : List Spot) (live next : ℕ → Bool) (b : ℕ) : Type 
   pub alive : ((p q : ℕ) → Leads (at net p) q → AliveAt net q) → (q : ℕ) → next q ≡ true → AliveAt net q
 
 -- what stands in the automaton of a set that was built
-pub record IsNetOf (tokens : List Syntax) (net : List Spot) (start : List Bool) : Type 0 where
+pub record IsNetOf (tokens : List Syntax) (net : List Spot) (start : List ℕ) : Type 0 where
   pub begins : Begins tokens net start
-  pub closed : Closed net start
   pub none_empty : NoneEmpty tokens
 
 -- the goal of kind l and number t is taken before the other
@@ -69,22 +63,19 @@ abbrev pub IsWinner : List Spot → (ℕ → Bool) → Option (ℕ × Bool) → 
 IsWinner net live None = (g : ℕ) → live g ≡ true → is_goal (at net g) ≡ true → ⊥
 IsWinner net live (Some best) = ((g : ℕ) × (live g ≡ true) × (is_goal (at net g) ≡ true) × (goal_token (at net g) ≡ best.0) × (goal_literal (at net g) ≡ best.1)) × ((g : ℕ) → live g ≡ true → is_goal (at net g) ≡ true → Ahead best.1 best.0 (goal_literal (at net g)) (goal_token (at net g)))
 
--- the set with all that it jumps to
-pub record IsClosed (net : List Spot) (next set : List Bool) : Type 0 where
-  pub keeps : (q : ℕ) → has next q ≡ true → has set q ≡ true
-  pub closed : Closed net set
-  pub sound : (q : ℕ) → has set q ≡ true → (g : ℕ) (w : List ℕ) → Reads net g q w → ReadsSome net g next w
-  pub alive : ((p q : ℕ) → Leads (at net p) q → AliveAt net q) → Alive net next → Alive net set
-  pub len : length set ≡ length next
+-- `set` is the set `initial` with all that it jumps to
+pub record IsClosed (net : List Spot) (initial set : ℕ → Bool) : Type 0 where
+  pub keeps : (q : ℕ) → initial q ≡ true → set q ≡ true
+  pub closed : ClosedUnder net set
+  pub came : (q : ℕ) → set q ≡ true → (g : ℕ) (w : List ℕ) → Reads net g q w → ReadsFrom net g initial w
+  pub alive : ((p q : ℕ) → Leads (at net p) q → AliveAt net q) → ((q : ℕ) → initial q ≡ true → AliveAt net q) → (q : ℕ) → set q ≡ true → AliveAt net q
 
 -- The set so far, where the spots below i are still to be asked what they jump to.
-pub record Closing (net : List Spot) (initial set : List Bool) (i : ℕ) : Type 0 where
-  pub keeps : (q : ℕ) → has initial q ≡ true → has set q ≡ true
-  pub done : (p q : ℕ) → i ≤ p → has set p ≡ true → jumps (at net p) q ≡ true → has set q ≡ true
-  pub sound : (q : ℕ) → has set q ≡ true → (g : ℕ) (w : List ℕ) → Reads net g q w → ReadsSome net g initial w
-  pub alive : ((p q : ℕ) → Leads (at net p) q → AliveAt net q) → Alive net initial → Alive net set
-  pub room : length set ≡ length net
-  pub within : i ≤ length net
+pub record Closing (net : List Spot) (initial set : ℕ → Bool) (i : ℕ) : Type 0 where
+  pub keeps : (q : ℕ) → initial q ≡ true → set q ≡ true
+  pub done : (p q : ℕ) → i ≤ p → set p ≡ true → jumps (at net p) q ≡ true → set q ≡ true
+  pub came : (q : ℕ) → set q ≡ true → (g : ℕ) (w : List ℕ) → Reads net g q w → ReadsFrom net g initial w
+  pub alive : ((p q : ℕ) → Leads (at net p) q → AliveAt net q) → ((q : ℕ) → initial q ≡ true → AliveAt net q) → (q : ℕ) → set q ≡ true → AliveAt net q
 
 -- the best match after one byte more: of all n bytes, if a live goal has won
 abbrev pub newest_of : Option (ℕ × Bool) → ℕ → Option (ℕ × ℕ) → Option (ℕ × ℕ)

@@ -1,11 +1,16 @@
--- Sets of numbers, by one truth value for each.
-use Rattle.std.specs.Prelude.{◌≡◌, ℕ, Bool, false, List}
+-- Sets of spots, as lists, and classes of bytes, by one truth value for each byte.
+use Rattle.std.specs.Prelude.{◌≡◌, ℕ, ◌==◌, ◌||◌, Bool, false, List, [], ◌∷◌}
 use Rattle.std.proofs.Common.{get_or}
 
--- whether a number is in the set
-abbrev pub has : List Bool → ℕ → Bool
-has set p = get_or set p false
+-- whether a spot is in the set
+abbrev pub has : List ℕ → ℕ → Bool
+has [] p = false
+has (x ∷ xs) p = (p == x) || has xs p
 
--- no number is in the set
-abbrev pub HasNone : List Bool → Type 0
+-- no spot is in the set
+abbrev pub HasNone : List ℕ → Type 0
 HasNone set = (p : ℕ) → has set p ≡ false
+
+-- whether a byte is in the class
+abbrev pub class_has : List Bool → ℕ → Bool
+class_has bytes b = get_or bytes b false

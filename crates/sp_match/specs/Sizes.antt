@@ -10,7 +10,7 @@ use Rattle.sp_match.specs.Matching.{BestSoFar}
 use Rattle.sp_match.specs.declared.spot.Spot.{Spot}
 use Rattle.sp_match.specs.Sets.{has}
 use Rattle.sp_match.specs.Bits.{holds, row}
-use Rattle.sp_match.specs.Running.{IsNetOf, Stands, IsWinner}
+use Rattle.sp_match.specs.Running.{IsNetOf, IsClosed, Stands, IsWinner}
 use Rattle.sp_match.specs.Tables.{IsMachineOf, IsTable}
 
 -- the byte positions of the members together
@@ -20,18 +20,18 @@ positions_together (r ∷ rs) = positions_of r + positions_together rs
 
 -- the table is that of the automaton
 abbrev pub IsTableOf : List Spot → Machine → Table → Type 0
-IsTableOf net m t = IsTable net m.words m.classes.of.items m.classes.firsts.items t.states.sets.items t.states.marks.items t.moves.items
+IsTableOf net m t = IsTable net m.words m.classes.of.items m.classes.firsts.items t.states.sets.items t.states.acceptances.items t.moves.items
 
 -- The set was built of these members: of their automaton it has the bits, and a table whose first state is the
 -- set where the automaton begins.
 pub record IsSetOf (set : TokenSet) (tokens : List Syntax) : Type 0 where
   pub net : List Spot
-  pub start : List Bool
+  pub start : List ℕ
   pub is_net : IsNetOf tokens net start
   pub machine : IsMachineOf net set.machine
   pub table : IsTableOf net set.machine set.table
   pub some : 0 < length set.table.states.sets.items
-  pub begins : (p : ℕ) → holds (row set.table.states.sets.items 0) p ≡ has start p
+  pub begins : IsClosed net (has start) (holds (row set.table.states.sets.items 0))
 
 -- how many bytes the matcher has read
 abbrev pub steps : Matcher → ℕ

@@ -2,7 +2,6 @@
 ghost use Rattle.std.specs.Prelude.{◌≡◌, ◌≢◌, ℕ, ◌*◌, ◌<◌, ◌≤◌, ◌==◌, ◌||◌, ◌&&◌, true, false, length, IfOk};
 ghost use Rattle.std.proofs.Common.{get_or};
 ghost use Rattle.std.specs.Int.{bit_at};
-ghost use Rattle.sp_match.specs.Sets.{has};
 ghost use Rattle.sp_match.specs.Bits.{holds};
 
 use sp_base::NoMemory;
@@ -78,6 +77,13 @@ pub fn contains(set: &Vec<u64>, spot: usize) -> bool
     (word_of(set, spot / 64) >> (spot % 64)) & 1 == 1
 }
 
+/// Whether a spot is in both sets.
+pub fn both_contain(set: &Vec<u64>, other: &Vec<u64>, spot: usize) -> bool
+    ensures { result ≡ (holds set.now.items spot && holds other.now.items spot) }
+{
+    contains(set, spot) && contains(other, spot)
+}
+
 /// Empties a set.
 #[tactic(auto, using(crate::proofs::Words::none_held))]
 pub fn clear(set: &mut Vec<u64>)
@@ -111,7 +117,7 @@ pub fn assign(set: &mut Vec<u64>, other: &Vec<u64>)
     merge(set, other);
 }
 
-/// Whether a spot is in both sets.
+/// Whether some spot is in both sets.
 pub fn meets(set: &Vec<u64>, other: &Vec<u64>) -> bool
     ensures some { result ≡ true → (p : ℕ) × (holds set.now.items p ≡ true)
         × (holds other.now.items p ≡ true) }
@@ -127,15 +133,11 @@ pub fn meets(set: &Vec<u64>, other: &Vec<u64>) -> bool
     false
 }
 
-/// The set that is told by a truth value for each spot, in so many words.
-pub fn packed(alloc: Global, set: &[bool], words: usize) -> Result<Vec<u64>, NoMemory>
-    ensures spots { length set.now ≤ 64 * words
-        → IfOk result (λ bits. (p : ℕ) → holds bits.items p ≡ has set.now p) }
-    ensures len { IfOk result (λ bits. length bits.items ≡ words) }
-{
-    let mut bits = none(alloc, words)?;
-    for spot in 0..set.len() {
-        put_if(&mut bits, spot, set[spot]);
+/// How many spots are in the set.
+pub fn count(set: &Vec<u64>) -> usize {
+    let mut sum: usize = 0;
+    for word in set {
+        sum = sum.saturating_add(word.count_ones() as usize);
     }
-    Ok(bits)
+    sum
 }

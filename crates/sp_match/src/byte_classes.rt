@@ -3,7 +3,7 @@ ghost use Rattle.std.specs.Prelude.{◌≡◌, ℕ, ◌+◌, ◌<◌, length, tr
 ghost use Rattle.std.proofs.Common.{get_or};
 ghost use Rattle.sp_match.specs.Tables.{reads_byte as byte_is_read, Alike, AreClasses};
 
-use crate::sets::contains;
+use crate::classes::contains;
 use crate::spot::Spot;
 use sp_base::NoMemory;
 use std::alloc::Global;
@@ -13,7 +13,7 @@ pub fn reads_byte(spot: &Spot, byte: u8) -> bool
     ensures { result ≡ byte_is_read spot.now byte }
 {
     match spot {
-        Spot::Byte { bytes, .. } => contains(bytes, usize::from(byte)),
+        Spot::Byte { bytes, .. } => contains(bytes, byte),
         _ => false,
     }
 }

@@ -2,7 +2,7 @@
 ghost use Rattle.std.specs.Prelude.{◌≡◌, ℕ, ◌<◌, ◌&&◌, ◌==◌, false, true, [], length, nat_lt, IfOk};
 ghost use Rattle.sp_regex.specs.Bytes.{is_covered, is_within};
 ghost use Rattle.sp_regex.specs.Syntax.{belongs};
-ghost use Rattle.sp_match.specs.Sets.{has};
+ghost use Rattle.sp_match.specs.Sets.{class_has};
 
 use sp_base::NoMemory;
 use sp_regex::ByteRange;
@@ -22,14 +22,19 @@ fn is_in(ranges: &[ByteRange], byte: u8) -> bool
 
 /// The byte alone.
 pub fn one_byte(alloc: Global, byte: u8) -> Result<Vec<bool>, NoMemory>
-    ensures { IfOk result (λ set. (p : ℕ) → has set.items p ≡ (p == byte)) }
+    ensures { IfOk result (λ set. (p : ℕ) → class_has set.items p ≡ (p == byte)) }
 {
-    crate::sets::single(alloc, usize::from(byte))
+    let mut set = Vec::new(alloc);
+    for _ in 0..byte {
+        set.push(false)?;
+    }
+    set.push(true)?;
+    Ok(set)
 }
 
 /// All bytes: those in none of no ranges.
 pub fn all_bytes(alloc: Global) -> Result<Vec<bool>, NoMemory>
-    ensures { IfOk result (λ set. (p : ℕ) → has set.items p ≡ (nat_lt p 256 && belongs true [] p)) }
+    ensures { IfOk result (λ set. (p : ℕ) → class_has set.items p ≡ (nat_lt p 256 && belongs true [] p)) }
 {
     bytes_of_class(alloc, true, &[])
 }
@@ -41,7 +46,7 @@ pub fn bytes_of_class(
     ranges: &[ByteRange],
 ) -> Result<Vec<bool>, NoMemory>
     ensures { IfOk result (λ set. (p : ℕ)
-        → has set.items p ≡ (nat_lt p 256 && belongs negated ranges.now p)) }
+        → class_has set.items p ≡ (nat_lt p 256 && belongs negated ranges.now p)) }
 {
     let mut set = Vec::new(alloc);
     for i in 0..256usize {
@@ -49,4 +54,25 @@ pub fn bytes_of_class(
         set.push(if negated { !inside } else { inside })?;
     }
     Ok(set)
+}
+
+/// Whether some byte is in the class.
+pub fn has_byte(bytes: &[bool]) -> bool
+    ensures some { result ≡ true → (x : ℕ) × (class_has bytes.now x ≡ true) }
+    ensures none { result ≡ false → (x : ℕ) → class_has bytes.now x ≡ false }
+{
+    for inside in bytes {
+        if *inside {
+            return true;
+        }
+    }
+    false
+}
+
+/// Whether a byte is in the class.
+pub fn contains(bytes: &[bool], byte: u8) -> bool
+    ensures { result ≡ class_has bytes.now byte }
+{
+    let byte = usize::from(byte);
+    byte < bytes.len() && bytes[byte]
 }

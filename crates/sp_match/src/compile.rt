@@ -1,37 +1,49 @@
-// The automaton of a regular expression, made from its end to its front: each part is given the set of spots
-// that stand behind it, and answers the set where its reading begins.
-ghost use Rattle.std.specs.Prelude.{◌≡◌, ℕ, ◌<◌, List, length, IfOk};
+// The automaton of a regular expression, made from its end to its front: each part is given the spot that stands
+// behind it, and answers the set of spots where its reading begins.
+ghost use Rattle.std.specs.Prelude.{◌≡◌, ℕ, ◌<◌, List, [], ◌∷◌, length, IfOk};
 ghost use Rattle.std.specs.Prelude.{◌||◌, ◌&&◌, ◌==◌, not, true, false, Some, None, set as put_at};
-ghost use Rattle.sp_regex.specs.Trees.{byte as byte_syntax, any, class, sequence, alternatives, repeat, literal, positions_of};
+ghost use Rattle.sp_regex.specs.Trees.{Syntax, byte as byte_syntax, any, class, empty, followed, sequence, alternatives, repeat, literal, positions_of};
 ghost use Rattle.sp_match.specs.declared.spot.Spot.{Spot as NetSpot};
-ghost use Rattle.sp_regex.specs.Language.{InL, Times};
-ghost use Rattle.sp_match.specs.Sets.{has};
-ghost use Rattle.sp_match.specs.Parts.{Below, IsCompiled, OneByte, UpTo, Many};
+ghost use Rattle.sp_regex.specs.Language.{InL};
+ghost use Rattle.sp_match.specs.Sets.{has, class_has};
+ghost use Rattle.sp_match.specs.Parts.{Below, IsCompiled, IsChain, OneByte, Many, copies};
 
-use crate::classes::{all_bytes, bytes_of_class, one_byte};
+use crate::classes::{all_bytes, bytes_of_class, has_byte, one_byte};
 use crate::empties::repetition_has;
-use crate::sets::{contains, copy, is_empty, join, remove, single};
+use crate::sets::{contains, copy, is_empty, join, join_others, put, single};
 use crate::spot::Spot;
 use sp_base::NoMemory;
 use sp_regex::{ByteRange, Count, Regex, Shape};
 use std::alloc::Global;
+
+/// Adds a spot that reads a byte of the class.
+fn add_byte(net: &mut Vec<Spot>, bytes: Vec<bool>, then: usize) -> Result<usize, NoMemory>
+    requires below { then < length net.old.items }
+    requires some { (x : ℕ) × (class_has bytes.items x ≡ true) }
+    ensures { IfOk result (λ spot. IsCompiled (OneByte bytes.items)
+        (then ∷ []) (spot ∷ []) net.old.items net.new.items) }
+{
+    let spot = net.len();
+    net.push(Spot::Byte { bytes, next: then })?;
+    Ok(spot)
+}
 
 /// A byte of the class.
 fn leaf(
     alloc: Global,
     net: &mut Vec<Spot>,
     bytes: Vec<bool>,
-    then: Vec<bool>,
-) -> Result<Vec<bool>, NoMemory>
-    requires { Below then.items (length net.old.items) }
+    then: usize,
+) -> Result<Vec<usize>, NoMemory>
+    requires { then < length net.old.items }
     ensures { IfOk result (λ entry. IsCompiled (OneByte bytes.items)
-        then.items entry.items net.old.items net.new.items) }
+        (then ∷ []) entry.items net.old.items net.new.items) }
 {
-    if is_empty(&bytes) || is_empty(&then) {
+    if !has_byte(&bytes) {
         return Ok(Vec::new(alloc));
     }
-    let entry = single(alloc, net.len())?;
-    net.push(Spot::Byte { bytes, next: then })?;
+    let spot = add_byte(net, bytes, then)?;
+    let entry = single(alloc, spot)?;
     Ok(entry)
 }
 
@@ -40,11 +52,11 @@ fn byte_part(
     alloc: Global,
     net: &mut Vec<Spot>,
     byte: u8,
-    then: Vec<bool>,
-) -> Result<Vec<bool>, NoMemory>
-    requires { Below then.items (length net.old.items) }
+    then: usize,
+) -> Result<Vec<usize>, NoMemory>
+    requires { then < length net.old.items }
     ensures { IfOk result (λ entry. IsCompiled (InL (byte_syntax byte))
-        then.items entry.items net.old.items net.new.items) }
+        (then ∷ []) entry.items net.old.items net.new.items) }
 {
     let class = one_byte(alloc, byte)?;
     let entry = leaf(alloc, net, class, then)?;
@@ -52,10 +64,10 @@ fn byte_part(
 }
 
 /// Any byte.
-fn any_part(alloc: Global, net: &mut Vec<Spot>, then: Vec<bool>) -> Result<Vec<bool>, NoMemory>
-    requires { Below then.items (length net.old.items) }
+fn any_part(alloc: Global, net: &mut Vec<Spot>, then: usize) -> Result<Vec<usize>, NoMemory>
+    requires { then < length net.old.items }
     ensures { IfOk result (λ entry. IsCompiled (InL any)
-        then.items entry.items net.old.items net.new.items) }
+        (then ∷ []) entry.items net.old.items net.new.items) }
 {
     let class = all_bytes(alloc)?;
     let entry = leaf(alloc, net, class, then)?;
@@ -68,11 +80,11 @@ fn class_part(
     net: &mut Vec<Spot>,
     negated: bool,
     ranges: &[ByteRange],
-    then: Vec<bool>,
-) -> Result<Vec<bool>, NoMemory>
-    requires { Below then.items (length net.old.items) }
+    then: usize,
+) -> Result<Vec<usize>, NoMemory>
+    requires { then < length net.old.items }
     ensures { IfOk result (λ entry. IsCompiled (InL (class negated ranges.now))
-        then.items entry.items net.old.items net.new.items) }
+        (then ∷ []) entry.items net.old.items net.new.items) }
 {
     let class = bytes_of_class(alloc, negated, ranges)?;
     let entry = leaf(alloc, net, class, then)?;
@@ -84,20 +96,102 @@ fn word(
     alloc: Global,
     net: &mut Vec<Spot>,
     bytes: &[u8],
-    then: Vec<bool>,
-) -> Result<Vec<bool>, NoMemory>
-    requires { Below then.items (length net.old.items) }
+    then: usize,
+) -> Result<Vec<usize>, NoMemory>
+    requires { then < length net.old.items }
     ensures { IfOk result (λ entry. IsCompiled (InL (literal bytes.now))
-        then.items entry.items net.old.items net.new.items) }
+        (then ∷ []) entry.items net.old.items net.new.items) }
 {
-    let mut entry = then;
+    let mut spot = then;
     let mut i = bytes.len();
     while i > 0 {
         i -= 1;
         let class = one_byte(alloc, bytes[i])?;
-        entry = leaf(alloc, net, class, entry)?;
+        spot = add_byte(net, class, spot)?;
     }
+    let entry = single(alloc, spot)?;
     Ok(entry)
+}
+
+/// Where the reading of parts in a row begins.
+#[derive(Drop)]
+struct Chain {
+    /// Each spot where it begins, that behind the row among them if nothing has to be read.
+    entry: Vec<usize>,
+    /// The same, where what begins at a later part may stand as one spot that jumps to it.
+    begin: Vec<usize>,
+}
+
+/// A row of no parts.
+fn no_parts(alloc: Global, then: usize) -> Result<Chain, NoMemory>
+    ensures { (net : List NetSpot) → then < length net
+        → IfOk result (λ chain. IsChain empty then
+        chain.entry.items chain.begin.items net net) }
+{
+    let entry = single(alloc, then)?;
+    let begin = single(alloc, then)?;
+    Ok(Chain { entry, begin })
+}
+
+/// One spot in place of a set: a new one jumps to all of them, if they are several.
+fn named(net: &mut Vec<Spot>, set: Vec<usize>) -> Result<usize, NoMemory>
+    requires some { (p : ℕ) × (has set.items p ≡ true) }
+    requires below { Below set.items (length net.old.items) }
+    ensures within { IfOk result (λ name. name < length net.new.items) }
+    ensures chain { (rest : Syntax) (then : ℕ) (entry : List ℕ) (first : List NetSpot)
+        → IsChain rest then entry set.items first net.old.items
+        → IfOk result (λ name. IsChain rest then entry (name ∷ []) first net.new.items) }
+{
+    if set.len() == 1 {
+        return Ok(set[0]);
+    }
+    let name = net.len();
+    net.push(Spot::Jump(set))?;
+    Ok(name)
+}
+
+/// The set with those spots in place of one, if that is in the set.
+fn replaced(
+    alloc: Global,
+    set: &Vec<usize>,
+    spot: usize,
+    others: Vec<usize>,
+) -> Result<Vec<usize>, NoMemory>
+    ensures { IfOk result (λ all. (p : ℕ) → has all.items p
+        ≡ ((has set.now.items p && not (p == spot))
+        || (has set.now.items spot && has others.items p))) }
+{
+    let mut all = if contains(set, spot) {
+        others
+    } else {
+        Vec::new(alloc)
+    };
+    join_others(&mut all, set, spot)?;
+    Ok(all)
+}
+
+/// A part in front of a row.
+#[cycle(compile)]
+fn prepend(
+    alloc: Global,
+    net: &mut Vec<Spot>,
+    part: &Regex,
+    chain: Chain,
+) -> Result<Chain, NoMemory>
+    requires { Below chain.begin.items (length net.old.items) }
+    ensures below { IfOk result (λ all. Below all.begin.items (length net.new.items)) }
+    ensures chain { (rest : Syntax) (then : ℕ) (first : List NetSpot)
+        → IsChain rest then chain.entry.items chain.begin.items first net.old.items
+        → IfOk result (λ all. IsChain (followed part.now rest) then
+        all.entry.items all.begin.items first net.new.items) }
+{
+    if is_empty(&chain.begin) {
+        return Ok(chain);
+    }
+    let name = named(net, chain.begin)?;
+    let begin = compile(alloc, net, part, name)?;
+    let entry = replaced(alloc, &begin, name, chain.entry)?;
+    Ok(Chain { entry, begin })
 }
 
 /// Parts that stand one behind the other.
@@ -106,19 +200,19 @@ fn in_order(
     alloc: Global,
     net: &mut Vec<Spot>,
     parts: &[Regex],
-    then: Vec<bool>,
-) -> Result<Vec<bool>, NoMemory>
-    requires { Below then.items (length net.old.items) }
+    then: usize,
+) -> Result<Vec<usize>, NoMemory>
+    requires { then < length net.old.items }
     ensures { IfOk result (λ entry. IsCompiled (InL (sequence parts.now))
-        then.items entry.items net.old.items net.new.items) }
+        (then ∷ []) entry.items net.old.items net.new.items) }
 {
-    let mut entry = then;
+    let mut chain = no_parts(alloc, then)?;
     let mut i = parts.len();
     while i > 0 {
         i -= 1;
-        entry = compile(alloc, net, &parts[i], entry)?;
+        chain = prepend(alloc, net, &parts[i], chain)?;
     }
-    Ok(entry)
+    Ok(chain.entry)
 }
 
 /// One of the parts.
@@ -127,16 +221,15 @@ fn one_of(
     alloc: Global,
     net: &mut Vec<Spot>,
     parts: &[Regex],
-    then: Vec<bool>,
-) -> Result<Vec<bool>, NoMemory>
-    requires { Below then.items (length net.old.items) }
+    then: usize,
+) -> Result<Vec<usize>, NoMemory>
+    requires { then < length net.old.items }
     ensures { IfOk result (λ entry. IsCompiled (InL (alternatives parts.now))
-        then.items entry.items net.old.items net.new.items) }
+        (then ∷ []) entry.items net.old.items net.new.items) }
 {
     let mut entry = Vec::new(alloc);
     for part in parts {
-        let behind = copy(alloc, &then)?;
-        let more = compile(alloc, net, part, behind)?;
+        let more = compile(alloc, net, part, then)?;
         join(&mut entry, &more)?;
     }
     Ok(entry)
@@ -149,17 +242,19 @@ fn times(
     net: &mut Vec<Spot>,
     part: &Regex,
     count: u8,
-    then: Vec<bool>,
-) -> Result<Vec<bool>, NoMemory>
-    requires { Below then.items (length net.old.items) }
-    ensures { IfOk result (λ entry. IsCompiled (Times count (InL part.now))
-        then.items entry.items net.old.items net.new.items) }
+    chain: Chain,
+) -> Result<Vec<usize>, NoMemory>
+    requires { Below chain.begin.items (length net.old.items) }
+    ensures { (rest : Syntax) (then : ℕ) (first : List NetSpot)
+        → IsChain rest then chain.entry.items chain.begin.items first net.old.items
+        → IfOk result (λ entry. IsCompiled (InL (copies count part.now rest))
+        (then ∷ []) entry.items first net.new.items) }
 {
-    let mut entry = then;
+    let mut chain = chain;
     for _ in 0..count {
-        entry = compile(alloc, net, part, entry)?;
+        chain = prepend(alloc, net, part, chain)?;
     }
-    Ok(entry)
+    Ok(chain.entry)
 }
 
 /// The part at most so many times.
@@ -169,45 +264,44 @@ fn up_to(
     net: &mut Vec<Spot>,
     part: &Regex,
     count: u8,
-    then: Vec<bool>,
-) -> Result<Vec<bool>, NoMemory>
-    requires { Below then.items (length net.old.items) }
-    ensures { IfOk result (λ entry. IsCompiled (UpTo count (InL part.now))
-        then.items entry.items net.old.items net.new.items) }
+    then: usize,
+) -> Result<Chain, NoMemory>
+    requires { then < length net.old.items }
+    ensures { IfOk result (λ chain. IsChain (repeat 0 (Some count) part.now) then
+        chain.entry.items chain.begin.items net.old.items net.new.items) }
 {
-    let mut entry = copy(alloc, &then)?;
+    let mut chain = no_parts(alloc, then)?;
     for _ in 0..count {
-        let mut more = compile(alloc, net, part, entry)?;
-        join(&mut more, &then)?;
-        entry = more;
+        chain = prepend(alloc, net, part, chain)?;
+        put(&mut chain.entry, then)?;
+        put(&mut chain.begin, then)?;
     }
-    Ok(entry)
+    Ok(chain)
 }
 
 /// Where a round of a repetition leads: to its body, or to what stands behind it.
 fn round(
     alloc: Global,
-    entry: &Vec<bool>,
+    entry: &Vec<usize>,
     spot: usize,
-    then: &Vec<bool>,
-) -> Result<Vec<bool>, NoMemory>
+    then: usize,
+) -> Result<Vec<usize>, NoMemory>
     ensures { IfOk result (λ to. (p : ℕ)
-        → has to.items p ≡ ((has entry.now.items p && not (p == spot)) || has then.now.items p)) }
+        → has to.items p ≡ (has (then ∷ []) p || (has entry.now.items p && not (p == spot)))) }
 {
-    let mut to = copy(alloc, entry)?;
-    remove(&mut to, spot);
-    join(&mut to, then)?;
+    let mut to = single(alloc, then)?;
+    join_others(&mut to, entry, spot)?;
     Ok(to)
 }
 
 /// Where a repetition begins: behind it too, if it may be missing or its body has the empty word.
 fn begins(
     alloc: Global,
-    entry: Vec<bool>,
-    to: &Vec<bool>,
+    entry: Vec<usize>,
+    to: &Vec<usize>,
     spot: usize,
     may_miss: bool,
-) -> Result<Vec<bool>, NoMemory>
+) -> Result<Vec<usize>, NoMemory>
     ensures wide { IfOk result (λ set. (may_miss || has entry.items spot) ≡ true
         → set.items ≡ to.now.items) }
     ensures narrow { IfOk result (λ set. (may_miss || has entry.items spot) ≡ false
@@ -220,7 +314,7 @@ fn begins(
 }
 
 /// Makes a spot a jump.
-fn set_jump(net: &mut Vec<Spot>, spot: usize, to: Vec<bool>)
+fn set_jump(net: &mut Vec<Spot>, spot: usize, to: Vec<usize>)
     requires { spot < length net.old.items }
     ensures { net.new.items ≡ put_at net.old.items spot (Spot.Jump to) }
 {
@@ -234,20 +328,16 @@ fn many(
     net: &mut Vec<Spot>,
     part: &Regex,
     may_miss: bool,
-    then: Vec<bool>,
-) -> Result<Vec<bool>, NoMemory>
-    requires { Below then.items (length net.old.items) }
+    then: usize,
+) -> Result<Vec<usize>, NoMemory>
+    requires { then < length net.old.items }
     ensures { IfOk result (λ entry. IsCompiled (Many may_miss (InL part.now))
-        then.items entry.items net.old.items net.new.items) }
+        (then ∷ []) entry.items net.old.items net.new.items) }
 {
-    if is_empty(&then) {
-        return Ok(then);
-    }
     let spot = net.len();
     net.push(Spot::Nothing)?;
-    let back = single(alloc, spot)?;
-    let entry = compile(alloc, net, part, back)?;
-    let to = round(alloc, &entry, spot, &then)?;
+    let entry = compile(alloc, net, part, spot)?;
+    let to = round(alloc, &entry, spot, then)?;
     let begin = begins(alloc, entry, &to, spot, may_miss)?;
     set_jump(net, spot, to);
     Ok(begin)
@@ -261,11 +351,11 @@ fn bounded(
     part: &Regex,
     least: u8,
     most: u8,
-    then: Vec<bool>,
-) -> Result<Vec<bool>, NoMemory>
-    requires { Below then.items (length net.old.items) }
+    then: usize,
+) -> Result<Vec<usize>, NoMemory>
+    requires { then < length net.old.items }
     ensures { IfOk result (λ entry. IsCompiled (InL (repeat least (Some most) part.now))
-        then.items entry.items net.old.items net.new.items) }
+        (then ∷ []) entry.items net.old.items net.new.items) }
 {
     if most < least {
         return Ok(Vec::new(alloc));
@@ -282,28 +372,41 @@ fn unbounded(
     net: &mut Vec<Spot>,
     part: &Regex,
     least: u8,
-    then: Vec<bool>,
-) -> Result<Vec<bool>, NoMemory>
-    requires { Below then.items (length net.old.items) }
+    then: usize,
+) -> Result<Vec<usize>, NoMemory>
+    requires { then < length net.old.items }
     ensures { IfOk result (λ entry. IsCompiled (InL (repeat least None part.now))
-        then.items entry.items net.old.items net.new.items) }
+        (then ∷ []) entry.items net.old.items net.new.items) }
 {
-    let rest = many(alloc, net, part, least == 0, then)?;
-    let entry = times(alloc, net, part, least.saturating_sub(1), rest)?;
-    Ok(entry)
+    let entry = many(alloc, net, part, least == 0, then)?;
+    let begin = copy(alloc, &entry)?;
+    let all = times(
+        alloc,
+        net,
+        part,
+        least.saturating_sub(1),
+        Chain { entry, begin },
+    )?;
+    Ok(all)
 }
 
 /// A part that has no word but the empty one, as often as the bounds allow: no copy of it adds anything.
-fn of_no_bytes(alloc: Global, part: &Regex, count: Count, then: Vec<bool>) -> Vec<bool>
+fn of_no_bytes(
+    alloc: Global,
+    part: &Regex,
+    count: Count,
+    then: usize,
+) -> Result<Vec<usize>, NoMemory>
     requires { positions_of part.now ≡ 0 }
-    ensures { (net : List NetSpot) → Below then.items (length net)
+    ensures { IfOk result (λ entry. (net : List NetSpot) → then < length net
         → IsCompiled (InL (repeat count.least count.most part.now))
-        then.items result.items net net }
+        (then ∷ []) entry.items net net) }
 {
     if repetition_has(part, count) {
-        then
+        let entry = single(alloc, then)?;
+        Ok(entry)
     } else {
-        Vec::new(alloc)
+        Ok(Vec::new(alloc))
     }
 }
 
@@ -314,14 +417,14 @@ fn repeated(
     net: &mut Vec<Spot>,
     part: &Regex,
     count: Count,
-    then: Vec<bool>,
-) -> Result<Vec<bool>, NoMemory>
-    requires { Below then.items (length net.old.items) }
+    then: usize,
+) -> Result<Vec<usize>, NoMemory>
+    requires { then < length net.old.items }
     ensures { IfOk result (λ entry. IsCompiled (InL (repeat count.least count.most part.now))
-        then.items entry.items net.old.items net.new.items) }
+        (then ∷ []) entry.items net.old.items net.new.items) }
 {
     if part.positions() == 0 {
-        return Ok(of_no_bytes(alloc, part, count, then));
+        return of_no_bytes(alloc, part, count, then);
     }
     match count.most {
         Some(most) => bounded(alloc, net, part, count.least, most, then),
@@ -329,18 +432,18 @@ fn repeated(
     }
 }
 
-/// Adds the spots of a regular expression. Behind it stands the set `then`; the answer is the set where it
-/// begins.
+/// Adds the spots of a regular expression. Behind it stands the spot `then`; the answer is the set of spots where
+/// it begins.
 #[cycle(compile)]
 pub fn compile(
     alloc: Global,
     net: &mut Vec<Spot>,
     regex: &Regex,
-    then: Vec<bool>,
-) -> Result<Vec<bool>, NoMemory>
-    requires { Below then.items (length net.old.items) }
+    then: usize,
+) -> Result<Vec<usize>, NoMemory>
+    requires { then < length net.old.items }
     ensures { IfOk result (λ entry. IsCompiled (InL regex.now)
-        then.items entry.items net.old.items net.new.items) }
+        (then ∷ []) entry.items net.old.items net.new.items) }
 {
     match regex.shape() {
         Shape::Byte(byte) => byte_part(alloc, net, byte, then),

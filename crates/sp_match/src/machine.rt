@@ -1,17 +1,19 @@
-// The automaton by bits: what it reads by a class of bytes, and where it is then, jumps and all.
-ghost use Rattle.std.specs.Prelude.{◌≡◌, ℕ, ◌+◌, ◌*◌, ◌<◌, ◌≤◌, ◌||◌, List, length, true, false, IfOk, OnOk};
+// The automaton by bits: what it reads by a class of bytes, and where it is then. A step costs a look at each word of
+// a set, at each live spot that reads the byte, and at each spot to which one of those jumps.
+ghost use Rattle.std.specs.Prelude.{◌≡◌, ℕ, ◌+◌, ◌*◌, ◌<◌, ◌≤◌, ◌==◌, ◌||◌, List, length, true, false, IfOk, OnOk};
 ghost use Rattle.std.proofs.Common.{get_or};
 ghost use Rattle.std.specs.Int.{bit_at};
 ghost use Rattle.sp_match.specs.declared.spot.Spot.{Spot as NetSpot};
-ghost use Rattle.sp_match.specs.Bits.{holds, row, Fits, IsStep, IsStepTo, IsWordStep};
-ghost use Rattle.sp_match.specs.Nets.{at, is_byte, Orderly};
-ghost use Rattle.sp_match.specs.Running.{is_ahead};
-ghost use Rattle.sp_match.specs.Tables.{reads_byte as byte_is_read, AreReaders, IsFollow, AreFollows, AreGoals, IsClosedOf, LeadsWithin, IsMachine, goal_found, preferred, best_of};
+ghost use Rattle.sp_match.specs.Sets.{has};
+ghost use Rattle.sp_match.specs.Parts.{Below};
+ghost use Rattle.sp_match.specs.Bits.{holds, row, led, LeadsWithin, IsStep, IsStepTo, IsWordStep};
+ghost use Rattle.sp_match.specs.Nets.{at, is_byte, is_jump, Orderly};
+ghost use Rattle.sp_match.specs.Running.{is_ahead, IsClosed, IsNext};
+ghost use Rattle.sp_match.specs.Tables.{reads_byte as byte_is_read, AreReaders, next_of, AreNexts, AreGoals, IsMachineOf, goal_found, preferred, best_of};
 
-use crate::bits::{clear, contains, lowest, meets, merge, none, packed, put_if, without, word_of};
+use crate::bits::{clear, contains, lowest, meets, none, put_if, without, word_of};
 use crate::byte_classes::{ByteClasses, byte_classes, reads_byte};
-use crate::run::close;
-use crate::sets::fitted;
+use crate::run::{add_all, close};
 use crate::spot::Spot;
 use sp_base::NoMemory;
 use std::alloc::Global;
@@ -34,8 +36,11 @@ pub struct Machine {
     pub(crate) readers: Vec<Vec<u64>>,
     /// The spots that read a byte.
     pub(crate) bytes: Vec<u64>,
-    /// For each spot those that it leads to by a byte, and all to which these jump.
-    pub(crate) follows: Vec<Vec<u64>>,
+    /// For each spot the one to which it leads by a byte.
+    pub(crate) nexts: Vec<usize>,
+    /// The spots that jump.
+    pub(crate) jumps: Vec<u64>,
+    pub(crate) net: Vec<Spot>,
     pub(crate) goals: Vec<Goal>,
 }
 
@@ -88,53 +93,46 @@ fn byte_spots(alloc: Global, net: &[Spot], words: usize) -> Result<Vec<u64>, NoM
     Ok(set)
 }
 
-/// These spots, and all to which they jump.
-fn with_jumps(
-    alloc: Global,
-    net: &[Spot],
-    next: &Vec<bool>,
-    words: usize,
-) -> Result<Vec<u64>, NoMemory>
-    requires { length net.now ≤ 64 * words }
-    ensures closed { IfOk result (λ set. Orderly net.now
-        → IsClosedOf net.now next.now.items (holds set.items)) }
-    ensures len { IfOk result (λ set. length set.items ≡ words) }
+/// Whether a spot jumps.
+fn is_jumper(spot: &Spot) -> bool
+    ensures { result ≡ is_jump spot.now }
 {
-    let mut set = fitted(alloc, next, net.len())?;
-    close(net, &mut set);
-    let bits = packed(alloc, &set, words)?;
-    Ok(bits)
+    matches!(spot, Spot::Jump(_))
 }
 
-/// The spots that a spot leads to by a byte, and all to which these jump.
-fn follow(alloc: Global, net: &[Spot], spot: &Spot, words: usize) -> Result<Vec<u64>, NoMemory>
+/// The spots that jump.
+fn jump_spots(alloc: Global, net: &[Spot], words: usize) -> Result<Vec<u64>, NoMemory>
     requires { length net.now ≤ 64 * words }
-    ensures follow { IfOk result (λ set. Orderly net.now → LeadsWithin spot.now (length net.now)
-        → IsFollow net.now spot.now (holds set.items)) }
-    ensures len { IfOk result (λ set. length set.items ≤ words) }
+    ensures { IfOk result (λ set. (p : ℕ) → holds set.items p ≡ is_jump (at net.now p)) }
+{
+    let mut set = none(alloc, words)?;
+    for i in 0..net.len() {
+        put_if(&mut set, i, is_jumper(&net[i]));
+    }
+    Ok(set)
+}
+
+/// The spot to which a spot of an automaton of so many spots leads by a byte; 0 where there is none.
+fn next_spot(spot: &Spot, spots: usize) -> usize
+    ensures next { next_of spot.now < spots → result ≡ next_of spot.now }
+    ensures within { result ≤ spots }
 {
     match spot {
-        Spot::Byte { next, .. } => {
-            let set = with_jumps(alloc, net, next, words)?;
-            Ok(set)
-        }
-        _ => none(alloc, 0),
+        Spot::Byte { next, .. } => { if *next < spots { *next } else { 0 } }
+        _ => 0,
     }
 }
 
-/// For each spot where it leads.
-fn all_follows(alloc: Global, net: &[Spot], words: usize) -> Result<Vec<Vec<u64>>, NoMemory>
-    requires { length net.now ≤ 64 * words }
-    ensures follows { IfOk result (λ all. Orderly net.now
-        → AreFollows net.now all.items (length net.now)) }
-    ensures fits { IfOk result (λ all. Fits all.items words) }
+/// For each spot the one to which it leads by a byte.
+fn all_nexts(alloc: Global, net: &[Spot]) -> Result<Vec<usize>, NoMemory>
+    ensures nexts { IfOk result (λ nexts. AreNexts net.now nexts.items) }
+    ensures within { IfOk result (λ nexts. (p : ℕ) → led nexts.items p ≤ length net.now) }
 {
-    let mut all = Vec::new(alloc);
+    let mut nexts = Vec::new(alloc);
     for i in 0..net.len() {
-        let set = follow(alloc, net, &net[i], words)?;
-        all.push(set)?;
+        nexts.push(next_spot(&net[i], net.len()))?;
     }
-    Ok(all)
+    Ok(nexts)
 }
 
 /// The goal at a spot, if there is one.
@@ -174,46 +172,53 @@ fn all_goals(alloc: Global, net: &[Spot]) -> Result<Vec<Goal>, NoMemory>
     Ok(goals)
 }
 
-/// Adds the spots to which one leads.
-fn step_spot(follows: &Vec<Vec<u64>>, word: usize, bit: u32, next: &mut Vec<u64>)
+/// The spot to which one leads; behind the end it is 0.
+fn next_at(nexts: &Vec<usize>, spot: usize) -> usize
+    ensures { result ≡ led nexts.now.items spot }
+{
+    if spot < nexts.len() { nexts[spot] } else { 0 }
+}
+
+/// Adds the spot to which one leads.
+fn step_spot(nexts: &Vec<usize>, word: usize, bit: u32, next: &mut Vec<u64>)
     requires { bit < 64 }
-    ensures spots { Fits follows.now.items (length next.old.items) → (q : ℕ)
+    ensures spots { LeadsWithin nexts.now.items (length next.old.items) → (q : ℕ)
         → holds next.new.items q
-        ≡ (holds next.old.items q || holds (row follows.now.items (word * 64 + bit)) q) }
+        ≡ (holds next.old.items q || (q == led nexts.now.items (word * 64 + bit))) }
     ensures len { length next.new.items ≡ length next.old.items }
 {
-    if word <= follows.len() / 64 {
-        let spot = word * 64 + bit as usize;
-        if spot < follows.len() {
-            merge(next, &follows[spot]);
-        }
+    if word <= nexts.len() / 64 {
+        let to = next_at(nexts, word * 64 + bit as usize);
+        put_if(next, to, true);
+    } else {
+        put_if(next, 0, true);
     }
 }
 
 /// Adds the spots to which those of one word lead.
-fn step_word(follows: &Vec<Vec<u64>>, word: usize, spots: u64, next: &mut Vec<u64>)
-    ensures step { Fits follows.now.items (length next.old.items)
-        → IsWordStep follows.now.items word spots (holds next.old.items) (holds next.new.items) }
+fn step_word(nexts: &Vec<usize>, word: usize, spots: u64, next: &mut Vec<u64>)
+    ensures step { LeadsWithin nexts.now.items (length next.old.items)
+        → IsWordStep nexts.now.items word spots (holds next.old.items) (holds next.new.items) }
     ensures len { length next.new.items ≡ length next.old.items }
 {
     let mut rest = spots;
     while rest != 0 {
         let bit = lowest(rest);
-        step_spot(follows, word, bit, next);
+        step_spot(nexts, word, bit, next);
         rest = without(rest, bit);
     }
 }
 
 /// The spots to which the live ones lead that read the byte.
-fn step_by(live: &Vec<u64>, readers: &Vec<u64>, follows: &Vec<Vec<u64>>, next: &mut Vec<u64>)
-    ensures step { Fits follows.now.items (length next.old.items)
-        → IsStep (holds live.now.items) (holds readers.now.items) follows.now.items
+fn step_by(live: &Vec<u64>, readers: &Vec<u64>, nexts: &Vec<usize>, next: &mut Vec<u64>)
+    ensures step { LeadsWithin nexts.now.items (length next.old.items)
+        → IsStep (holds live.now.items) (holds readers.now.items) nexts.now.items
         (holds next.new.items) }
     ensures len { length next.new.items ≡ length next.old.items }
 {
     clear(next);
     for i in 0..live.len() {
-        step_word(follows, i, live[i] & word_of(readers, i), next);
+        step_word(nexts, i, live[i] & word_of(readers, i), next);
     }
 }
 
@@ -260,25 +265,38 @@ fn best_goal(goals: &Vec<Goal>, live: &Vec<u64>) -> Option<(u32, bool)>
 
 impl Machine {
     /// The machine of an automaton.
-    pub fn of_net(alloc: Global, net: &[Spot]) -> Result<Machine, NoMemory>
-        ensures { IfOk result (λ m. Orderly net.now → IsMachine net.now m.words
-            m.classes.of.items m.classes.firsts.items m.readers.items m.bytes.items
-            m.follows.items m.goals.items) }
+    pub fn of_net(alloc: Global, net: Vec<Spot>) -> Result<Machine, NoMemory>
+        ensures { IfOk result (λ m. Orderly net.items → IsMachineOf net.items m) }
     {
         let words = net.len() / 64 + 1;
-        let classes = byte_classes(alloc, net)?;
-        let readers = all_readers(alloc, net, &classes.firsts, words)?;
-        let bytes = byte_spots(alloc, net, words)?;
-        let follows = all_follows(alloc, net, words)?;
-        let goals = all_goals(alloc, net)?;
+        let classes = byte_classes(alloc, &net)?;
+        let readers = all_readers(alloc, &net, &classes.firsts, words)?;
+        let bytes = byte_spots(alloc, &net, words)?;
+        let jumps = jump_spots(alloc, &net, words)?;
+        let nexts = all_nexts(alloc, &net)?;
+        let goals = all_goals(alloc, &net)?;
         Ok(Machine {
             words,
             classes,
             readers,
             bytes,
-            follows,
+            nexts,
+            jumps,
+            net,
             goals,
         })
+    }
+
+    /// The set of these spots, and of all to which they jump.
+    pub fn start(&self, alloc: Global, spots: &[usize]) -> Result<Vec<u64>, NoMemory>
+        ensures closed { (net : List NetSpot) → IsMachineOf net self.now → Below spots.now (length net)
+            → IfOk result (λ set. IsClosed net (has spots.now) (holds set.items)) }
+        ensures len { IfOk result (λ set. length set.items ≡ self.now.words) }
+    {
+        let mut set = none(alloc, self.words)?;
+        add_all(&mut set, spots);
+        close(&self.net, &self.jumps, &mut set);
+        Ok(set)
     }
 
     /// The class of a byte.
@@ -293,18 +311,30 @@ impl Machine {
         }
     }
 
-    /// The spots to which the live ones lead by a byte of the class, and all to which these jump.
-    pub fn step(&self, live: &Vec<u64>, class: usize, next: &mut Vec<u64>)
-        ensures step { Fits self.now.follows.items (length next.old.items)
+    /// The spots to which the live ones lead by a byte of the class.
+    fn step_class(&self, live: &Vec<u64>, class: usize, next: &mut Vec<u64>)
+        ensures step { LeadsWithin self.now.nexts.items (length next.old.items)
             → IsStep (holds live.now.items) (holds (row self.now.readers.items class))
-            self.now.follows.items (holds next.new.items) }
+            self.now.nexts.items (holds next.new.items) }
         ensures len { length next.new.items ≡ length next.old.items }
     {
         if class < self.readers.len() {
-            step_by(live, &self.readers[class], &self.follows, next);
+            step_by(live, &self.readers[class], &self.nexts, next);
         } else {
             clear(next);
         }
+    }
+
+    /// The spots to which the live ones lead by a byte of the class, and all to which these jump.
+    pub fn step(&self, live: &Vec<u64>, class: usize, next: &mut Vec<u64>)
+        ensures step { (net : List NetSpot) (b : ℕ) → IsMachineOf net self.now
+            → length next.old.items ≡ self.now.words → b < 256
+            → class ≡ get_or self.now.classes.of.items b 0
+            → IsNext net (holds live.now.items) (holds next.new.items) b }
+        ensures len { length next.new.items ≡ length next.old.items }
+    {
+        self.step_class(live, class, next);
+        close(&self.net, &self.jumps, next);
     }
 
     /// The best live goal: the number of its member, and whether that is a literal.

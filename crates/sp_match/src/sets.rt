@@ -1,93 +1,87 @@
-// Sets of spots, each by one truth value for every number: those behind the end are in no set.
-ghost use Rattle.std.specs.Prelude.{◌≡◌, ℕ, ◌<◌, ◌+◌, ◌==◌, ◌||◌, ◌&&◌, not, false, true, max, length, IfOk, OnOk};
-ghost use Rattle.sp_match.specs.Sets.{has, HasNone};
+// Sets of spots, as lists in which each stands once.
+ghost use Rattle.std.specs.Prelude.{◌≡◌, ℕ, ◌+◌, ◌==◌, ◌||◌, ◌&&◌, not, false, true, [], ◌∷◌, length, IfOk, OnOk};
+ghost use Rattle.sp_match.specs.Sets.{has};
 
 use sp_base::NoMemory;
 use std::alloc::Global;
 
 /// The set of one spot.
-pub fn single(alloc: Global, spot: usize) -> Result<Vec<bool>, NoMemory>
-    ensures { IfOk result (λ s. (p : ℕ) → has s.items p ≡ (p == spot)) }
+pub fn single(alloc: Global, spot: usize) -> Result<Vec<usize>, NoMemory>
+    ensures { IfOk result (λ s. s.items ≡ spot ∷ []) }
 {
     let mut set = Vec::new(alloc);
-    for _ in 0..spot {
-        set.push(false)?;
-    }
-    set.push(true)?;
+    set.push(spot)?;
     Ok(set)
 }
 
 /// A set with the same spots.
-pub fn copy(alloc: Global, set: &[bool]) -> Result<Vec<bool>, NoMemory>
+pub fn copy(alloc: Global, set: &[usize]) -> Result<Vec<usize>, NoMemory>
     ensures { IfOk result (λ s. s.items ≡ set.now) }
 {
     Ok(set.to_vec(alloc)?)
 }
 
-/// Adds the spots of another set, as far as the room goes.
-pub fn add(set: &mut [bool], more: &[bool])
-    ensures spots { (p : ℕ) → p < length set.old
-        → has set.new p ≡ (has set.old p || has more.now p) }
-    ensures len { length set.new ≡ length set.old }
+/// Whether a spot is in the set.
+pub fn contains(set: &[usize], spot: usize) -> bool
+    ensures { result ≡ has set.now spot }
 {
-    for i in 0..set.len() {
-        if i < more.len() && more[i] {
-            set[i] = true;
+    for other in set {
+        if *other == spot {
+            return true;
         }
     }
+    false
+}
+
+/// Adds a spot.
+pub fn put(set: &mut Vec<usize>, spot: usize) -> Result<(), NoMemory>
+    ensures { OnOk result ((p : ℕ) → has set.new.items p ≡ (has set.old.items p || (p == spot))) }
+{
+    if contains(set, spot) {
+        return Ok(());
+    }
+    set.push(spot)?;
+    Ok(())
 }
 
 /// Adds the spots of another set.
-pub fn join(set: &mut Vec<bool>, more: &[bool]) -> Result<(), NoMemory>
+pub fn join(set: &mut Vec<usize>, more: &[usize]) -> Result<(), NoMemory>
     ensures { OnOk result ((p : ℕ) → has set.new.items p ≡ (has set.old.items p || has more.now p)) }
 {
     for i in 0..more.len() {
-        if i < set.len() {
-            set[i] = set[i] || more[i];
-        } else {
-            set.push(more[i])?;
-        }
+        put(set, more[i])?;
     }
     Ok(())
 }
 
-/// Whether a spot is in the set.
-pub fn contains(set: &[bool], spot: usize) -> bool
-    ensures { result ≡ has set.now spot }
+/// Adds a spot that is not the other.
+fn put_other(set: &mut Vec<usize>, spot: usize, other: usize) -> Result<(), NoMemory>
+    ensures { OnOk result ((p : ℕ)
+        → has set.new.items p ≡ (has set.old.items p || ((p == spot) && not (p == other)))) }
 {
-    spot < set.len() && set[spot]
+    if spot == other {
+        return Ok(());
+    }
+    put(set, spot)?;
+    Ok(())
 }
 
-/// Takes a spot out.
-pub fn remove(set: &mut [bool], spot: usize)
-    ensures { (p : ℕ) → has set.new p ≡ (has set.old p && not (p == spot)) }
+/// Adds the spots of another set but for one.
+pub fn join_others(set: &mut Vec<usize>, more: &[usize], but: usize) -> Result<(), NoMemory>
+    ensures { OnOk result ((p : ℕ)
+        → has set.new.items p ≡ (has set.old.items p || (has more.now p && not (p == but)))) }
 {
-    if spot < set.len() {
-        set[spot] = false;
+    for i in 0..more.len() {
+        put_other(set, more[i], but)?;
     }
+    Ok(())
 }
 
 /// Whether no spot is in the set.
-pub fn is_empty(set: &[bool]) -> bool
-    ensures none { result ≡ true → HasNone set.now }
-    ensures some { result ≡ false → (p : ℕ) × (has set.now p ≡ true) }
+#[tactic(auto, using(crate::proofs::Lists::no_items, crate::proofs::Lists::has_first))]
+pub fn is_empty(set: &Vec<usize>) -> bool
+    ensures none { result ≡ true → set.now.items ≡ [] }
+    ensures some { result ≡ false → (p : ℕ) × (has set.now.items p ≡ true) }
 {
-    for spot in set {
-        if *spot {
-            return false;
-        }
-    }
-    true
-}
-
-/// The set in room for so many spots.
-pub fn fitted(alloc: Global, set: &[bool], room: usize) -> Result<Vec<bool>, NoMemory>
-    ensures spots { IfOk result (λ s. (p : ℕ) → p < room → has s.items p ≡ has set.now p) }
-    ensures len { IfOk result (λ s. length s.items ≡ room) }
-{
-    let mut all = Vec::new(alloc);
-    for i in 0..room {
-        all.push(contains(set, i))?;
-    }
-    Ok(all)
+    set.len() == 0
 }

@@ -2,13 +2,13 @@
 ghost use Rattle.std.specs.Prelude.{◌≡◌, ℕ, ◌+◌, ◌*◌, ◌<◌, ◌≤◌, List, [], length, true, false, Option, Some, None, IfOk, OnOk};
 ghost use Rattle.std.proofs.Common.{get_or};
 ghost use Rattle.sp_match.specs.declared.spot.Spot.{Spot};
-ghost use Rattle.sp_match.specs.Bits.{holds, row, Fits, IsStep};
+ghost use Rattle.sp_match.specs.Bits.{holds, row};
 ghost use Rattle.sp_match.specs.Nets.{at, Orderly};
 ghost use Rattle.sp_match.specs.Running.{IsNext};
-ghost use Rattle.sp_match.specs.Tables.{IsMachineOf, IsMark, mark_at, IsStates, AreKept, IsState};
+ghost use Rattle.sp_match.specs.Tables.{IsMachineOf, IsAcceptance, acceptance_at, IsStates, AreKept, IsState};
 ghost use Rattle.sp_match.specs.Sizes.{IsTableOf};
 
-use crate::bits::{assign, none};
+use crate::bits::{assign, count, none};
 use crate::index::Index;
 use crate::machine::Machine;
 use sp_base::NoMemory;
@@ -17,9 +17,15 @@ use std::alloc::Global;
 /// The most moves of a table.
 const MOVES: usize = 262144;
 
+/// The most words of all sets of a table.
+const WORDS: usize = 524288;
+
+/// The most live spots of all sets from which a table has moves: what the moves cost to make.
+const LIVE: usize = 1048576;
+
 /// What a set of live spots tells: its best live goal, and whether one of its spots reads on.
 #[derive(Clone, Copy)]
-pub struct Mark {
+pub struct Acceptance {
     pub won: Option<(u32, bool)>,
     pub reads_on: bool,
 }
@@ -28,7 +34,7 @@ pub struct Mark {
 #[derive(Drop)]
 pub struct States {
     pub(crate) sets: Vec<Vec<u64>>,
-    pub(crate) marks: Vec<Mark>,
+    pub(crate) acceptances: Vec<Acceptance>,
 }
 
 /// States, and where each class of bytes leads from them.
@@ -40,11 +46,11 @@ pub struct Table {
 }
 
 /// What a set tells.
-fn mark_of(machine: &Machine, set: &Vec<u64>) -> Mark
+fn acceptance_of(machine: &Machine, set: &Vec<u64>) -> Acceptance
     ensures { (net : List Spot) → IsMachineOf net machine.now
-        → IsMark net (holds set.now.items) result.won result.reads_on }
+        → IsAcceptance net (holds set.now.items) result.won result.reads_on }
 {
-    Mark {
+    Acceptance {
         won: machine.winner(set),
         reads_on: machine.reads_on(set),
     }
@@ -53,11 +59,11 @@ fn mark_of(machine: &Machine, set: &Vec<u64>) -> Mark
 impl States {
     /// No states.
     fn new(alloc: Global) -> States
-        ensures { (result.sets.items ≡ []) × (result.marks.items ≡ []) }
+        ensures { (result.sets.items ≡ []) × (result.acceptances.items ≡ []) }
     {
         States {
             sets: Vec::new(alloc),
-            marks: Vec::new(alloc),
+            acceptances: Vec::new(alloc),
         }
     }
 
@@ -67,15 +73,15 @@ impl States {
             ≡ length self.old.sets.items + 1) }
         ensures states { (net : List Spot) → IsMachineOf net machine.now
             → length set.items ≡ machine.now.words
-            → IsStates net machine.now.words self.old.sets.items self.old.marks.items
-            → OnOk result (IsStates net machine.now.words self.new.sets.items self.new.marks.items
+            → IsStates net machine.now.words self.old.sets.items self.old.acceptances.items
+            → OnOk result (IsStates net machine.now.words self.new.sets.items self.new.acceptances.items
             × AreKept self.old.sets.items self.new.sets.items
             × (length self.new.sets.items ≡ length self.old.sets.items + 1)
             × (row self.new.sets.items (length self.old.sets.items) ≡ set.items)) }
     {
-        let told = mark_of(machine, &set);
+        let told = acceptance_of(machine, &set);
         self.sets.push(set)?;
-        self.marks.push(told)?;
+        self.acceptances.push(told)?;
         Ok(())
     }
 
@@ -90,9 +96,9 @@ impl States {
         ensures more { OnOk result (length self.old.sets.items ≤ length self.new.sets.items) }
         ensures states { (net : List Spot) → IsMachineOf net machine.now
             → length set.items ≡ machine.now.words
-            → IsStates net machine.now.words self.old.sets.items self.old.marks.items
+            → IsStates net machine.now.words self.old.sets.items self.old.acceptances.items
             → IfOk result (λ to.
-            IsStates net machine.now.words self.new.sets.items self.new.marks.items
+            IsStates net machine.now.words self.new.sets.items self.new.acceptances.items
             × AreKept self.old.sets.items self.new.sets.items
             × IsState self.new.sets.items set.items to) }
     {
@@ -194,8 +200,13 @@ impl Table {
         let room = room_of(machine);
         let mut index = Index::new(alloc, 4 * room as usize)?;
         let mut table = Table::begin(alloc, machine, &mut index, start)?;
+        let mut live: usize = 0;
         for state in 0..room as usize {
             if state >= table.states.sets.len() {
+                break;
+            }
+            live = live.saturating_add(count(&table.states.sets[state]));
+            if live > LIVE {
                 break;
             }
             table.add_moves(alloc, machine, &mut index, state, room)?;
@@ -232,12 +243,12 @@ impl Table {
 
     /// The best live goal of a state.
     pub fn won(&self, state: u32) -> Option<(u32, bool)>
-        ensures { state < length self.now.states.marks.items
-            → result ≡ (mark_at self.now.states.marks.items state).won }
+        ensures { state < length self.now.states.acceptances.items
+            → result ≡ (acceptance_at self.now.states.acceptances.items state).won }
     {
         let state = state as usize;
-        if state < self.states.marks.len() {
-            self.states.marks[state].won
+        if state < self.states.acceptances.len() {
+            self.states.acceptances[state].won
         } else {
             None
         }
@@ -245,20 +256,20 @@ impl Table {
 
     /// Whether a spot of a state reads on.
     pub fn reads_on(&self, state: u32) -> bool
-        ensures { state < length self.now.states.marks.items
-            → result ≡ (mark_at self.now.states.marks.items state).reads_on }
+        ensures { state < length self.now.states.acceptances.items
+            → result ≡ (acceptance_at self.now.states.acceptances.items state).reads_on }
     {
         let state = state as usize;
-        state < self.states.marks.len() && self.states.marks[state].reads_on
+        state < self.states.acceptances.len() && self.states.acceptances[state].reads_on
     }
 }
 
 /// For how many states there is room.
 fn room_of(machine: &Machine) -> u32 {
     let classes = machine.classes.firsts.len();
-    let most = machine.follows.len().saturating_mul(4).saturating_add(256);
-    if classes == 0 {
+    let most = machine.net.len().saturating_mul(4).saturating_add(256);
+    if classes == 0 || machine.words == 0 {
         return 1;
     }
-    most.min(MOVES / classes) as u32
+    most.min(MOVES / classes).min(WORDS / machine.words) as u32
 }

@@ -6,12 +6,10 @@ ghost use Rattle.sp_match.specs.Matching.{HasWord, NoneEmpty, is_literal};
 ghost use Rattle.sp_match.specs.Running.{Begins, IsNetOf};
 ghost use Rattle.sp_match.specs.Sizes.{IsSetOf, positions_together};
 
-use crate::bits::packed;
 use crate::compile::compile;
 use crate::empties::has_empty_word;
 use crate::machine::Machine;
-use crate::run::close;
-use crate::sets::{fitted, join, single};
+use crate::sets::join;
 use crate::spot::Spot;
 use crate::table::Table;
 use sp_base::NoMemory;
@@ -95,7 +93,7 @@ fn positions(tokens: &[Regex]) -> u64
 fn add_token(
     alloc: Global,
     net: &mut Vec<Spot>,
-    start: &mut Vec<bool>,
+    start: &mut Vec<usize>,
     token: &Regex,
     number: u32,
 ) -> Result<(), NoMemory>
@@ -109,19 +107,18 @@ fn add_token(
         token: number,
         literal: kind,
     })?;
-    let back = single(alloc, goal)?;
-    let entry = compile(alloc, net, token, back)?;
+    let entry = compile(alloc, net, token, goal)?;
     join(start, &entry)?;
     Ok(())
 }
 
 /// The set whose automaton begins at these spots.
-fn set_of_net(alloc: Global, net: &[Spot], start: &[bool]) -> Result<TokenSet, NoMemory>
-    ensures { (tokens : List Syntax) → IsNetOf tokens net.now start.now
-        → length start.now ≡ length net.now → IfOk result (λ set. IsSetOf set tokens) }
+fn set_of_net(alloc: Global, net: Vec<Spot>, start: &[usize]) -> Result<TokenSet, NoMemory>
+    ensures { (tokens : List Syntax) → IsNetOf tokens net.items start.now
+        → IfOk result (λ set. IsSetOf set tokens) }
 {
     let machine = Machine::of_net(alloc, net)?;
-    let first = packed(alloc, start, machine.words)?;
+    let first = machine.start(alloc, start)?;
     let table = Table::of_machine(alloc, &machine, first)?;
     Ok(TokenSet { machine, table })
 }
@@ -133,13 +130,11 @@ fn build_net(alloc: Global, tokens: &[Regex]) -> Result<TokenSet, NoMemory>
     ensures { IfOk result (λ set. IsSetOf set tokens.now) }
 {
     let mut net = Vec::new(alloc);
-    let mut first = Vec::new(alloc);
+    let mut start = Vec::new(alloc);
     for i in 0..tokens.len() {
-        add_token(alloc, &mut net, &mut first, &tokens[i], i as u32)?;
+        add_token(alloc, &mut net, &mut start, &tokens[i], i as u32)?;
     }
-    let mut start = fitted(alloc, &first, net.len())?;
-    close(&net, &mut start);
-    let set = set_of_net(alloc, &net, &start)?;
+    let set = set_of_net(alloc, net, &start)?;
     Ok(set)
 }
 

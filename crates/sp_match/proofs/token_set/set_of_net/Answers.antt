@@ -1,19 +1,20 @@
-use Rattle.std.proofs.Common.{ap, ◌∙◌, arith}
+use Rattle.std.proofs.Common.{sym, subst}
+use Rattle.sp_match.specs.Sets.{has}
 use Rattle.sp_match.specs.Bits.{holds}
+use Rattle.sp_match.specs.Running.{IsClosed}
 use Rattle.sp_match.proofs.token_set.set_of_net.Goals as goal
 
 pub returns : goal.returns
-returns c = λ tokens is long.
+returns c = λ tokens is.
+    let net = c.args.net.items in
     let m = c.in_ok-machine.ensures is.begins.orderly in
-    let enough = m.room in
-    let e = c.in_ok-table.ensures c.args.net.now m c.in_ok-first.ensures.len in
-    let first = c.in_ok-first.ensures.spots (omega arith) in
+    let e = c.in_ok-table.ensures net m c.in_ok-first.ensures.len in
     record {
-      net = c.args.net.now;
+      net = net;
       start = c.args.start.now;
       is_net = is;
       machine = m;
       table = e.0;
       some = e.1;
-      begins = λ p. ap (λ z. holds z p) e.2 ∙ first p;
+      begins = subst (λ z. IsClosed net (has c.args.start.now) (holds z)) (sym e.2) (c.in_ok-first.ensures.closed net m is.begins.below);
     }

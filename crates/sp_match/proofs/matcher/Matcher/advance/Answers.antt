@@ -13,9 +13,9 @@ returns-in-Some-clause-moved c = λ tokens w h.
     let t = c.in-Some.state in
     let a = c.after.ensures t c.in-Some.is in
     let byte : c.args.byte < 256 = (let r = c.ranges.byte in omega (arith, r)) in
-    let x = table_next h.set.net set.machine.words set.machine.classes.of.items set.machine.classes.firsts.items sets set.table.states.marks.items set.table.moves.items a.0 t c.class-class.result c.args.byte h.set.machine.classes h.set.table byte c.class-class.ensures a.2 in
+    let x = table_next h.set.net set.machine.words set.machine.classes.of.items set.machine.classes.firsts.items sets set.table.states.acceptances.items set.table.moves.items a.0 t c.class-class.result c.args.byte h.set.machine.1.classes h.set.table byte c.class-class.ensures a.2 in
     let stands = subst (λ z. Stands tokens h.set.net w (holds (live_of sets z c.args.self.now.live.items))) a.1 h.stands in
-    let long = h.set.table.states.marks_long in
+    let long = h.set.table.states.accepts_long in
     let within = x.0 in
     let won = c.won.ensures (omega arith) in
     record {
@@ -25,7 +25,7 @@ returns-in-Some-clause-moved c = λ tokens w h.
       next_room = h.next_room;
       within = λ s e. (let same : t ≡ s = cc in omega arith);
       stands = stands_next tokens h.set.net h.set.start (holds (row sets a.0)) (holds (row sets t)) w c.args.byte h.set.is_net stands x.1;
-      wins = subst (IsWinner h.set.net (holds (row sets t))) (sym won) ((h.set.table.states.marked t within).wins);
+      wins = subst (IsWinner h.set.net (holds (row sets t))) (sym won) ((h.set.table.states.accepts t within).wins);
       best = h.best;
     }
 

@@ -1,11 +1,10 @@
 use Rattle.std.proofs.Common.{◌≡◌, None, Some, ◌++◌, ◌∷◌, [], length, ap, sym, subst, ◌∙◌}
-use Rattle.sp_match.specs.Bits.{holds, row, Fits, IsStep}
+use Rattle.sp_match.specs.Bits.{holds}
 use Rattle.sp_match.specs.Running.{Stands, IsWinner}
 use Rattle.sp_match.specs.Sizes.{live_of}
 use Rattle.sp_match.specs.Tables.{best_of}
 use Rattle.sp_match.proofs.Running.{stands_next}
 use Rattle.sp_match.proofs.Deciding.{is_winner}
-use Rattle.sp_match.proofs.Tabling.{bits_next}
 use Rattle.sp_match.proofs.matcher.Matcher.wander.Goals as goal
 
 pub returns-clause-moved : goal.returns-clause-moved
@@ -14,8 +13,7 @@ returns-clause-moved c = λ tokens w b h small class none.
     let m = h.set.machine in
     let x : c.swap.new.x.items ≡ c.step.new.next.items = ap (λ z. z.items) c.swap.ensures.x_after in
     let y : c.swap.new.y.items ≡ c.args.self.now.live.items = ap (λ z. z.items) c.swap.ensures.y_after in
-    let step = subst (λ k. IsStep (holds c.args.self.now.live.items) (holds (row set.machine.readers.items k)) set.machine.follows.items (holds c.step.new.next.items)) c.from.ensures (c.step.ensures.step (subst (Fits set.machine.follows.items) (sym h.next_room) m.fits)) in
-    let next = bits_next h.set.net set.machine.words set.machine.classes.of.items set.machine.classes.firsts.items set.machine.readers.items set.machine.bytes.items set.machine.follows.items set.machine.goals.items (holds c.args.self.now.live.items) (holds c.step.new.next.items) c.args.class b m small class step in
+    let next = c.step.ensures.step h.set.net b m h.next_room small (c.from.ensures ∙ class) in
     let stands = subst (λ z. Stands tokens h.set.net w (holds (live_of set.table.states.sets.items z c.args.self.now.live.items))) none h.stands in
     let won = c.winner.ensures ∙ ap (λ z. best_of set.machine.goals.items (holds z) (length set.machine.goals.items)) x in
     record {
@@ -28,6 +26,6 @@ returns-clause-moved c = λ tokens w b h small class none.
           (subst (λ z. Stands tokens h.set.net (w ++ b ∷ []) (holds z)) (sym x) (stands_next tokens h.set.net h.set.start (holds c.args.self.now.live.items) (holds c.step.new.next.items) w b h.set.is_net stands next));
       wins = subst (λ z. IsWinner h.set.net (holds (live_of set.table.states.sets.items z c.swap.new.x.items)) c.winner.result) (sym none)
           (subst (λ z. IsWinner h.set.net (holds z) c.winner.result) (sym x)
-          (subst (IsWinner h.set.net (holds c.step.new.next.items)) (sym won) (is_winner h.set.net set.machine.goals.items (holds c.step.new.next.items) m.goals)));
+          (subst (IsWinner h.set.net (holds c.step.new.next.items)) (sym won) (is_winner h.set.net set.machine.goals.items (holds c.step.new.next.items) m.1.goals)));
       best = h.best;
     }
