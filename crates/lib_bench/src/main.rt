@@ -159,7 +159,7 @@ fn got(alloc: Global, count: u64) -> Result<u64, NoMemory> {
     }
     let mut all = 0_u64;
     for n in 0..count {
-        all = all.wrapping_add(number_of(get(&map, &Value::uint(Width::W64, n))));
+        all = all.wrapping_add(number_of(get(&map, &Value::uint(Width::W64, n), None)));
     }
     Ok(all)
 }

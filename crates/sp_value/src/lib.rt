@@ -22,7 +22,7 @@ mod tests;
 mod value;
 
 pub use bitfields::read_bits;
-pub use integers::read_int;
+pub use integers::{read_int, read_unsigned, signed_number};
 pub use laws::{law_of_equality, law_of_keys, law_of_order};
 pub use level::Level;
 pub use list::{Values, copy_all, copy_entries};

@@ -1,6 +1,6 @@
-// Which methods there are.
+// The methods of the library, and how many operands each takes.
 ghost use Rattle.std.specs.Prelude.{◌≡◌};
-ghost use Rattle.sp_methods.specs.Methods.{arity, changes};
+ghost use Rattle.sp_words.specs.Methods.{arity, changes};
 
 /// A method of the language's library. Arguments that a module leaves out are written out before it comes to this: the base is
 /// 10, the charset UTF-8, and the strategy puts U+FFFD in place of a byte with which no character begins.
