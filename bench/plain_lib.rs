@@ -21,7 +21,7 @@ fn operand(name: &str, count: u64) -> Vec<u8> {
         "split_none" | "split1" => repeated(b"seven777", count),
         "decode_letters" | "strict_letters" => repeated("\u{e9}\u{20ac}".as_bytes(), count),
         "decode_strays" | "drop_strays" => repeated(b"\xff", count),
-        "decode_mixed" => repeated(b"seven77\xff", count),
+        "decode_mixed" | "to_uint_order" | "to_int_order" => repeated(b"seven77\xff", count),
         _ => repeated(b"Words of ASCII. ", count),
     }
 }
@@ -39,6 +39,19 @@ fn to_uint(x: &[u8], base: u32) -> Option<u64> {
         number = number.checked_mul(base as u64)?.checked_add((*c as char).to_digit(base)? as u64)?;
     }
     Some(number)
+}
+
+fn to_uint_order(x: &[u8], order: u64) -> Option<u64> {
+    if order >= 3 || x.is_empty() || x.len() > 8 {
+        return None;
+    }
+    let more = |number: u64, byte: &u8| number << 8 | *byte as u64;
+    Some(if order == 0 { x.iter().rev().fold(0, more) } else { x.iter().fold(0, more) })
+}
+
+fn to_int_order(x: &[u8], order: u64) -> Option<i64> {
+    let unused = 64 - 8 * x.len() as u32;
+    Some((to_uint_order(x, order)? << unused) as i64 >> unused)
 }
 
 fn split(x: &[u8], d: u8) -> Vec<Rc<Vec<u8>>> {
@@ -76,6 +89,11 @@ fn called(name: &str, x: &[u8]) -> usize {
     match name {
         "to_uint" => to_uint(x, 10).is_some() as usize,
         "to_int" => to_uint(x, 10).is_some() as usize,
+        "to_uint_order" => x
+            .chunks(8)
+            .fold(0u64, |all, group| all.wrapping_add(to_uint_order(group, 2).unwrap_or(0)))
+            as usize,
+        "to_int_order" => x.chunks(8).filter(|group| to_int_order(group, 0).unwrap_or(0) < 0).count(),
         "starts_with" => x.starts_with(std::hint::black_box(x)) as usize,
         "sub" => std::hint::black_box(x[..x.len()].to_vec()).len(),
         "split" | "split_each" | "split_none" => split(x, b',').len(),
@@ -159,14 +177,17 @@ fn run(name: &str, count: u64) -> u64 {
             }
             all
         }
-        "get" => {
+        "get" | "get_default" => {
+            let first = if name == "get" { 0 } else { count };
             let mut map = BTreeMap::new();
             for n in 0..count {
                 map.insert(n, Value::Uint(n));
             }
             let mut all = 0u64;
             for n in 0..count {
-                all = all.wrapping_add(map.get(&n).cloned().map_or(0, |value| value.number()));
+                let key = Value::Uint(n + first);
+                let value = map.get(&(n + first)).unwrap_or(&key).clone();
+                all = all.wrapping_add(value.number());
             }
             all
         }

@@ -8,7 +8,7 @@ ghost use Rattle.sp_value.specs.Changes.{IsVector, IsMap};
 use sp_base::NoMemory;
 use sp_lib::{
     back, decode, encode, front, get, lower, pop_back, push_back, split, split1, starts_with, sub,
-    to_int, to_uint, to_uint_order, upper,
+    to_int, to_int_order, to_uint, to_uint_order, upper,
 };
 use sp_numbers::Width;
 use sp_operators::ValueFault;
@@ -40,9 +40,29 @@ fn operand(alloc: Global, name: &str, count: u64) -> Result<Vec<u8>, NoMemory> {
         "split_none" | "split1" => repeated(alloc, b"seven777", count),
         "decode_letters" | "strict_letters" => repeated(alloc, "\u{e9}\u{20ac}".as_bytes(), count),
         "decode_strays" | "drop_strays" => repeated(alloc, b"\xff", count),
-        "decode_mixed" => repeated(alloc, b"seven77\xff", count),
+        "decode_mixed" | "to_uint_order" | "to_int_order" => repeated(alloc, b"seven77\xff", count),
         _ => repeated(alloc, b"Words of ASCII. ", count),
     }
+}
+
+/// The sum of the integers of each 8 bytes in network order.
+fn of_groups(x: &[u8]) -> u64 {
+    let mut all = 0_u64;
+    for group in x.chunks(8) {
+        all = all.wrapping_add(to_uint_order(group, 2).unwrap_or(0));
+    }
+    all
+}
+
+/// How many of the signed integers of each 8 bytes in little-endian order are negative.
+fn of_signed_groups(x: &[u8]) -> u64 {
+    let mut all = 0_u64;
+    for group in x.chunks(8) {
+        if to_int_order(group, 0).unwrap_or(0) < 0 {
+            all = all.wrapping_add(1);
+        }
+    }
+    all
 }
 
 /// The size of what one call answers.
@@ -50,7 +70,8 @@ fn called(alloc: Global, name: &str, x: &[u8]) -> Result<usize, ValueFault> {
     match name {
         "to_uint" => Ok(usize::from(to_uint(x, 10).is_ok())),
         "to_int" => Ok(usize::from(to_int(x, 10).is_ok())),
-        "to_uint_order" => Ok(usize::from(to_uint_order(x, 1).is_ok())),
+        "to_uint_order" => Ok(of_groups(x) as usize),
+        "to_int_order" => Ok(of_signed_groups(x) as usize),
         "starts_with" => Ok(usize::from(starts_with(x, x))),
         "sub" => Ok(sub(alloc, x, 0, x.len() as u64)?.len()),
         "split" | "split_each" | "split_none" => Ok(split(alloc, x, b",")?.as_slice().len()),
@@ -151,15 +172,16 @@ fn ends(alloc: Global, count: u64) -> Result<u64, NoMemory> {
     Ok(all)
 }
 
-/// The sum of the values of a map, each asked for by its key.
-fn got(alloc: Global, count: u64) -> Result<u64, NoMemory> {
+/// The sum of the values of a map, each asked for by its key, or of as many defaults, each asked for by a key that isn't there.
+fn got(alloc: Global, count: u64, first: u64) -> Result<u64, NoMemory> {
     let mut map = Value::map(Vec::new(alloc))?;
     for n in 0..count {
         map.insert(Value::uint(Width::W64, n), Value::uint(Width::W64, n))?;
     }
     let mut all = 0_u64;
     for n in 0..count {
-        all = all.wrapping_add(number_of(get(&map, &Value::uint(Width::W64, n))));
+        let key = Value::uint(Width::W64, n.wrapping_add(first));
+        all = all.wrapping_add(number_of(get(&map, &key, Some(&key))));
     }
     Ok(all)
 }
@@ -173,7 +195,8 @@ fn run(alloc: Global, line: &str) -> Result<usize, NoMemory> {
         "push_back" => Ok(filled(alloc, count)?.size().unwrap_or(0)),
         "pop_back" => Ok(popped(alloc, count)? as usize),
         "ends" => Ok(ends(alloc, count)? as usize),
-        "get" => Ok(got(alloc, count)? as usize),
+        "get" => Ok(got(alloc, count, 0)? as usize),
+        "get_default" => Ok(got(alloc, count, count)? as usize),
         _ => of_bytes(alloc, name, count),
     }
 }

@@ -60,6 +60,20 @@ impl ByteList {
         Ok(ByteList { inner })
     }
 
+    /// These bytes themselves. Takes no memory.
+    pub fn from_vec(bytes: Vec<u8>) -> ByteList
+        ensures { result ≡ bytes.items }
+    {
+        ByteList { inner: bytes }
+    }
+
+    /// The bytes themselves, in a vector. Takes no memory.
+    pub fn into_vec(self) -> Vec<u8>
+        ensures { result.items ≡ self }
+    {
+        self.inner
+    }
+
     pub fn len(&self) -> usize
         ensures { result ≡ length self.now }
     {

@@ -26,6 +26,20 @@ impl Text {
         Ok(Text { inner })
     }
 
+    /// This text itself. Takes no memory.
+    pub fn from_string(text: String) -> Text
+        ensures { result ≡ string_bytes text }
+    {
+        Text { inner: text }
+    }
+
+    /// The text itself, in a string. Takes no memory.
+    pub fn into_string(self) -> String
+        ensures { string_bytes result ≡ self }
+    {
+        self.inner
+    }
+
     pub fn as_str(&self) -> &str
         ensures { result.now ≡ self.now }
     {

@@ -1,7 +1,6 @@
 -- A vector and its last item.
-use Rattle.std.proofs.Common.{◌≡◌, suc, ◌-◌, List, [], ◌∷◌, ◌++◌, length, take, Some, Ok, Err, refl, ap, ◌∙◌, arith}
+use Rattle.std.proofs.Common.{◌≡◌, suc, ◌-◌, List, [], ◌∷◌, ◌++◌, length, take, Some, Ok, refl, ap, ◌∙◌, arith}
 use Rattle.std.specs.Prelude.{slice_get}
-use Rattle.sp_base.specs.declared.kinds.PKind.TheVariants.{Index}
 use Rattle.sp_value.specs.Val.{Val, vector, Vals, no_vals, val, vals_of, list_of}
 use Rattle.sp_value.specs.Changes.{IsVector, with_last, items_of}
 use Rattle.sp_value.proofs.Lists.{list_of_vals_of}
@@ -50,7 +49,3 @@ module _ (vs : Vals) (x : Val) where
 pub popped_last : (new x : Val) → IsVector (with_last new x) → popped (with_last new x) ≡ Ok (new, x)
 popped_last (vector vs) x h = popped_is vs x
 popped_last v x h = absurd h
-
--- from an empty vector nothing is taken
-pub popped_none : (v : Val) → items_of v ≡ [] → popped v ≡ Err Index
-popped_none v e = ap (λ xs. parted v (last_item xs)) e

@@ -9,14 +9,12 @@ use std::alloc::Global;
 pub fn lower(alloc: Global, x: &[u8]) -> Result<ByteList, NoMemory>
     ensures { IfOk result (λ list. list ≡ lower x.now) }
 {
-    let changed = x.to_ascii_lowercase(alloc)?;
-    ByteList::from_slice(alloc, changed.as_slice())
+    Ok(ByteList::from_vec(x.to_ascii_lowercase(alloc)?))
 }
 
 /// The bytes with each ASCII small letter as its capital, and every other byte as it is.
 pub fn upper(alloc: Global, x: &[u8]) -> Result<ByteList, NoMemory>
     ensures { IfOk result (λ list. list ≡ upper x.now) }
 {
-    let changed = x.to_ascii_uppercase(alloc)?;
-    ByteList::from_slice(alloc, changed.as_slice())
+    Ok(ByteList::from_vec(x.to_ascii_uppercase(alloc)?))
 }

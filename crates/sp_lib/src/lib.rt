@@ -12,7 +12,7 @@ mod slices;
 mod texts;
 
 pub use letters::{lower, upper};
-pub use members::{back, front, get, get_or, pop_back, push_back};
+pub use members::{back, front, get, pop_back, push_back};
 pub use numerals::{to_int, to_uint};
 pub use orders::{to_int_order, to_uint_order};
 pub use separated::{split, split1};

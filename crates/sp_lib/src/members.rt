@@ -1,5 +1,5 @@
 // Items of vectors, and values of maps.
-ghost use Rattle.std.specs.Prelude.{◌≡◌, OnOk, OnErr, Ok, None, Some, ok_or};
+ghost use Rattle.std.specs.Prelude.{◌≡◌, OnOk, OnErr, Ok, ok_or, option_copied};
 ghost use Rattle.sp_base.specs.declared.kinds.PKind.TheVariants.{Index};
 ghost use Rattle.sp_value.specs.Changes.{IsVector, IsMap, with_last};
 ghost use Rattle.sp_methods.specs.Answers.{Tells};
@@ -82,24 +82,13 @@ pub fn back(v: &Value) -> Result<Value, ValueFault>
     }
 }
 
-/// The value that a map has at a key. Error: `MissingKey` where it has none.
-pub fn get(m: &Value, k: &Value) -> Result<Value, ValueFault>
+/// The value that a map has at a key, or `d`, where one is given, if the map has none. Error: `MissingKey` where there is neither.
+pub fn get(m: &Value, k: &Value, d: Option<&Value>) -> Result<Value, ValueFault>
     requires { IsMap m.now }
-    ensures { Tells (λ x. x) (got m.now k.now None) result }
+    ensures { Tells (λ x. x) (got m.now k.now (option_copied d.entry)) result }
 {
-    match m.get(k) {
+    match m.get(k).or(d) {
         Some(value) => copied(value),
         None => Err(ValueFault::Run(PKind::MissingKey)),
-    }
-}
-
-/// The value that a map has at a key, or `d` where it has none.
-pub fn get_or(m: &Value, k: &Value, d: &Value) -> Result<Value, ValueFault>
-    requires { IsMap m.now }
-    ensures { Tells (λ x. x) (got m.now k.now (Some d.now)) result }
-{
-    match m.get(k) {
-        Some(found) => copied(found),
-        None => copied(d),
     }
 }

@@ -1,5 +1,5 @@
 // Texts from bytes of a charset, and bytes from texts.
-ghost use Rattle.std.specs.Prelude.{◌≡◌, ◌<◌, ◌≤◌, ◌++◌, ◌==◌, List, ℕ, length, take, drop, IfOk, IsTrue, IsUtf8, nat_lt, string_bytes};
+ghost use Rattle.std.specs.Prelude.{◌≡◌, ◌<◌, ◌≤◌, ◌++◌, ◌==◌, List, ℕ, length, take, drop, IfOk, OnOk, IsTrue, IsUtf8, nat_lt, string_bytes};
 ghost use Rattle.std.specs.List.{prefix_len};
 ghost use Rattle.sp_methods.specs.Answers.{Tells};
 ghost use Rattle.sp_methods.specs.Decoding.{character_in, characters, are_whole, fill_of, is_charset, is_strategy, decode};
@@ -53,6 +53,16 @@ fn front(charset: u64, x: &[u8]) -> &str
     }
 }
 
+/// Appends to a text, and does not touch it where there is nothing to append: with stray bytes in a row that is most calls.
+fn append(text: &mut String, more: &str) -> Result<(), NoMemory>
+    ensures { OnOk result (string_bytes text.new ≡ string_bytes text.old ++ more.now) }
+{
+    if !more.is_empty() {
+        text.push_str(more)?;
+    }
+    Ok(())
+}
+
 /// Appends the whole characters at the front, and the fill where a byte stands behind them. What is left stands behind that byte.
 fn append_front<'a>(
     text: &mut String,
@@ -68,12 +78,12 @@ fn append_front<'a>(
     ensures less { IfOk result (λ rest. length rest.now < length x.now) }
 {
     let whole = front(charset, x);
-    text.push_str(whole)?;
+    append(text, whole)?;
     let rest = &x[whole.len()..];
     if rest.is_empty() {
         return Ok(rest);
     }
-    text.push_str(fill)?;
+    append(text, fill)?;
     Ok(&rest[1..])
 }
 
@@ -103,8 +113,7 @@ fn filled_text(alloc: Global, charset: u64, fill: &str, x: &[u8]) -> Result<Text
     requires { IsTrue (is_charset charset) }
     ensures { IfOk result (λ text. text ≡ characters (character_in charset) fill.now 0 x.now) }
 {
-    let text = filled(alloc, charset, fill, x)?;
-    Text::new(alloc, text.as_str())
+    Ok(Text::from_string(filled(alloc, charset, fill, x)?))
 }
 
 /// The text that bytes are in UTF-8 (charset 0) or ASCII (1). From the left whole characters are taken, and a byte with which none

@@ -6,8 +6,8 @@ use crate::literals::width_of;
 use crate::{Fault, pop};
 use sp_base::{ByteList, PKind};
 use sp_lib::{
-    back, decode, encode, front, get, get_or, lower, pop_back, push_back, split, split1,
-    starts_with, sub, to_int, to_int_order, to_uint, to_uint_order, upper,
+    back, decode, encode, front, get, lower, pop_back, push_back, split, split1, starts_with, sub,
+    to_int, to_int_order, to_uint, to_uint_order, upper,
 };
 use sp_numbers::Width;
 use sp_operators::{PlainType, binary, cast, has_size, is_cast, size, takes, takes_one, unary};
@@ -112,11 +112,8 @@ fn cast_to(stack: &mut Vec<Value>, name: &str) -> Result<Value, Fault> {
     }
 }
 
-fn bytes_value(alloc: Global, list: &ByteList) -> Result<Value, Fault> {
-    match Vec::from_slice(alloc, list.as_slice()) {
-        Ok(bytes) => Ok(Value::bytes(bytes)?),
-        Err(_) => Err(Fault::NoMemory),
-    }
+fn bytes_value(list: ByteList) -> Result<Value, Fault> {
+    Ok(Value::bytes(list.into_vec())?)
 }
 
 /// A method of bytes that takes an unsigned integer, a label or bytes.
@@ -140,10 +137,10 @@ fn of_bytes_and_one(alloc: Global, name: &str, x: &[u8], a: &Value) -> Result<Va
 fn in_two(alloc: Global, x: &[u8], d: &[u8]) -> Result<Value, Fault> {
     let (before, behind) = split1(alloc, x, d)?;
     let mut members = Vec::new(alloc);
-    if members.push(bytes_value(alloc, &before)?).is_err() {
+    if members.push(bytes_value(before)?).is_err() {
         return Err(Fault::NoMemory);
     }
-    if members.push(bytes_value(alloc, &behind)?).is_err() {
+    if members.push(bytes_value(behind)?).is_err() {
         return Err(Fault::NoMemory);
     }
     Ok(Value::tuple(members)?)
@@ -158,13 +155,9 @@ fn of_bytes_and_two(
     b: &Value,
 ) -> Result<Value, Fault> {
     match (name, a.level(), b.level()) {
-        ("sub", Level::Uint(_, a), Level::Uint(_, b)) => bytes_value(alloc, &sub(alloc, x, a, b)?),
+        ("sub", Level::Uint(_, a), Level::Uint(_, b)) => bytes_value(sub(alloc, x, a, b)?),
         ("decode", Level::Enum(_, charset), Level::Enum(_, strategy)) => {
-            let text = decode(alloc, x, charset, strategy)?;
-            match String::from_str(alloc, text.as_str()) {
-                Ok(text) => Ok(Value::str(text)?),
-                Err(_) => Err(Fault::NoMemory),
-            }
+            Ok(Value::str(decode(alloc, x, charset, strategy)?.into_string())?)
         }
         _ => Err(Fault::NoCase),
     }
@@ -173,9 +166,9 @@ fn of_bytes_and_two(
 /// A method of bytes or of a text without arguments.
 fn of_bytes(alloc: Global, name: &str, x: &Value) -> Result<Value, Fault> {
     match (name, x.level()) {
-        ("lower", Level::Bytes(x)) => bytes_value(alloc, &lower(alloc, x)?),
-        ("upper", Level::Bytes(x)) => bytes_value(alloc, &upper(alloc, x)?),
-        ("encode", Level::Str(s)) => bytes_value(alloc, &encode(alloc, s)?),
+        ("lower", Level::Bytes(x)) => bytes_value(lower(alloc, x)?),
+        ("upper", Level::Bytes(x)) => bytes_value(upper(alloc, x)?),
+        ("encode", Level::Str(s)) => bytes_value(encode(alloc, s)?),
         _ => Err(Fault::NoCase),
     }
 }
@@ -207,7 +200,7 @@ fn pushed(mut v: Value, x: Value) -> Result<Value, Fault> {
 /// An item of a vector or a tuple, or the value that a map has at a key.
 fn indexed(container: &Value, key: &Value) -> Result<Value, Fault> {
     if is_map(container) {
-        return Ok(get(container, key)?);
+        return Ok(get(container, key, None)?);
     }
     match (container.as_items(), key.as_uint()) {
         (Some(items), Some(i)) if i < items.len() as u64 => Ok(items[i as usize].copy()?),
@@ -228,7 +221,7 @@ fn of_container(alloc: Global, stack: &mut Vec<Value>, name: &str) -> Result<Val
         "get" => {
             let map = pop(stack)?;
             if is_map(&map) {
-                Ok(get(&map, &last)?)
+                Ok(get(&map, &last, None)?)
             } else {
                 Err(Fault::NoCase)
             }
@@ -237,7 +230,7 @@ fn of_container(alloc: Global, stack: &mut Vec<Value>, name: &str) -> Result<Val
             let key = pop(stack)?;
             let map = pop(stack)?;
             if is_map(&map) {
-                Ok(get_or(&map, &key, &last)?)
+                Ok(get(&map, &key, Some(&last))?)
             } else {
                 Err(Fault::NoCase)
             }

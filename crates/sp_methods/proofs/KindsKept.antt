@@ -17,8 +17,8 @@ use Rattle.sp_value.specs.Changes.{value_at}
 use Rattle.sp_value.proofs.Lists.{list_of_vals_of, pairs_of_entries_of}
 use Rattle.sp_operators.specs.Operators.{value_or_error}
 use Rattle.sp_operators.specs.Parts.{begins_with}
-use Rattle.sp_methods.specs.declared.method.Method.{Method}
-use Rattle.sp_methods.specs.declared.method.Method.TheVariants.{ToUint, ToInt, ToUintOrder, ToIntOrder, Sub, StartsWith, Split, Split1, Lower, Upper, Decode, Encode, PushBack, PopBack, Front, Back, Get, GetOr}
+use Rattle.sp_words.specs.declared.methods.Method.{Method}
+use Rattle.sp_words.specs.declared.methods.Method.TheVariants.{ToUint, ToInt, ToUintOrder, ToIntOrder, Sub, StartsWith, Split, Split1, Lower, Upper, Decode, Encode, PushBack, PopBack, Front, Back, Get, GetOr}
 use Rattle.sp_methods.specs.Kinds.{Kind, Bools, Unsigned, Signed, Bytes, Text, EnumOf, TupleOf, VectorOf, MapOf, Has, Have, kinds_of}
 use Rattle.sp_methods.specs.Conversions.{to_uint, to_int, to_uint_order, to_int_order, sub, lower, upper}
 use Rattle.sp_methods.specs.Separated.{parts, split1}

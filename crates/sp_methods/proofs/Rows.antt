@@ -3,7 +3,7 @@ use Rattle.std.specs.Prelude.{◌≡◌, pos, neg_ℤ, [], ◌∷◌, Ok, Err, c
 use Rattle.sp_base.specs.declared.kinds.PKind.TheVariants.{BadConversion, Overflow, Index, MissingKey}
 use Rattle.sp_numbers.specs.declared.width.Width.TheVariants.{W8, W64}
 use Rattle.sp_value.specs.Val.{uint, bytes, vector, map, vals_of, entries_of}
-use Rattle.sp_methods.specs.declared.method.Method.TheVariants.{PopBack, Get, GetOr}
+use Rattle.sp_words.specs.declared.methods.Method.TheVariants.{PopBack, Get, GetOr}
 use Rattle.sp_methods.specs.Conversions.{to_uint, to_int, to_uint_order, to_int_order, sub, lower}
 use Rattle.sp_methods.specs.Separated.{split, split1}
 use Rattle.sp_methods.specs.Decoding.{decode}

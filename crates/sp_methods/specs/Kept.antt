@@ -2,7 +2,7 @@
 use Rattle.std.specs.Prelude.{ℕ, List, IsTrue, Result, Ok, Err}
 use Rattle.sp_base.specs.declared.kinds.PKind.{PKind}
 use Rattle.sp_value.specs.Val.{Val}
-use Rattle.sp_methods.specs.declared.method.Method.{Method}
+use Rattle.sp_words.specs.declared.methods.Method.{Method}
 use Rattle.sp_methods.specs.Kinds.{Kind, Have}
 use Rattle.sp_methods.specs.Methods.{method, suits, IsMethod}
 

@@ -1,4 +1,4 @@
--- The table of methods: how many operands each takes, what it makes of them, of which kinds they and its results are.
+-- The table of methods: what each makes of its operands, of which kinds they and its results are.
 use Rattle.std.specs.Prelude.{ℕ, Bool, true, false, List, [], ◌∷◌, Some, None, Result, Ok, Err}
 use Rattle.sp_base.specs.declared.kinds.PKind.{PKind}
 use Rattle.sp_numbers.specs.declared.width.Width.TheVariants.{W64}
@@ -6,40 +6,13 @@ use Rattle.sp_value.specs.Val.{Val, bool, uint, int, bytes, str, enum, tuple, ve
 use Rattle.sp_value.specs.Changes.{with_last}
 use Rattle.sp_operators.specs.Operators.{value_or_error}
 use Rattle.sp_operators.specs.Parts.{begins_with}
-use Rattle.sp_methods.specs.declared.method.Method.{Method}
-use Rattle.sp_methods.specs.declared.method.Method.TheVariants.{ToUint, ToInt, ToUintOrder, ToIntOrder, Sub, StartsWith, Split, Split1, Lower, Upper, Decode, Encode, PushBack, PopBack, Front, Back, Get, GetOr}
+use Rattle.sp_words.specs.declared.methods.Method.{Method}
+use Rattle.sp_words.specs.declared.methods.Method.TheVariants.{ToUint, ToInt, ToUintOrder, ToIntOrder, Sub, StartsWith, Split, Split1, Lower, Upper, Decode, Encode, PushBack, PopBack, Front, Back, Get, GetOr}
 use Rattle.sp_methods.specs.Kinds.{Kind, Bools, Unsigned, Signed, Bytes, Text, EnumOf, TupleOf, VectorOf, MapOf, kinds_of}
 use Rattle.sp_methods.specs.Conversions.{to_uint, to_int, to_uint_order, to_int_order, sub, lower, upper}
 use Rattle.sp_methods.specs.Separated.{split, split1}
 use Rattle.sp_methods.specs.Decoding.{decode}
 use Rattle.sp_methods.specs.Taken.{front, back, popped, got}
-
--- how many operands a method takes, its receiver among them
-abbrev pub arity : Method → ℕ
-arity ToUint = 2
-arity ToInt = 2
-arity ToUintOrder = 2
-arity ToIntOrder = 2
-arity Sub = 3
-arity StartsWith = 2
-arity Split = 2
-arity Split1 = 2
-arity Lower = 1
-arity Upper = 1
-arity Decode = 3
-arity Encode = 1
-arity PushBack = 2
-arity PopBack = 1
-arity Front = 1
-arity Back = 1
-arity Get = 2
-arity GetOr = 3
-
--- whether a method changes its receiver
-abbrev pub changes : Method → Bool
-changes PushBack = true
-changes PopBack = true
-changes _ = false
 
 -- one value, or an error in its place
 abbrev pub alone : Result Val PKind → Result (List Val) PKind

@@ -1,5 +1,5 @@
 -- The members of a value: each is smaller than the value, and comparing them in turn from a place on.
-use Rattle.std.proofs.Common.{◌≡◌, ℕ, zero, suc, ◌+◌, ◌<◌, ◌≤◌, List, [], ◌∷◌, length, drop, get_or, refl, sym, ◌∙◌, subst, arith}
+use Rattle.std.proofs.Common.{◌≡◌, ℕ, zero, suc, ◌+◌, ◌<◌, ◌≤◌, List, [], ◌∷◌, length, drop, get_or, refl, ◌∙◌, arith}
 use Rattle.std.specs.Ordering.{nat_cmp}
 use Rattle.std.proofs.lemmas.Bool.Decides.{nat_tests}
 use Rattle.sp_value.specs.Val.{Val, vals_of, entries_of}
@@ -15,9 +15,6 @@ pub entry_size_within : (es : List (Val × Val)) (i : ℕ) (d : Val × Val) → 
 entry_size_within [] i d h = absurd (omega arith)
 entry_size_within (x ∷ xs) zero d h = omega arith
 entry_size_within (x ∷ xs) (suc i) d h = omega (arith, entry_size_within xs i d (omega arith))
-
-pub entry_size_of : (es : List (Val × Val)) (i : ℕ) (x : Val × Val) → i < length es → x ≡ get_or es i x → val_size x.0 + val_size x.1 + 2 ≤ entries_size (entries_of es)
-entry_size_of es i x h is = let P : Val × Val → Type 0 = λ e. val_size e.0 + val_size e.1 + 2 ≤ entries_size (entries_of es) in subst P (sym is) (entry_size_within es i x h)
 
 after_both : (m n : ℕ) → nat_cmp (suc m) (suc n) ≡ nat_cmp m n
 after_both m n = grind (arith, nat_tests)

@@ -1,5 +1,5 @@
 -- Where a key is in a list that is kept in pieces, and what a change of one piece makes of the list.
-use Rattle.std.proofs.Common.{◌≡◌, ◌≢◌, ℕ, zero, suc, ◌+◌, ◌<◌, ◌≤◌, ◌-◌, List, [], ◌∷◌, ◌++◌, length, get_or, Option, Some, None, Result, Ok, Err, refl, sym, ap, ◌∙◌, subst, arith}
+use Rattle.std.proofs.Common.{◌≡◌, ◌≢◌, ℕ, zero, suc, ◌+◌, ◌<◌, ◌-◌, List, [], ◌∷◌, ◌++◌, length, get_or, Option, Some, None, Result, Ok, Err, refl, sym, ap, ◌∙◌, subst, arith}
 use Rattle.std.proofs.Math.ListN.{set}
 use Rattle.std.specs.Prelude.{Bool, true, false, if◌then◌else◌, is_some, IfOk, OnOk, OnErr, IfSome, unwrap_or}
 use Rattle.std.specs.Option.{option_map, option_map_or}
@@ -13,7 +13,7 @@ use Rattle.sp_value.specs.Val.{Val}
 use Rattle.sp_value.specs.Order.{val_cmp}
 use Rattle.sp_value.specs.Ascending.{entry_key, IsBelowAll, IsAscending, found, with_key, without}
 use Rattle.sp_value.specs.Changes.{with_value_in}
-use Rattle.sp_value.specs.Places.{IsKeyAt, IsGapAt, IsPlace}
+use Rattle.sp_value.specs.Places.{IsKeyAt, IsGapAt}
 use Rattle.sp_value.specs.Pieces.{all_in, NoneEmpty, first_key, AreBelow, IsIn, ArePieces}
 use Rattle.sp_value.proofs.Search.{neighbours, above_like}
 use Rattle.sp_value.proofs.PieceLists.{same_in, length_in, none_at, none_with}

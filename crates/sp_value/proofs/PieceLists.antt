@@ -1,12 +1,10 @@
 -- Lists in pieces, whatever they hold: what a change of a piece makes of the list, and its items one by one.
-use Rattle.std.proofs.Common.{◌≡◌, ◌⊎◌, inl, inr, ℕ, zero, suc, ◌+◌, ◌<◌, ◌≤◌, List, [], ◌∷◌, ◌++◌, length, take, drop, get_or, refl, sym, ap, ◌∙◌, subst, arith}
+use Rattle.std.proofs.Common.{◌≡◌, ℕ, zero, suc, ◌+◌, ◌<◌, ◌≤◌, List, [], ◌∷◌, ◌++◌, length, drop, get_or, refl, sym, ap, ◌∙◌, subst, arith}
 use Rattle.std.proofs.Math.ListN.{set}
 use Rattle.std.specs.List.{insert, remove, AllZip, HoldsAt}
 use Rattle.std.specs.declared.rc.Rc.{Rc}
 use Rattle.std.specs.declared.vec.Vec.{Vec}
-use Rattle.sp_value.specs.Val.{Val}
-use Rattle.sp_value.specs.Ascending.{IsAscending}
-use Rattle.sp_value.specs.Pieces.{all_in, NoneEmpty, NoneEmptyBut, ArePieces, rest_in}
+use Rattle.sp_value.specs.Pieces.{all_in, NoneEmpty, NoneEmptyBut, rest_in}
 
 assoc : {X : Type 0} (xs ys zs : List X) → xs ++ (ys ++ zs) ≡ (xs ++ ys) ++ zs
 assoc [] ys zs = refl
@@ -30,10 +28,6 @@ drop_over (x ∷ xs) (suc i) h = drop_over xs i (omega arith)
 empty_list : {A : Type 0} (xs : List A) → length xs ≡ 0 → xs ≡ []
 empty_list [] h = refl
 empty_list (x ∷ xs) h = absurd (omega arith)
-
--- the second list is a copy of the first
-abbrev IsOwned : {X Y Z : Type 0} → List (Rc (Vec X Y) Z) → List (Rc (Vec X Y) Z) → ℕ → ℕ → Type 0
-IsOwned ps qs m n = AllZip (λ p q. q.value ≡ p.value) ps qs × (n ≡ m)
 
 module _ {X Y Z : Type 0} where
   pub same_in : (ps : List (Rc (Vec X Y) Z)) (c : ℕ) (d q : Rc (Vec X Y) Z) → c < length ps → q.value.items ≡ (get_or ps c d).value.items → all_in (set ps c q) ≡ all_in ps
@@ -153,14 +147,3 @@ module _ {X Y Z : Type 0} where
   none_cloned [] (q ∷ qs) h n = absurd h
   none_cloned (p ∷ ps) [] h n = absurd h
   none_cloned (p ∷ ps) (q ∷ qs) h n = (subst (λ v. 0 < length v.items) (sym h.0) n.0, none_cloned ps qs h.1 n.1)
-
-  pub all_owned : {W : Type 0} (v w : Vec (Rc (Vec X Y) Z) W) (m n : ℕ) → (w ≡ v) ⊎ IsOwned v.items w.items m n → all_in w.items ≡ all_in v.items
-  all_owned v w m n (inl e) = ap (λ u. all_in u.items) e
-  all_owned v w m n (inr h) = all_cloned v.items w.items h.0
-
-  pub pieces_owned : {W : Type 0} (key : X → Val) (v w : Vec (Rc (Vec X Y) Z) W) (m n : ℕ) → (w ≡ v) ⊎ IsOwned v.items w.items m n → ArePieces key v.items → ArePieces key w.items
-  pieces_owned key v w m n (inl e) are = subst (λ u. ArePieces key u.items) (sym e) are
-  pieces_owned key v w m n (inr h) are = record {
-    none_empty = none_cloned v.items w.items h.0 are.none_empty;
-    ascending = subst (IsAscending key) (sym (all_cloned v.items w.items h.0)) are.ascending;
-  }

@@ -1,12 +1,12 @@
 // Integers from bytes.
-ghost use Rattle.std.specs.Prelude.{◌≡◌, ◌≤◌, ◌<◌, ◌*◌, ◌^◌, ◌+ℤ◌, ℕ, pos, length, true, false, if◌then◌else◌};
+ghost use Rattle.std.specs.Prelude.{◌≡◌, ◌≤◌, ◌<◌, ◌*◌, ◌^◌, length, true, false};
 ghost use Rattle.sp_value.specs.Integers.{width_of_bytes, unsigned_of, signed_of, integer_of, IsWidth};
 
 use crate::value::Value;
 use sp_numbers::Width;
 
-/// The number of 1 to 8 bytes without a sign.
-fn read_unsigned(bytes: &[u8], little: bool) -> u64
+/// The number of up to 8 bytes without a sign: the first byte counts most, or least where `little`. Takes no memory.
+pub fn read_unsigned(bytes: &[u8], little: bool) -> u64
     requires { length bytes.now ≤ 8 }
     ensures value { result ≡ unsigned_of little bytes.now }
     ensures range { result < 256 ^ length bytes.now }
@@ -42,18 +42,46 @@ fn read_little(bytes: &[u8]) -> u64
     number
 }
 
-/// The number below `2 * half` in two's complement.
-fn with_sign(number: u64, half: u64, least: i64) -> i64
+/// Half of 256 to the power of a count of 1 to 8 bytes.
+fn half_of(count: usize) -> u64
+    requires some { 0 < count }
+    requires few { count ≤ 8 }
+    ensures value { 2 * result ≡ 256 ^ count }
+    ensures small { result ≤ 2 ^ 63 }
+{
+    match count {
+        1 => 0x80,
+        2 => 0x8000,
+        3 => 0x80_0000,
+        4 => 0x8000_0000,
+        5 => 0x80_0000_0000,
+        6 => 0x8000_0000_0000,
+        7 => 0x80_0000_0000_0000,
+        _ => 0x8000_0000_0000_0000,
+    }
+}
+
+/// The number in two's complement, of which `half` is the least that has the sign.
+fn with_sign(number: u64, half: u64) -> i64
     requires below { number < 2 * half }
     requires half { half ≤ 2 ^ 63 }
-    requires least { least +ℤ pos half ≡ pos 0 }
     ensures { result ≡ signed_of (2 * half) number }
 {
     if number < half {
         number as i64
     } else {
-        (number - half) as i64 + least
+        -((half - 1 - (number - half)) as i64) - 1
     }
+}
+
+/// What a number of 1 to 8 bytes is in two's complement over just these bytes. Takes no memory.
+pub fn signed_number(count: usize, number: u64) -> i64
+    requires some { 0 < count }
+    requires few { count ≤ 8 }
+    requires below { number < 256 ^ count }
+    ensures { result ≡ signed_of (256 ^ count) number }
+{
+    with_sign(number, half_of(count))
 }
 
 /// The width of an integer of so many bytes.
@@ -66,20 +94,6 @@ fn width_of_bytes(count: usize) -> Width
         2 => Width::W16,
         4 => Width::W32,
         _ => Width::W64,
-    }
-}
-
-/// The number of so many bytes in two's complement.
-fn signed_number(count: usize, number: u64) -> i64
-    requires count { IsWidth count }
-    requires below { number < 256 ^ count }
-    ensures { result ≡ signed_of (256 ^ count) number }
-{
-    match count {
-        1 => with_sign(number, 0x80, -0x80),
-        2 => with_sign(number, 0x8000, -0x8000),
-        4 => with_sign(number, 0x8000_0000, -0x8000_0000),
-        _ => with_sign(number, 0x8000_0000_0000_0000, i64::MIN),
     }
 }
 

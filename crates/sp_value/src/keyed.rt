@@ -1,5 +1,5 @@
 // A piece of a set or of a map: a key is found by halves of the ascending list, and put or taken away in place.
-ghost use Rattle.std.specs.Prelude.{◌≡◌, ◌<◌, suc, length, if◌then◌else◌, IfOk, OnOk, OnErr, is_some, option_copied};
+ghost use Rattle.std.specs.Prelude.{◌≡◌, ◌<◌, ◌++◌, suc, length, if◌then◌else◌, IfOk, OnOk, OnErr, is_some, option_copied};
 ghost use Rattle.std.specs.Option.{option_map};
 ghost use Rattle.std.specs.List.{remove};
 ghost use Rattle.sp_value.specs.Val.{Val};
@@ -9,36 +9,78 @@ ghost use Rattle.sp_value.specs.Places.{IsPlace};
 use crate::order::compare;
 use crate::value::Value;
 use sp_base::NoMemory;
+use std::alloc::Global;
 use std::rc::Rc;
 
-/// Where a key is in a set's list, or at `Err` where it belongs.
-fn member_place(keys: &[Value], key: &Value) -> Result<usize, usize>
-    requires { IsAscending own_key keys.now }
-    ensures { IsPlace own_key keys.now key.now result }
-{
-    keys.binary_search_by(|member| compare(member, key))
+/// What stands under a key: a set's member is its own, and a map's entry has one.
+pub(crate) trait Keyed: Drop {
+    /// the key
+    ghost key: { Self → Val };
+
+    fn key(&self) -> &Value
+        ensures { result.now ≡ key self.now };
+
+    /// The same once more.
+    fn duplicate(&self) -> Result<Self, NoMemory>
+        ensures { IfOk result (λ copy. copy ≡ self.now) };
 }
 
-/// Where a key is in a map's list, or at `Err` where it belongs.
-pub(crate) fn entry_place(entries: &[(Value, Value)], key: &Value) -> Result<usize, usize>
-    requires { IsAscending entry_key entries.now }
-    ensures { IsPlace entry_key entries.now key.now result }
-{
-    entries.binary_search_by(|entry| compare(&entry.0, key))
+impl Keyed for Value {
+    ghost key = { own_key };
+
+    fn key(&self) -> &Value {
+        self
+    }
+
+    fn duplicate(&self) -> Result<Value, NoMemory> {
+        self.copy()
+    }
 }
 
-pub(crate) fn has_member(keys: &[Value], key: &Value) -> bool
-    requires { IsAscending own_key keys.now }
-    ensures { result ≡ is_some (found own_key key.now keys.now) }
-{
-    member_place(keys, key).is_ok()
+impl Keyed for (Value, Value) {
+    ghost key = { entry_key };
+
+    fn key(&self) -> &Value {
+        &self.0
+    }
+
+    fn duplicate(&self) -> Result<(Value, Value), NoMemory> {
+        Ok((self.0.copy()?, self.1.copy()?))
+    }
 }
 
-pub(crate) fn has_entry(entries: &[(Value, Value)], key: &Value) -> bool
-    requires { IsAscending entry_key entries.now }
-    ensures { result ≡ is_some (found entry_key key.now entries.now) }
+/// Appends the same once more, each sharing its members with the one that it is a copy of.
+pub(crate) fn append_copies<T: Keyed>(items: &mut Vec<T>, more: &[T]) -> Result<(), NoMemory>
+    ensures { OnOk result (items.new.items ≡ items.old.items ++ more.now) }
 {
-    entry_place(entries, key).is_ok()
+    for item in more {
+        items.push(item.duplicate()?)?;
+    }
+    Ok(())
+}
+
+/// The same in a list of their own.
+pub(crate) fn copy_items<T: Keyed>(alloc: Global, items: &[T]) -> Result<Vec<T>, NoMemory>
+    ensures { IfOk result (λ copies. copies.items ≡ items.now) }
+{
+    let mut copies = Vec::with_capacity(alloc, items.len())?;
+    append_copies(&mut copies, items)?;
+    Ok(copies)
+}
+
+/// Where a key is in the list, or at `Err` where it belongs.
+pub(crate) fn place<T: Keyed>(items: &[T], key: &Value) -> Result<usize, usize>
+    requires { IsAscending T.key items.now }
+    ensures { IsPlace T.key items.now key.now result }
+{
+    items.binary_search_by(|item| compare(item.key(), key))
+}
+
+pub(crate) fn has<T: Keyed>(items: &[T], key: &Value) -> bool
+    requires { IsAscending T.key items.now }
+    ensures { result ≡ is_some (found T.key key.now items.now) }
+{
+    place(items, key).is_ok()
 }
 
 pub(crate) fn value_in<'a>(entries: &'a [(Value, Value)], key: &Value) -> Option<&'a Value>
@@ -46,131 +88,85 @@ pub(crate) fn value_in<'a>(entries: &'a [(Value, Value)], key: &Value) -> Option
     ensures { option_copied result ≡ option_map (λ (e : Val × Val). e.1)
         (found entry_key key.now entries.now) }
 {
-    match entry_place(entries, key) {
+    match place(entries, key) {
         Ok(i) => Some(&entries[i].1),
         Err(_) => None,
     }
 }
 
-fn put_member(keys: &mut Vec<Value>, key: Value) -> Result<bool, NoMemory>
-    requires { IsAscending own_key keys.old.items }
-    ensures ok { OnOk result (keys.new.items ≡ with_key own_key key keys.old.items) }
-    ensures grows { IfOk result (λ new. length keys.new.items ≡
-        (if new then suc (length keys.old.items) else length keys.old.items)) }
-    ensures err { OnErr result (keys.new.items ≡ keys.old.items) }
+fn put<T: Keyed>(items: &mut Vec<T>, item: T) -> Result<bool, NoMemory>
+    requires { IsAscending T.key items.old.items }
+    ensures ok { OnOk result (items.new.items ≡ with_key T.key item items.old.items) }
+    ensures grows { IfOk result (λ new. length items.new.items ≡
+        (if new then suc (length items.old.items) else length items.old.items)) }
+    ensures err { OnErr result (items.new.items ≡ items.old.items) }
 {
-    match member_place(keys.as_slice(), &key) {
+    match place(items.as_slice(), item.key()) {
         Ok(i) => {
-            keys[i] = key;
+            items[i] = item;
             Ok(false)
         }
         Err(i) => {
-            keys.insert(i, key)?;
+            items.insert(i, item)?;
             Ok(true)
         }
     }
 }
 
-fn put_entry(entries: &mut Vec<(Value, Value)>, key: Value, value: Value) -> Result<bool, NoMemory>
-    requires { IsAscending entry_key entries.old.items }
-    ensures ok { OnOk result (entries.new.items ≡ with_key entry_key (key, value) entries.old.items) }
-    ensures grows { IfOk result (λ new. length entries.new.items ≡
-        (if new then suc (length entries.old.items) else length entries.old.items)) }
-    ensures err { OnErr result (entries.new.items ≡ entries.old.items) }
+/// Makes the piece one that no copy shares.
+fn own_items<T: Keyed>(items: &mut Rc<Vec<T>>) -> Result<(), NoMemory>
+    ensures { items.new.value.items ≡ items.old.value.items }
 {
-    match entry_place(entries.as_slice(), &key) {
-        Ok(i) => {
-            entries[i] = (key, value);
-            Ok(false)
-        }
-        Err(i) => {
-            entries.insert(i, (key, value))?;
+    if Rc::strong_count(items) != 1 {
+        let alloc = *items.allocator();
+        let copies = copy_items(alloc, items.as_slice())?;
+        *items = Rc::new(alloc, copies)?;
+    }
+    Ok(())
+}
+
+/// Puts an item into a piece, and answers whether its key is new.
+pub(crate) fn put_shared<T: Keyed>(items: &mut Rc<Vec<T>>, item: T) -> Result<bool, NoMemory>
+    requires { IsAscending T.key items.old.value.items }
+    ensures ok { OnOk result (items.new.value.items ≡ with_key T.key item items.old.value.items) }
+    ensures grows { IfOk result (λ new. length items.new.value.items ≡
+        (if new then suc (length items.old.value.items) else length items.old.value.items)) }
+    ensures err { OnErr result (items.new.value.items ≡ items.old.value.items) }
+{
+    own_items(items)?;
+    match Rc::get_mut(items) {
+        Some(own) => put(own, item),
+        None => Err(NoMemory),
+    }
+}
+
+fn remove_item<T: Keyed>(items: &mut Rc<Vec<T>>, i: usize) -> Result<bool, NoMemory>
+    requires { i < length items.old.value.items }
+    ensures ok { OnOk result (items.new.value.items ≡ remove items.old.value.items i) }
+    ensures shrinks { IfOk result (λ took. length items.old.value.items ≡
+        (if took then suc (length items.new.value.items) else length items.new.value.items)) }
+    ensures err { OnErr result (items.new.value.items ≡ items.old.value.items) }
+{
+    own_items(items)?;
+    match Rc::get_mut(items) {
+        Some(own) => {
+            own.remove(i);
             Ok(true)
         }
-    }
-}
-
-/// Puts a key into a piece, and answers whether it is new.
-pub(crate) fn put_member_shared(keys: &mut Rc<Vec<Value>>, key: Value) -> Result<bool, NoMemory>
-    requires { IsAscending own_key keys.old.value.items }
-    ensures ok { OnOk result (keys.new.value.items ≡ with_key own_key key keys.old.value.items) }
-    ensures grows { IfOk result (λ new. length keys.new.value.items ≡
-        (if new then suc (length keys.old.value.items) else length keys.old.value.items)) }
-    ensures err { OnErr result (keys.new.value.items ≡ keys.old.value.items) }
-{
-    let own = Rc::make_mut(keys)?;
-    put_member(own, key)
-}
-
-/// Puts an entry into a piece, and answers whether its key is new.
-pub(crate) fn put_entry_shared(
-    entries: &mut Rc<Vec<(Value, Value)>>,
-    key: Value,
-    value: Value,
-) -> Result<bool, NoMemory>
-    requires { IsAscending entry_key entries.old.value.items }
-    ensures ok { OnOk result (entries.new.value.items ≡ with_key entry_key (key, value)
-        entries.old.value.items) }
-    ensures grows { IfOk result (λ new. length entries.new.value.items ≡
-        (if new then suc (length entries.old.value.items) else length entries.old.value.items)) }
-    ensures err { OnErr result (entries.new.value.items ≡ entries.old.value.items) }
-{
-    let own = Rc::make_mut(entries)?;
-    put_entry(own, key, value)
-}
-
-fn remove_member(keys: &mut Rc<Vec<Value>>, i: usize) -> Result<bool, NoMemory>
-    requires { i < length keys.old.value.items }
-    ensures ok { OnOk result (keys.new.value.items ≡ remove keys.old.value.items i) }
-    ensures shrinks { IfOk result (λ took. length keys.old.value.items ≡
-        (if took then suc (length keys.new.value.items) else length keys.new.value.items)) }
-    ensures err { OnErr result (keys.new.value.items ≡ keys.old.value.items) }
-{
-    let own = Rc::make_mut(keys)?;
-    own.remove(i);
-    Ok(true)
-}
-
-fn remove_entry(entries: &mut Rc<Vec<(Value, Value)>>, i: usize) -> Result<bool, NoMemory>
-    requires { i < length entries.old.value.items }
-    ensures ok { OnOk result (entries.new.value.items ≡ remove entries.old.value.items i) }
-    ensures shrinks { IfOk result (λ took. length entries.old.value.items ≡
-        (if took then suc (length entries.new.value.items) else length entries.new.value.items)) }
-    ensures err { OnErr result (entries.new.value.items ≡ entries.old.value.items) }
-{
-    let own = Rc::make_mut(entries)?;
-    own.remove(i);
-    Ok(true)
-}
-
-/// Takes a key away from a piece, and answers whether it was there. The piece is copied only then.
-pub(crate) fn take_member(keys: &mut Rc<Vec<Value>>, key: &Value) -> Result<bool, NoMemory>
-    requires { IsAscending own_key keys.old.value.items }
-    ensures ok { OnOk result (keys.new.value.items ≡ without own_key key.now keys.old.value.items) }
-    ensures shrinks { IfOk result (λ took. length keys.old.value.items ≡
-        (if took then suc (length keys.new.value.items) else length keys.new.value.items)) }
-    ensures err { OnErr result (keys.new.value.items ≡ keys.old.value.items) }
-{
-    match member_place(keys.as_slice(), key) {
-        Ok(i) => remove_member(keys, i),
-        Err(_) => Ok(false),
+        None => Err(NoMemory),
     }
 }
 
 /// Takes a key away from a piece, and answers whether it was there. The piece is copied only then.
-pub(crate) fn take_entry(
-    entries: &mut Rc<Vec<(Value, Value)>>,
-    key: &Value,
-) -> Result<bool, NoMemory>
-    requires { IsAscending entry_key entries.old.value.items }
-    ensures ok { OnOk result (entries.new.value.items
-        ≡ without entry_key key.now entries.old.value.items) }
-    ensures shrinks { IfOk result (λ took. length entries.old.value.items ≡
-        (if took then suc (length entries.new.value.items) else length entries.new.value.items)) }
-    ensures err { OnErr result (entries.new.value.items ≡ entries.old.value.items) }
+pub(crate) fn take<T: Keyed>(items: &mut Rc<Vec<T>>, key: &Value) -> Result<bool, NoMemory>
+    requires { IsAscending T.key items.old.value.items }
+    ensures ok { OnOk result (items.new.value.items ≡ without T.key key.now items.old.value.items) }
+    ensures shrinks { IfOk result (λ took. length items.old.value.items ≡
+        (if took then suc (length items.new.value.items) else length items.new.value.items)) }
+    ensures err { OnErr result (items.new.value.items ≡ items.old.value.items) }
 {
-    match entry_place(entries.as_slice(), key) {
-        Ok(i) => remove_entry(entries, i),
+    match place(items.as_slice(), key) {
+        Ok(i) => remove_item(items, i),
         Err(_) => Ok(false),
     }
 }

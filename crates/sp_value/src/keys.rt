@@ -1,165 +1,87 @@
 // Sets and maps: keys are asked for, put and taken away.
 ghost use Rattle.std.specs.Prelude.{◌≡◌, suc, length, if◌then◌else◌, IfOk, OnOk, OnErr, option_copied};
-ghost use Rattle.sp_value.specs.Ascending.{own_key, entry_key, with_key, without};
+ghost use Rattle.sp_value.specs.Ascending.{with_key, without};
 ghost use Rattle.sp_value.specs.Pieces.{all_in, ArePieces};
 ghost use Rattle.sp_value.specs.Changes.{IsSet, IsMap, IsKeyed, value_at, has_key, with_entry, with_member, without_key};
 
-use crate::maps::{map_get, map_has, map_put, map_take};
+use crate::keyed::Keyed;
+use crate::keyed_pieces::{has_key, put_item, take_key};
+use crate::maps::map_get;
 use crate::pieces::own_pieces;
-use crate::sets::{set_has, set_put, set_take};
 use crate::value::{Node, Value};
 use sp_base::NoMemory;
 use std::rc::Rc;
 
-fn set_put_shared(pieces: &mut Rc<Vec<Rc<Vec<Value>>>>, key: Value) -> Result<bool, NoMemory>
-    requires { ArePieces own_key pieces.old.value.items }
-    ensures ok { OnOk result (all_in pieces.new.value.items ≡ with_key own_key key
+fn put_own<T: Keyed>(pieces: &mut Rc<Vec<Rc<Vec<T>>>>, item: T) -> Result<bool, NoMemory>
+    requires { ArePieces T.key pieces.old.value.items }
+    ensures ok { OnOk result (all_in pieces.new.value.items ≡ with_key T.key item
         (all_in pieces.old.value.items)) }
     ensures grows { IfOk result (λ new. length (all_in pieces.new.value.items) ≡
         (if new then suc (length (all_in pieces.old.value.items)) else length
         (all_in pieces.old.value.items))) }
     ensures err { OnErr result (all_in pieces.new.value.items ≡ all_in pieces.old.value.items) }
-    ensures pieces { ArePieces own_key pieces.new.value.items }
+    ensures pieces { ArePieces T.key pieces.new.value.items }
 {
     own_pieces(pieces)?;
     match Rc::get_mut(pieces) {
-        Some(own) => set_put(own, key),
+        Some(own) => put_item(own, item),
         None => Err(NoMemory),
     }
 }
 
-fn set_take_shared(pieces: &mut Rc<Vec<Rc<Vec<Value>>>>, key: &Value) -> Result<bool, NoMemory>
-    requires { ArePieces own_key pieces.old.value.items }
-    ensures ok { OnOk result (all_in pieces.new.value.items ≡ without own_key key.now
+fn take_own<T: Keyed>(pieces: &mut Rc<Vec<Rc<Vec<T>>>>, key: &Value) -> Result<bool, NoMemory>
+    requires { ArePieces T.key pieces.old.value.items }
+    ensures ok { OnOk result (all_in pieces.new.value.items ≡ without T.key key.now
         (all_in pieces.old.value.items)) }
     ensures shrinks { IfOk result (λ took. length (all_in pieces.old.value.items) ≡
         (if took then suc (length (all_in pieces.new.value.items)) else length
         (all_in pieces.new.value.items))) }
     ensures err { OnErr result (all_in pieces.new.value.items ≡ all_in pieces.old.value.items) }
-    ensures pieces { ArePieces own_key pieces.new.value.items }
+    ensures pieces { ArePieces T.key pieces.new.value.items }
 {
     own_pieces(pieces)?;
     match Rc::get_mut(pieces) {
-        Some(own) => set_take(own, key),
+        Some(own) => take_key(own, key),
         None => Err(NoMemory),
     }
 }
 
-fn map_put_shared(
-    pieces: &mut Rc<Vec<Rc<Vec<(Value, Value)>>>>,
-    key: Value,
-    value: Value,
-) -> Result<bool, NoMemory>
-    requires { ArePieces entry_key pieces.old.value.items }
-    ensures ok { OnOk result (all_in pieces.new.value.items ≡ with_key entry_key (key, value)
-        (all_in pieces.old.value.items)) }
-    ensures grows { IfOk result (λ new. length (all_in pieces.new.value.items) ≡
-        (if new then suc (length (all_in pieces.old.value.items)) else length
-        (all_in pieces.old.value.items))) }
-    ensures err { OnErr result (all_in pieces.new.value.items ≡ all_in pieces.old.value.items) }
-    ensures pieces { ArePieces entry_key pieces.new.value.items }
-{
-    own_pieces(pieces)?;
-    match Rc::get_mut(pieces) {
-        Some(own) => map_put(own, key, value),
-        None => Err(NoMemory),
-    }
-}
-
-fn map_take_shared(
-    pieces: &mut Rc<Vec<Rc<Vec<(Value, Value)>>>>,
-    key: &Value,
-) -> Result<bool, NoMemory>
-    requires { ArePieces entry_key pieces.old.value.items }
-    ensures ok { OnOk result (all_in pieces.new.value.items ≡ without entry_key key.now
-        (all_in pieces.old.value.items)) }
-    ensures shrinks { IfOk result (λ took. length (all_in pieces.old.value.items) ≡
-        (if took then suc (length (all_in pieces.new.value.items)) else length
-        (all_in pieces.new.value.items))) }
-    ensures err { OnErr result (all_in pieces.new.value.items ≡ all_in pieces.old.value.items) }
-    ensures pieces { ArePieces entry_key pieces.new.value.items }
-{
-    own_pieces(pieces)?;
-    match Rc::get_mut(pieces) {
-        Some(own) => map_take(own, key),
-        None => Err(NoMemory),
-    }
-}
-
-fn put_in_set(n: &mut u32, pieces: &mut Rc<Vec<Rc<Vec<Value>>>>, key: Value) -> Result<(), NoMemory>
-    requires pieces { ArePieces own_key pieces.old.value.items }
+fn put_counted<T: Keyed>(
+    n: &mut u32,
+    pieces: &mut Rc<Vec<Rc<Vec<T>>>>,
+    item: T,
+) -> Result<(), NoMemory>
+    requires pieces { ArePieces T.key pieces.old.value.items }
     requires count { n.old ≡ length (all_in pieces.old.value.items) }
-    ensures ok { OnOk result (all_in pieces.new.value.items ≡ with_key own_key key
+    ensures ok { OnOk result (all_in pieces.new.value.items ≡ with_key T.key item
         (all_in pieces.old.value.items)) }
     ensures err { OnErr result (all_in pieces.new.value.items ≡ all_in pieces.old.value.items) }
-    ensures pieces { ArePieces own_key pieces.new.value.items }
+    ensures pieces { ArePieces T.key pieces.new.value.items }
     ensures count { n.new ≡ length (all_in pieces.new.value.items) }
 {
     if *n == u32::MAX {
         return Err(NoMemory);
     }
-    if set_put_shared(pieces, key)? {
+    if put_own(pieces, item)? {
         *n += 1;
     }
     Ok(())
 }
 
-fn put_in_map(
+fn take_counted<T: Keyed>(
     n: &mut u32,
-    pieces: &mut Rc<Vec<Rc<Vec<(Value, Value)>>>>,
-    key: Value,
-    value: Value,
-) -> Result<(), NoMemory>
-    requires pieces { ArePieces entry_key pieces.old.value.items }
-    requires count { n.old ≡ length (all_in pieces.old.value.items) }
-    ensures ok { OnOk result (all_in pieces.new.value.items ≡ with_key entry_key (key, value)
-        (all_in pieces.old.value.items)) }
-    ensures err { OnErr result (all_in pieces.new.value.items ≡ all_in pieces.old.value.items) }
-    ensures pieces { ArePieces entry_key pieces.new.value.items }
-    ensures count { n.new ≡ length (all_in pieces.new.value.items) }
-{
-    if *n == u32::MAX {
-        return Err(NoMemory);
-    }
-    if map_put_shared(pieces, key, value)? {
-        *n += 1;
-    }
-    Ok(())
-}
-
-fn take_from_set(
-    n: &mut u32,
-    pieces: &mut Rc<Vec<Rc<Vec<Value>>>>,
+    pieces: &mut Rc<Vec<Rc<Vec<T>>>>,
     key: &Value,
 ) -> Result<(), NoMemory>
-    requires pieces { ArePieces own_key pieces.old.value.items }
+    requires pieces { ArePieces T.key pieces.old.value.items }
     requires count { n.old ≡ length (all_in pieces.old.value.items) }
-    ensures ok { OnOk result (all_in pieces.new.value.items ≡ without own_key key.now
+    ensures ok { OnOk result (all_in pieces.new.value.items ≡ without T.key key.now
         (all_in pieces.old.value.items)) }
     ensures err { OnErr result (all_in pieces.new.value.items ≡ all_in pieces.old.value.items) }
-    ensures pieces { ArePieces own_key pieces.new.value.items }
+    ensures pieces { ArePieces T.key pieces.new.value.items }
     ensures count { n.new ≡ length (all_in pieces.new.value.items) }
 {
-    if set_take_shared(pieces, key)? {
-        *n -= 1;
-    }
-    Ok(())
-}
-
-fn take_from_map(
-    n: &mut u32,
-    pieces: &mut Rc<Vec<Rc<Vec<(Value, Value)>>>>,
-    key: &Value,
-) -> Result<(), NoMemory>
-    requires pieces { ArePieces entry_key pieces.old.value.items }
-    requires count { n.old ≡ length (all_in pieces.old.value.items) }
-    ensures ok { OnOk result (all_in pieces.new.value.items ≡ without entry_key key.now
-        (all_in pieces.old.value.items)) }
-    ensures err { OnErr result (all_in pieces.new.value.items ≡ all_in pieces.old.value.items) }
-    ensures pieces { ArePieces entry_key pieces.new.value.items }
-    ensures count { n.new ≡ length (all_in pieces.new.value.items) }
-{
-    if map_take_shared(pieces, key)? {
+    if take_own(pieces, key)? {
         *n -= 1;
     }
     Ok(())
@@ -173,8 +95,8 @@ impl Value {
         ensures { result ≡ has_key self.now key.now }
     {
         match &self.node {
-            Node::Set(_, keys) => set_has(keys.as_slice(), key),
-            Node::Map(_, entries) => map_has(entries.as_slice(), key),
+            Node::Set(_, keys) => has_key(keys.as_slice(), key),
+            Node::Map(_, entries) => has_key(entries.as_slice(), key),
             _ => unreachable!(),
         }
     }
@@ -199,7 +121,7 @@ impl Value {
         ensures err { OnErr result (self.new ≡ self.old) }
     {
         match &mut self.node {
-            Node::Map(n, entries) => put_in_map(n, entries, key, value),
+            Node::Map(n, entries) => put_counted(n, entries, (key, value)),
             _ => unreachable!(),
         }
     }
@@ -212,7 +134,7 @@ impl Value {
         ensures err { OnErr result (self.new ≡ self.old) }
     {
         match &mut self.node {
-            Node::Set(n, keys) => put_in_set(n, keys, key),
+            Node::Set(n, keys) => put_counted(n, keys, key),
             _ => unreachable!(),
         }
     }
@@ -225,8 +147,8 @@ impl Value {
         ensures err { OnErr result (self.new ≡ self.old) }
     {
         match &mut self.node {
-            Node::Set(n, keys) => take_from_set(n, keys, key),
-            Node::Map(n, entries) => take_from_map(n, entries, key),
+            Node::Set(n, keys) => take_counted(n, keys, key),
+            Node::Map(n, entries) => take_counted(n, entries, key),
             _ => unreachable!(),
         }
     }

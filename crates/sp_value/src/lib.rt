@@ -5,6 +5,7 @@ mod bitfields;
 mod change;
 mod integers;
 mod keyed;
+mod keyed_pieces;
 mod keys;
 mod laws;
 mod level;
@@ -15,17 +16,16 @@ mod order;
 mod parts;
 mod pieces;
 mod read;
-mod sets;
 mod swap;
 #[cfg(test)]
 mod tests;
 mod value;
 
 pub use bitfields::read_bits;
-pub use integers::read_int;
+pub use integers::{read_int, read_unsigned, signed_number};
 pub use laws::{law_of_equality, law_of_keys, law_of_order};
 pub use level::Level;
-pub use list::{Values, copy_all, copy_entries};
+pub use list::{Values, copy_all};
 pub use order::{compare, kind};
 pub use parts::Parts;
 pub use pieces::{Cursor, next_in};

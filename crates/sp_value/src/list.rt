@@ -1,6 +1,7 @@
 // Lists of values.
 ghost use Rattle.std.specs.Prelude.{◌≡◌, IfOk};
 
+use crate::keyed::copy_items;
 use crate::value::Value;
 use sp_base::NoMemory;
 use std::alloc::Global;
@@ -55,27 +56,9 @@ impl Values {
     }
 }
 
-/// The same keys and values in a list of their own.
-pub fn copy_entries(
-    alloc: Global,
-    entries: &[(Value, Value)],
-) -> Result<Vec<(Value, Value)>, NoMemory>
-    ensures { IfOk result (λ copies. copies.items ≡ entries.now) }
-{
-    let mut copies = Vec::with_capacity(alloc, entries.len())?;
-    for (key, value) in entries {
-        copies.push((key.copy()?, value.copy()?))?;
-    }
-    Ok(copies)
-}
-
 /// The same values in a list of their own. Each shares its members with the one that it is a copy of.
 pub fn copy_all(alloc: Global, values: &[Value]) -> Result<Vec<Value>, NoMemory>
     ensures { IfOk result (λ copies. copies.items ≡ values.now) }
 {
-    let mut copies = Vec::with_capacity(alloc, values.len())?;
-    for value in values {
-        copies.push(value.copy()?)?;
-    }
-    Ok(copies)
+    copy_items(alloc, values)
 }

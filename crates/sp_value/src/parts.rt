@@ -1,8 +1,9 @@
 // A value taken apart, so that what it holds is moved.
-ghost use Rattle.std.specs.Prelude.{◌≡◌, ◌++◌, IfOk, OnOk};
+ghost use Rattle.std.specs.Prelude.{◌≡◌, IfOk};
 ghost use Rattle.sp_value.specs.Owned.{value_of_parts};
 ghost use Rattle.sp_value.specs.Pieces.{all_in};
 
+use crate::keyed::{Keyed, append_copies};
 use crate::value::{Node, Value};
 use sp_base::NoMemory;
 use sp_numbers::Width;
@@ -35,50 +36,15 @@ pub enum Parts {
     Place(u64),
 }
 
-/// The members of all pieces in one list.
-fn all_members(alloc: Global, pieces: &[Rc<Vec<Value>>]) -> Result<Vec<Value>, NoMemory>
-    ensures { IfOk result (λ members. members.items ≡ all_in pieces.now) }
+/// The items of all pieces in one list.
+fn all_items<T: Keyed>(alloc: Global, pieces: &[Rc<Vec<T>>]) -> Result<Vec<T>, NoMemory>
+    ensures { IfOk result (λ items. items.items ≡ all_in pieces.now) }
 {
-    let mut members = Vec::new(alloc);
+    let mut items = Vec::new(alloc);
     for piece in pieces {
-        append_copies(&mut members, piece.as_slice())?;
+        append_copies(&mut items, piece.as_slice())?;
     }
-    Ok(members)
-}
-
-fn append_copies(members: &mut Vec<Value>, more: &[Value]) -> Result<(), NoMemory>
-    ensures { OnOk result (members.new.items ≡ members.old.items ++ more.now) }
-{
-    for member in more {
-        members.push(member.copy()?)?;
-    }
-    Ok(())
-}
-
-/// The entries of all pieces in one list.
-fn all_entries(
-    alloc: Global,
-    pieces: &[Rc<Vec<(Value, Value)>>],
-) -> Result<Vec<(Value, Value)>, NoMemory>
-    ensures { IfOk result (λ entries. entries.items ≡ all_in pieces.now) }
-{
-    let mut entries = Vec::new(alloc);
-    for piece in pieces {
-        append_entries(&mut entries, piece.as_slice())?;
-    }
-    Ok(entries)
-}
-
-fn append_entries(
-    entries: &mut Vec<(Value, Value)>,
-    more: &[(Value, Value)],
-) -> Result<(), NoMemory>
-    ensures { OnOk result (entries.new.items ≡ entries.old.items ++ more.now) }
-{
-    for (key, value) in more {
-        entries.push((key.copy()?, value.copy()?))?;
-    }
-    Ok(())
+    Ok(items)
 }
 
 impl Value {
@@ -98,8 +64,8 @@ impl Value {
             Node::Bits(kind, ranges) => Parts::Bits(kind, Rc::unwrap_or_clone(ranges)?),
             Node::Tuple(members) => Parts::Tuple(Rc::unwrap_or_clone(members)?),
             Node::Vector(items) => Parts::Vector(Rc::unwrap_or_clone(items)?),
-            Node::Set(_, keys) => Parts::Set(all_members(*keys.allocator(), keys.as_slice())?),
-            Node::Map(_, entries) => Parts::Map(all_entries(
+            Node::Set(_, keys) => Parts::Set(all_items(*keys.allocator(), keys.as_slice())?),
+            Node::Map(_, entries) => Parts::Map(all_items(
                 *entries.allocator(),
                 entries.as_slice(),
             )?),

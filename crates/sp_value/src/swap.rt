@@ -6,7 +6,7 @@ ghost use Rattle.sp_value.specs.Ascending.{entry_key, IsAscending, found};
 ghost use Rattle.sp_value.specs.Pieces.{all_in, ArePieces};
 ghost use Rattle.sp_value.specs.Changes.{IsSequence, IsMap, items_of, with_item, value_at, has_key, with_value_in, with_value};
 
-use crate::keyed::entry_place;
+use crate::keyed::place;
 use crate::maps::map_swap;
 use crate::pieces::own_pieces;
 use crate::value::{Node, Value};
@@ -61,7 +61,7 @@ pub(crate) fn swap_entry(
     ensures kept { OnErr result (x.new ≡ x.old) }
     ensures length { length entries.new.value.items ≡ length entries.old.value.items }
 {
-    match entry_place(entries.as_slice(), key) {
+    match place(entries.as_slice(), key) {
         Ok(i) => swap_at(entries, i, x),
         Err(_) => Ok(false),
     }

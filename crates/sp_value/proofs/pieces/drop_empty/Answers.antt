@@ -1,5 +1,4 @@
-use Rattle.std.proofs.Common.{◌≡◌, ◌<◌, ℕ, length, sym, subst, ap, ◌∙◌, arith, rules}
-use Rattle.std.specs.List.{remove}
+use Rattle.std.proofs.Common.{◌≡◌, ◌<◌, length, sym, subst, ap, ◌∙◌, rules}
 use Rattle.sp_value.specs.Pieces.{all_in, NoneEmpty}
 use Rattle.sp_value.proofs.PieceLists.{all_without_empty, none_without, none_of_but}
 use Rattle.sp_value.proofs.pieces.drop_empty.Goals as goal

@@ -1,4 +1,4 @@
-use Rattle.std.proofs.Common.{◌≡◌, ◌<◌, ◌≤◌, ◌+◌, ℕ, length, sym, subst, ◌∙◌, arith, rules}
+use Rattle.std.proofs.Common.{◌<◌, ◌≤◌, ◌+◌, length, sym, subst, ◌∙◌, arith, rules}
 use Rattle.sp_value.proofs.PieceLists.{rest_ended, here, over, some_at}
 use Rattle.sp_value.proofs.pieces.next_in.Goals as goal
 
