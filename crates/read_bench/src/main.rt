@@ -24,6 +24,7 @@ struct Counts {
 }
 
 /// How many actions were passed.
+#[derive(Drop)]
 struct ActionCount {
     actions: u64,
 }
