@@ -1,9 +1,11 @@
 //! Reads the statements of the text on standard input one behind the other, and counts them, for measurements. With the
-//! word `trees` it makes their trees, and without it no more than their actions, which it counts too.
+//! word `trees` it makes their trees, and without it no more than their actions, which it counts.
 #![tactic(auto)]
 
+use sp_base::NoMemory;
 use sp_grammar::Start;
 use sp_lex::{ReadFault, Tokens, lex};
+use sp_parser::Sink;
 use sp_read_expr::read_stmt;
 use sp_runs::read_from;
 use std::alloc::Global;
@@ -21,6 +23,25 @@ struct Counts {
     actions: u64,
 }
 
+/// How many actions were passed.
+#[derive(Drop)]
+struct ActionCount {
+    actions: u64,
+}
+
+impl Sink for ActionCount {
+    ghost became = { λ _ _ _. Unit {0} };
+
+    fn pass(&mut self, _action: u8, _at: u32) -> Result<(), NoMemory> {
+        self.actions = self.actions.saturating_add(1);
+        Ok(())
+    }
+
+    fn clear(&mut self) {
+        self.actions = 0;
+    }
+}
+
 /// Counts the statements and their actions.
 fn count_actions(alloc: Global, tokens: &Tokens) -> Result<Counts, ReadFault> {
     let mut statements: u64 = 0;
@@ -30,10 +51,10 @@ fn count_actions(alloc: Global, tokens: &Tokens) -> Result<Counts, ReadFault> {
         if at as usize >= tokens.len() {
             break;
         }
-        let parsed = read_from(alloc, tokens, Start::Stmt, at)?;
+        let mut passed = ActionCount { actions: 0 };
+        at = read_from(alloc, tokens, Start::Stmt, at, &mut passed)?;
         statements = statements.saturating_add(1);
-        actions = actions.saturating_add(parsed.actions.len() as u64);
-        at = parsed.to;
+        actions = actions.saturating_add(passed.actions);
     }
     Ok(Counts {
         tokens: tokens.len(),

@@ -1,6 +1,6 @@
 -- Each tree that the rules build has the parts of its alternatives.
 use Rattle.std.specs.Prelude.{reverse, option_map}
-use Rattle.std.proofs.Common.{◌≡◌, ℕ, ◌&&◌, List, [], ◌∷◌, Bool, Option, Some, None, true, false, refl, ap, sym, ◌∙◌, subst, inl, inr}
+use Rattle.std.proofs.Common.{◌≡◌, ℕ, List, [], ◌∷◌, Bool, Option, Some, None, true, refl, ap, ◌∙◌, subst, inl, inr}
 use Rattle.std.proofs.lemmas.Bool.{and_from, cases_Bool}
 use Rattle.sp_base.specs.declared.places.Span.{Span}
 use Rattle.sp_lex.specs.declared.tokens.Token.{Token}
@@ -15,9 +15,9 @@ use Rattle.sp_ast.specs.declared.groups.Sort.TheVariants.{One as one}
 use Rattle.sp_ast.specs.declared.groups.Slot.{Slot}
 use Rattle.sp_ast.specs.declared.groups.Slot.TheVariants.{Part as part, Several as several}
 use Rattle.sp_ast.specs.Groups.{is_node, is_of, fits}
-use Rattle.sp_ast.specs.Slots.{slots, fill, an, is_formed, are_formed}
+use Rattle.sp_ast.specs.Slots.{slots, fill, is_formed, are_formed}
 use Rattle.sp_ast.specs.Trees.{Tree, absent, row, node, more, none, trees, tree, in_row, respan, span_of}
-use Rattle.sp_build.specs.Items.{Item, begun, built}
+use Rattle.sp_build.specs.Items.{begun, built}
 use Rattle.sp_build.specs.Rules.{Rule, begins, leaves_out, takes, gathers, closes, closes_integer, closes_attribute, encloses, joins, wraps, rule}
 use Rattle.sp_build.specs.RuleParts.{HasParts}
 use Rattle.sp_build.specs.Tokens.{form_of, integer_of, attribute_of}

@@ -1,6 +1,6 @@
 -- Trees that are found on the stack, one after another.
 use Rattle.std.specs.Prelude.{Bool}
-use Rattle.std.proofs.Common.{◌≡◌, ℕ, ◌<◌, ◌≤◌, ◌-◌, length, arith, zero, suc, List, [], ◌∷◌, drop, true, false, if◌then◌else◌, Option, Some, None, refl, ap, sym, ◌∙◌, subst}
+use Rattle.std.proofs.Common.{◌≡◌, ℕ, ◌<◌, ◌≤◌, ◌-◌, length, arith, zero, suc, List, [], ◌∷◌, drop, true, false, Option, Some, None, refl, ap, sym, ◌∙◌, subst}
 use Rattle.sp_ast.specs.Trees.{Tree, span_of}
 use Rattle.sp_ast.specs.declared.groups.Group.{Group}
 use Rattle.sp_ast.specs.declared.groups.Sort.{Sort}

@@ -1,19 +1,19 @@
 -- What each change of the stack's lists makes of the stack, and that they still hold together.
 use Rattle.std.specs.Prelude.{reverse}
-use Rattle.std.proofs.Common.{◌≡◌, ℕ, ◌+◌, ◌-◌, ◌<◌, ◌≤◌, zero, suc, List, [], ◌∷◌, ◌++◌, length, get_or, take, drop, set, map, true, refl, ap, sym, ◌∙◌, subst, arith, inl, inr}
+use Rattle.std.proofs.Common.{◌≡◌, ℕ, ◌+◌, ◌-◌, ◌<◌, ◌≤◌, zero, suc, List, [], ◌∷◌, ◌++◌, length, get_or, take, drop, true, refl, ap, sym, ◌∙◌, subst, arith, inl, inr}
 use Rattle.std.specs.Prelude.{None}
 use Rattle.std.proofs.lemmas.Bool.{cases_eq}
-use Rattle.std.proofs.lemmas.List.{get_or_default, drop-map, length-drop, drop-append-le, get_or-map, map-append, length-append, length-map, length-set, length-take-le, length_push, reverse-append, take-append-le, take_at, take_all, take_more, take_more_set, take-map, get_or_at, same_from_push}
+use Rattle.std.proofs.lemmas.List.{get_or_default, drop-map, length-drop, drop-append-le, get_or-map, map-append, length-append, length-map, length-take-le, length_push, reverse-append, take-append-le, take_at, take_all, take_more, take-map, get_or_at, same_from_push}
 use Rattle.sp_base.specs.declared.places.Span.{Span}
-use Rattle.sp_ast.specs.Trees.{Tree, absent, row, node, none, in_row, respan}
+use Rattle.sp_ast.specs.Trees.{Tree, absent, row, none, in_row, respan}
 use Rattle.sp_ast.specs.Groups.{is_node}
 use Rattle.sp_ast.specs.Places.{tree_at, trees_at, IsPlace, ArePlaces, left_out, no_parts}
-use Rattle.sp_ast.proofs.ByPlace.{at_row, at_tree, at_none, trees_stay, places_later, place_later}
+use Rattle.sp_ast.proofs.ByPlace.{at_row, at_tree, at_none, trees_stay, places_later}
 use Rattle.sp_build.proofs.Told.{never}
 use Rattle.sp_build.specs.declared.stack.Begin.{Begin}
-use Rattle.sp_build.specs.Items.{Item, begun, built}
+use Rattle.sp_build.specs.Items.{begun, built}
 use Rattle.sp_build.specs.Building.{Stack, opened}
-use Rattle.sp_build.specs.Stacks.{built_on, stack_of, floor_of, AreInOrder, IsLastOnTop, Holds, last_trees, AreTrees, IsFloor, IsNodeOnTop}
+use Rattle.sp_build.specs.Stacks.{built_on, stack_of, floor_of, AreInOrder, Holds, last_trees, AreTrees, IsFloor, IsNodeOnTop}
 use Rattle.sp_build.proofs.OnStack.{tree_put, begin_put, above_floor, Cut, cut, on_begin, on_tree, at_floor, next_item}
 
 -- places of lists

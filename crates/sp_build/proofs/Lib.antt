@@ -1,6 +1,7 @@
 pub mod Effects
 pub mod Found
 pub mod Formed
+mod Going
 pub mod Held
 pub mod OnStack
 pub mod RuleParts

@@ -1,7 +1,6 @@
 -- The stack that two lists stand for, as its last trees and what stands under them.
-use Rattle.std.specs.Prelude.{reverse}
 use Rattle.std.proofs.Common.{◌≡◌, ℕ, ◌+◌, ◌-◌, ◌<◌, ◌≤◌, zero, suc, List, [], ◌∷◌, ◌++◌, length, get_or, take, drop, refl, ap, sym, ◌∙◌, subst, arith}
-use Rattle.std.proofs.lemmas.List.{append_assoc, append-nil, length-append, length-drop, length-take-le, length_push, drop-append-le, take-append-le, take_all, drop_all, take-append-drop, take-take, drop_at, take_at, take_more}
+use Rattle.std.proofs.lemmas.List.{append_assoc, append-nil, length-drop, length-take-le, length_push, drop-append-le, take-append-le, take_all, drop_all, take-append-drop, take_more}
 use Rattle.sp_ast.specs.Trees.{Tree, absent}
 use Rattle.sp_build.specs.declared.stack.Begin.{Begin}
 use Rattle.sp_build.specs.Items.{Item, begun, built}

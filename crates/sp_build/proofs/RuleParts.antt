@@ -1,7 +1,7 @@
 -- The rules ask for the parts of what they build, and what is found for slots fills them.
 use Rattle.std.specs.Prelude.{reverse, option_map}
-use Rattle.std.proofs.Common.{◌≡◌, ℕ, ◌&&◌, List, [], ◌∷◌, ◌++◌, Option, Some, None, true, false, refl, ap, sym, ◌∙◌, subst, inl, inr}
-use Rattle.std.proofs.lemmas.Bool.{and_parts, and_from, cases_Bool}
+use Rattle.std.proofs.Common.{◌≡◌, ℕ, List, [], ◌∷◌, ◌++◌, Option, Some, None, true, refl, ap, sym, ◌∙◌, subst, inl, inr}
+use Rattle.std.proofs.lemmas.Bool.{and_from, cases_Bool}
 use Rattle.std.proofs.lemmas.List.{append_assoc, append-nil, reverse-append, reverse-reverse}
 use Rattle.sp_lex.specs.declared.kinds.Absent.TheVariants as absent
 use Rattle.sp_lex.specs.declared.kinds.TokenKind.{TokenKind}
@@ -21,7 +21,6 @@ use Rattle.sp_ast.specs.declared.forms.BaseForm.TheVariants as base_is
 use Rattle.sp_ast.specs.declared.forms.DeclForm.TheVariants as decl_is
 use Rattle.sp_words.specs.declared.words.IntWord.{IntWord}
 use Rattle.sp_ast.specs.declared.groups.Group.{Group}
-use Rattle.sp_ast.specs.declared.groups.Sort.{Sort}
 use Rattle.sp_ast.specs.declared.groups.Slot.{Slot}
 use Rattle.sp_ast.specs.declared.groups.Slot.TheVariants.{Part as part, Several as several}
 use Rattle.sp_ast.specs.Groups.{is_of, are_of, fits}

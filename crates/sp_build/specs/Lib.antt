@@ -2,6 +2,7 @@ pub mod Rules
 pub mod Tokens
 pub mod Items
 pub mod Building
+pub mod Progress
 pub mod Starting
 pub mod RuleParts
 pub mod RuleViews

@@ -1,5 +1,5 @@
 -- What the code finds on the stack.
-use Rattle.std.specs.Prelude.{ℕ, suc, ◌≡◌, List, [], ◌∷◌, drop, reverse, Bool, true, false, ◌&&◌, Option, Some, None}
+use Rattle.std.specs.Prelude.{ℕ, ◌≡◌, List, [], ◌∷◌, drop, Bool, true, false, Option, Some, None}
 use Rattle.sp_ast.specs.Trees.{Tree}
 use Rattle.sp_build.specs.declared.finding.Wanted.{Wanted}
 use Rattle.sp_build.specs.declared.finding.Wanted.TheVariants as wanted

@@ -1,12 +1,10 @@
 -- The rules ask for the parts of the alternatives that they build.
 use Rattle.std.specs.Prelude.{ℕ, ◌≡◌, List, [], ◌∷◌}
-use Rattle.sp_ast.specs.declared.forms.Form.{Form}
-use Rattle.sp_ast.specs.declared.groups.Group.{Group}
 use Rattle.sp_words.specs.declared.words.IntWord.{IntWord}
 use Rattle.sp_words.specs.declared.words.AttributeName.{AttributeName}
 use Rattle.sp_words.specs.declared.words.HookName.{HookName}
 use Rattle.sp_ast.specs.Slots.{slots, an}
-use Rattle.sp_build.specs.Rules.{Leaf, always, by_name, by_string, by_bytes, by_regex, by_number, by_integer, by_hook_name, Rule, begins, leaves_out, takes, gathers, closes, closes_integer, closes_attribute, encloses, joins, wraps}
+use Rattle.sp_build.specs.Rules.{Leaf, always, by_name, by_string, by_bytes, by_regex, by_number, by_integer, by_hook_name, Rule, takes, closes, closes_integer, closes_attribute, joins, wraps}
 
 -- what a token is built to has no parts, whatever the token tells
 abbrev pub HasNoParts : Leaf → Type 0

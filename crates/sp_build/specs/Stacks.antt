@@ -7,7 +7,7 @@ use Rattle.sp_ast.specs.Places.{tree_at, ArePlaces}
 use Rattle.sp_ast.specs.declared.groups.Slot.{Slot}
 use Rattle.sp_build.specs.declared.stack.Begin.{Begin}
 use Rattle.sp_build.specs.Items.{begun, built}
-use Rattle.sp_build.specs.Building.{Stack, Left, left, opened, popped_parts}
+use Rattle.sp_build.specs.Building.{Stack, left, opened, popped_parts}
 
 -- trees, in the order of the text, on a stack
 abbrev pub built_on : List Tree → Stack → Stack

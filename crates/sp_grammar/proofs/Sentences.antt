@@ -32,13 +32,13 @@ longest start w m l = record {
 }
 
 -- what the table's parser answers, by the grammar
-pub parsed : (start : Start) (w : List ℕ) (at : ℕ) (o : Outcome) → IsDerived language (start_number start) w at o → IsParsed start w at o
-parsed start w at (Phrase actions j) (m, behind, l, d) = (m, behind, longest start w m l, sentence start (take m w) actions.items d)
-parsed start w at (Refused j) (m, behind, l, none) = (m, behind, longest start w m l, λ τ r. none τ (derived start (take m w) τ r))
+pub parsed : (start : Start) (w : List ℕ) (at : ℕ) (ArePassed : List ActionAt → Type 0) (o : Outcome) → IsDerived language (start_number start) w at ArePassed o → IsParsed start w at ArePassed o
+parsed start w at ArePassed (Phrase j) (m, behind, l, (τ, passed, d)) = (m, behind, longest start w m l, (τ, passed, sentence start (take m w) τ d))
+parsed start w at ArePassed (Refused j) (m, behind, l, none) = (m, behind, longest start w m l, λ τ r. none τ (derived start (take m w) τ r))
 
 on_ok : {T E : Type 0} (r : Result T E) (P Q : T → Type 0) → ((t : T) → P t → Q t) → IfOk r P → IfOk r Q
 on_ok (Ok t) P Q f h = f t h
 on_ok (Err e) P Q f h = tt
 
-pub answered : {E : Type 0} (start : Start) (n : ℕ) (w : List ℕ) (at : ℕ) (r : Result Outcome E) → n ≡ start_number start → IfOk r (λ o. IsDerived language n w at o) → IfOk r (λ o. IsParsed start w at o)
-answered start n w at r e h = on_ok r (λ o. IsDerived language n w at o) (λ o. IsParsed start w at o) (λ o d. parsed start w at o (subst (λ k. IsDerived language k w at o) e d)) h
+pub answered : {E : Type 0} (start : Start) (n : ℕ) (w : List ℕ) (at : ℕ) (ArePassed : List ActionAt → Type 0) (r : Result Outcome E) → n ≡ start_number start → IfOk r (λ o. IsDerived language n w at ArePassed o) → IfOk r (λ o. IsParsed start w at ArePassed o)
+answered start n w at ArePassed r e h = on_ok r (λ o. IsDerived language n w at ArePassed o) (λ o. IsParsed start w at ArePassed o) (λ o d. parsed start w at ArePassed o (subst (λ k. IsDerived language k w at ArePassed o) e d)) h

@@ -23,8 +23,8 @@ pub record IsLongestPrefix (start : Start) (kinds : List ℕ) (m : ℕ) : Type 0
   pub begins : BeginsSentence start (take m kinds)
   pub stops : m < length kinds → ¬ BeginsSentence start (take (m + 1) kinds)
 
--- What is made of the kinds from place `at` on: the actions of their longest prefix, if it is a sentence, and else the place
--- behind it.
-abbrev pub IsParsed : Start → List ℕ → ℕ → Outcome → Type 0
-IsParsed start kinds at (Phrase actions j) = (m : ℕ) × (j ≡ at + m) × IsLongestPrefix start kinds m × IsSentence start (take m kinds) actions.items
-IsParsed start kinds at (Refused j) = (m : ℕ) × (j ≡ at + m) × IsLongestPrefix start kinds m × ((actions : List ActionAt) → ¬ IsSentence start (take m kinds) actions)
+-- What is made of the kinds from place `at` on, where the actions that were passed are those of which this is true: the place
+-- behind their longest prefix, if that is a sentence with the actions that were passed, and else too.
+abbrev pub IsParsed : Start → List ℕ → ℕ → (List ActionAt → Type 0) → Outcome → Type 0
+IsParsed start kinds at ArePassed (Phrase j) = (m : ℕ) × (j ≡ at + m) × IsLongestPrefix start kinds m × ((actions : List ActionAt) × ArePassed actions × IsSentence start (take m kinds) actions)
+IsParsed start kinds at ArePassed (Refused j) = (m : ℕ) × (j ≡ at + m) × IsLongestPrefix start kinds m × ((actions : List ActionAt) → ¬ IsSentence start (take m kinds) actions)

@@ -1,12 +1,13 @@
 // The grammar, and parsing by it.
 ghost use Rattle.std.specs.Prelude.{◌≡◌, ℕ, ◌≤◌, List, length, drop, IfOk};
+ghost use Rattle.sp_parser.specs.Sinks.{Took};
 ghost use Rattle.sp_grammar.specs.Language.{language, language_sets, language_tested};
 ghost use Rattle.sp_grammar.specs.Sentences.{IsParsed};
 ghost use Rattle.sp_grammar.specs.Starts.{start_number};
 
 use crate::tables::{ROWS, SPANS, SYMBOLS};
 use sp_base::NoMemory;
-use sp_parser::{Grammar, Kinds, Outcome, Symbol, choose_in, parse_from};
+use sp_parser::{Grammar, Kinds, Outcome, Sink, Symbol, choose_in, parse_from};
 use std::alloc::Global;
 
 /// The grammar of modules.
@@ -47,15 +48,18 @@ impl Start {
     }
 }
 
-/// Parses the longest run of tokens from `at` on that begins some text of this kind.
-pub fn parse_kinds<K: Kinds>(
+/// Parses the longest run of tokens from `at` on that begins some text of this kind. Where the run is a text, the sink, to
+/// which nothing had been passed, took the actions of its one derivation; where it is none, what was passed is of no use.
+pub fn parse_kinds<K: Kinds, S: Sink>(
     alloc: Global,
     start: Start,
     tokens: &K,
     at: usize,
+    sink: &mut S,
 ) -> Result<Outcome, NoMemory>
     requires at { at ≤ length (K.kinds tokens.now) }
-    ensures { IfOk result (λ o. IsParsed start (drop at (K.kinds tokens.now)) at o) }
+    ensures { IfOk result (λ o. IsParsed start (drop at (K.kinds tokens.now)) at
+        (Took S.became sink.old sink.new) o) }
 {
-    parse_from(alloc, &Language, start.number(), tokens, at)
+    parse_from(alloc, &Language, start.number(), tokens, at, sink)
 }

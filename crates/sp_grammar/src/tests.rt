@@ -6,7 +6,7 @@ ghost use Rattle.sp_grammar.specs.TerminalKinds.{terminals_are_kinds};
 use crate::Terminal::{Id, Number};
 use crate::{Start, Terminal, parse_kinds};
 use sp_base::NoMemory;
-use sp_parser::{Kinds, Outcome};
+use sp_parser::{ActionAt, Kinds, Outcome};
 use sp_words::{Keyword, Punctuation};
 use std::alloc::Global;
 
@@ -38,8 +38,9 @@ impl<'a> Kinds for Terminals<'a> {
 
 /// The place after the longest run, and whether the run is a text.
 fn found(alloc: Global, start: Start, tokens: &[Terminal]) -> Result<(usize, bool), NoMemory> {
-    match parse_kinds(alloc, start, &Terminals { list: tokens }, 0)? {
-        Outcome::Phrase(_, at) => Ok((at, true)),
+    let mut actions: Vec<ActionAt> = Vec::new(alloc);
+    match parse_kinds(alloc, start, &Terminals { list: tokens }, 0, &mut actions)? {
+        Outcome::Phrase(at) => Ok((at, true)),
         Outcome::Refused(at) => Ok((at, false)),
     }
 }

@@ -58,7 +58,7 @@ there_more s t place w some le = omega (arith, length-drop place s, length-drop 
 -- what a reading of some bytes, held open, says of the reading of more: where it needed bytes its events
 -- stand at the front, and else it is the same
 abbrev pub Continues : Result → Result → Type 0
-Continues (ends (need mark) es st) r = (more : Result) × (r ≡ behind es more)
+Continues (ends (need point) es st) r = (more : Result) × (r ≡ behind es more)
 Continues (ends how es st) r = r ≡ ends how es st
 
 pub fields_continue : (s t : List ℕ) (close : Close) (fs : List Field) (st : State) → Continues (fields_mean s held_open fs st) (fields_mean (s ++ t) close fs st)
@@ -81,12 +81,12 @@ fields_continue s t close (f ∷ fs) st =
 events_behind : (es : List Event) (r : Result) → (more : List Event) × ((meaning_by (behind es r)).events ≡ es ++ more)
 events_behind es (ends fine fs st) = (_, append_assoc es fs _)
 events_behind es (ends (failed e) fs st) = (_, append_assoc es fs _)
-events_behind es (ends (need mark) fs st) = (fs, refl)
+events_behind es (ends (need point) fs st) = (fs, refl)
 
 continued_events : (r next : Result) → Continues r next → (more : List Event) × ((meaning_by next).events ≡ (meaning_by r).events ++ more)
 continued_events (ends fine es st) next is = ([], ap (λ r. (meaning_by r).events) is ∙ sym (append-nil _))
 continued_events (ends (failed e) es st) next is = ([], ap (λ r. (meaning_by r).events) is ∙ sym (append-nil _))
-continued_events (ends (need mark) es st) next is =
+continued_events (ends (need point) es st) next is =
     let more = events_behind es is.0 in (more.0, ap (λ r. (meaning_by r).events) is.1 ∙ more.1)
 
 pub is_steady : (fields : List Field) → IsSteady (unit_means fields)
@@ -95,7 +95,7 @@ is_steady fields s t close = continued_events (fields_mean s held_open fields be
 continued_final : (r next : Result) → Continues r next → (meaning_by r).stand ≢ Stand.Waiting → meaning_by next ≡ meaning_by r
 continued_final (ends fine es st) next is final = ap meaning_by is
 continued_final (ends (failed e) es st) next is final = ap meaning_by is
-continued_final (ends (need mark) es st) next is final = absurd (final refl)
+continued_final (ends (need point) es st) next is final = absurd (final refl)
 
 -- a unit that doesn't wait has the same meaning on all that may follow
 pub is_settled : (fields : List Field) → IsSettled (unit_means fields)
@@ -106,7 +106,7 @@ pub is_settled_ended : (fields : List Field) (s : List ℕ) → (unit_means fiel
 is_settled_ended fields s final = ap (λ bytes. unit_means fields bytes ended) (sym (append-nil s)) ∙ is_settled fields s [] ended final
 
 abbrev NeedsNothing : Result → Type 0
-NeedsNothing (ends (need mark) es st) = ⊥
+NeedsNothing (ends (need point) es st) = ⊥
 NeedsNothing r = Unit {0}
 
 ended_needs_nothing : (s : List ℕ) (fs : List Field) (st : State) → NeedsNothing (fields_mean s ended fs st)
@@ -120,7 +120,7 @@ ended_needs_nothing s (f ∷ fs) st =
 decided_by : (r : Result) → NeedsNothing r → (meaning_by r).stand ≢ Stand.Waiting
 decided_by (ends fine es st) nothing e = cc
 decided_by (ends (failed error) es st) nothing e = cc
-decided_by (ends (need mark) es st) nothing e = nothing
+decided_by (ends (need point) es st) nothing e = nothing
 
 pub is_decided : (fields : List Field) → IsDecided (unit_means fields)
 is_decided fields s = decided_by (fields_mean s ended fields begun) (ended_needs_nothing s fields begun)

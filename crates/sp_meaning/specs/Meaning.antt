@@ -28,7 +28,7 @@ short_at place = error_at Short place
 abbrev pub stored : Field → Val → State → State
 stored f v st = record { place = st.place + width_of f.kind; fields = st.fields ++ (f.name, told_value v) ∷ [] }
 
--- what a field's leaf leads to: the errors and the mark of a field are at its first byte
+-- what a field's leaf leads to: the errors and the retention point of a field are at its first byte
 abbrev pub field_by : Field → Leaf → State → Result
 field_by f (got v) st = ends fine [] (stored f v st)
 field_by f short st = ends (failed (short_at st.place)) [] st
@@ -51,16 +51,16 @@ begun = record { place = 0; fields = [] }
 pub record Meaning : Type 0 where
   pub events : List Event
   pub stand : Stand
-  pub marks : List ℕ
+  pub retention_points : List ℕ
 
 -- the unit that reads the flow's own bytes tells its end by a last event
 abbrev pub told : What → List Event
 told what = record { at = []; what = what } ∷ []
 
 abbrev pub meaning_by : Result → Meaning
-meaning_by (ends fine es st) = record { events = es ++ told (What.Done (unit (fields_of st.fields))); stand = Stand.Done; marks = [] }
-meaning_by (ends (failed e) es st) = record { events = es ++ told (What.Failed e); stand = Stand.Failed e; marks = [] }
-meaning_by (ends (need mark) es st) = record { events = es; stand = Stand.Waiting; marks = mark ∷ [] }
+meaning_by (ends fine es st) = record { events = es ++ told (What.Done (unit (fields_of st.fields))); stand = Stand.Done; retention_points = [] }
+meaning_by (ends (failed e) es st) = record { events = es ++ told (What.Failed e); stand = Stand.Failed e; retention_points = [] }
+meaning_by (ends (need point) es st) = record { events = es; stand = Stand.Waiting; retention_points = point ∷ [] }
 
 -- what a unit means: its meaning on each list of bytes, held open or ended
 abbrev pub UnitMeaning : Type 0
@@ -95,11 +95,11 @@ fields_of_unit fields (suc number) = []
 unfoldable pub mean : List Field → ℕ → Limits → UnitMeaning
 mean fields number limits = entered limits.turns limits.depth (unit_means (fields_of_unit fields number))
 
--- the least mark, or the length of the input where nothing waits
+-- the least retention point, or the length of the input where nothing waits
 abbrev pub least : ℕ → List ℕ → ℕ
 least end [] = end
-least end (mark ∷ marks) = min mark (least end marks)
+least end (point ∷ points) = min point (least end points)
 
 -- the place from which on a reader must keep the bytes
 abbrev pub low : UnitMeaning → List ℕ → Close → ℕ
-low meaning s close = least (length s) (meaning s close).marks
+low meaning s close = least (length s) (meaning s close).retention_points

@@ -1,4 +1,4 @@
-//! What a unit of unsigned integers means: the events, the stand and the marks of its reading of some bytes.
+//! What a unit of unsigned integers means: the events, the stand and the retention points of its reading of some bytes.
 #![tactic(auto)]
 
 mod grammar;

@@ -1,5 +1,6 @@
 pub mod Looks
 pub mod Moves
+pub mod Passing
 pub mod Ends
 pub mod Steps
 pub mod Phrases

@@ -1,11 +1,12 @@
 -- What a certificate tells of the nonterminals of a grammar, and what makes the parsing of a table exact.
-use Rattle.std.specs.Prelude.{◌≡◌, ℕ, suc, ◌+◌, ◌^◌, ◌<◌, List, [], ◌∷◌, ◌++◌, length, cond, ◌==◌, ◌||◌, ◌&&◌, Bool, true, false, bit_or, nat_lt}
+use Rattle.std.specs.Prelude.{◌≡◌, ℕ, suc, ◌+◌, ◌^◌, ◌<◌, List, [], ◌∷◌, length, cond, ◌==◌, ◌||◌, ◌&&◌, Bool, true, false, bit_or, nat_lt}
 use Rattle.std.proofs.Common.{get_or}
 use Rattle.std.specs.Int.{bit_at}
 use Rattle.sp_parser.specs.declared.symbol.Symbol.{Symbol}
 use Rattle.sp_parser.specs.declared.symbol.Symbol.TheVariants.{Terminal, Nonterminal, Action}
 use Rattle.sp_parser.specs.declared.symbol.ActionAt.{ActionAt}
 use Rattle.sp_parser.specs.Grammar.{Table, productions_of, production_of, right, predict, Advances, Derivation, GREATER, SHIFT, SECOND, CLOSE, END}
+use Rattle.sp_parser.specs.Sinks.{Became, Passes}
 
 -- Of each nonterminal: its first set, its follow set, whether it is nullable (derives the empty text), how many symbols
 -- are gone through at most before a token is taken, the production that leads to a text by the fewest levels, and the
@@ -125,7 +126,7 @@ pub record Ready (f : Certificate) (ss : List Symbol) : Type 0 where
 abbrev pub IsStart : Certificate → ℕ → Type 0
 IsStart f n = Has (follow_of f n) END
 
--- whether a token of the kind k is taken
-abbrev pub Takes : Table → Certificate → Bool → ℕ → List Symbol → ℕ → List Symbol → List ActionAt → List ActionAt → Type 0
-Takes g f true i ss k ts before after = Ready f ts × ((ε : List ActionAt) × (after ≡ before ++ ε) × ((w : List ℕ) → Advances g i ss (k ∷ w) (suc i) ts w ε))
-Takes g f false i ss k ts before after = (w : List ℕ) (τ : List ActionAt) → Derivation g i ss (k ∷ w) τ → ⊥
+-- whether a token of the kind k is taken, and what was passed to a sink
+abbrev pub Takes : {S : Type 0} → Table → Certificate → Bool → ℕ → List Symbol → ℕ → List Symbol → Became S → S → S → Type 0
+Takes g f true i ss k ts became before after = Ready f ts × ((ε : List ActionAt) × Passes became before after ε × ((w : List ℕ) → Advances g i ss (k ∷ w) (suc i) ts w ε))
+Takes g f false i ss k ts became before after = ((ε : List ActionAt) × Passes became before after ε) × ((w : List ℕ) (τ : List ActionAt) → Derivation g i ss (k ∷ w) τ → ⊥)

@@ -1,4 +1,5 @@
 pub mod Grammar
+pub mod Sinks
 pub mod Certificate
 pub mod Test
 pub mod Rows

@@ -3,11 +3,13 @@ ghost use Rattle.std.specs.Prelude.{◌≡◌, ℕ, ◌+◌, ◌<◌, ◌≤◌,
 ghost use Rattle.sp_parser.specs.Grammar.{Table, productions_of, right, predict, takes, taken_of, Tells, Advances, Derivation, SECOND, END};
 ghost use Rattle.sp_parser.specs.Outcome.{IsParsedWhole};
 ghost use Rattle.sp_parser.specs.Certificate.{Certificate, Ready, IsStart, Takes};
+ghost use Rattle.sp_parser.specs.Sinks.{Passes};
 ghost use Rattle.sp_parser.specs.Test.{table_test};
 ghost use Rattle.sp_parser.specs.declared.symbol.ActionAt.{ActionAt};
 
 use crate::outcome::Outcome;
-use crate::symbol::{ActionAt, CLOSE, END, GREATER, SECOND, SHIFT, Step, Symbol};
+use crate::sink::Sink;
+use crate::symbol::{CLOSE, END, GREATER, SECOND, SHIFT, Step, Symbol};
 use crate::tokens::Kinds;
 use sp_base::NoMemory;
 use std::alloc::Global;
@@ -69,23 +71,23 @@ fn push_all(stack: &mut Vec<Symbol>, symbols: &[Symbol]) -> Result<(), NoMemory>
 }
 
 /// Goes through symbols until one takes the next token or refuses it.
-fn step<G: Grammar>(
+fn step<G: Grammar, S: Sink>(
     grammar: &G,
     stack: &mut Vec<Symbol>,
-    actions: &mut Vec<ActionAt>,
+    sink: &mut S,
     at: u32,
     kind: u8,
 ) -> Result<Step, NoMemory>
     requires ready { Ready G.certificate (reverse stack.old.items) }
     requires kind { kind ≤ END }
     ensures ready { OnOk result (Ready G.certificate (reverse stack.new.items)) }
-    ensures told { IfOk result (λ s. (ε : List ActionAt) × (actions.new.items ≡ actions.old.items ++ ε)
+    ensures told { IfOk result (λ s. (ε : List ActionAt) × Passes S.became sink.old sink.new ε
         × Tells G.table s at (reverse stack.old.items) kind (reverse stack.new.items) ε) }
 {
     while let Some(top) = stack.pop() {
         match top {
             Symbol::Terminal(expected) => return Ok(taken(expected, kind)),
-            Symbol::Action(action) => actions.push(ActionAt { action, at })?,
+            Symbol::Action(action) => sink.pass(action, at)?,
             Symbol::Nonterminal(nonterminal) => {
                 let Some(symbols) = grammar.predict(nonterminal, kind) else {
                     return Ok(Step::Refused);
@@ -98,53 +100,55 @@ fn step<G: Grammar>(
 }
 
 /// Takes a token of a kind, unless no text goes on with it.
-fn take_token<G: Grammar>(
+fn take_token<G: Grammar, S: Sink>(
     grammar: &G,
     stack: &mut Vec<Symbol>,
-    actions: &mut Vec<ActionAt>,
+    sink: &mut S,
     at: u32,
     kind: u8,
 ) -> Result<bool, NoMemory>
     requires ready { Ready G.certificate (reverse stack.old.items) }
     requires kind { kind < SECOND }
     ensures taken { IfOk result (λ yes. Takes G.table G.certificate yes at (reverse stack.old.items)
-        kind (reverse stack.new.items) actions.old.items actions.new.items) }
+        kind (reverse stack.new.items) S.became sink.old sink.new) }
 {
-    match step(grammar, stack, actions, at, kind)? {
+    match step(grammar, stack, sink, at, kind)? {
         Step::Whole => Ok(true),
-        Step::Half => Ok(matches!(step(grammar, stack, actions, at, SECOND)?, Step::Whole)),
+        Step::Half => Ok(matches!(step(grammar, stack, sink, at, SECOND)?, Step::Whole)),
         Step::Refused => Ok(false),
         Step::Emptied => Ok(false),
     }
 }
 
-/// Parses all of the tokens, each of which is looked at once. Where they are a text, the answer is the actions of its one
-/// derivation, in order. Where they are none, it is the length of their longest viable prefix: how many of them begin
-/// some text of the nonterminal, at most. Want of memory also where they are more than the places of actions count.
-pub fn parse<G: Grammar, K: Kinds>(
+/// Parses all of the tokens, each of which is looked at once. Where they are a text, the actions of its one derivation were
+/// passed to the sink, in order. Where they are none, the answer is the length of their longest viable prefix: how many of
+/// them begin some text of the nonterminal, at most; what was passed until then is of no use. Want of memory where the sink
+/// answers it, and also where the tokens are more than the places of actions count.
+pub fn parse<G: Grammar, K: Kinds, S: Sink>(
     alloc: Global,
     grammar: &G,
     nonterminal: u8,
     tokens: &K,
+    sink: &mut S,
 ) -> Result<Outcome, NoMemory>
     requires nonterminal { nonterminal < length G.certificate.height }
     requires end { IsStart G.certificate nonterminal }
-    ensures { IfOk result (λ o. IsParsedWhole G.table nonterminal (K.kinds tokens.now) o) }
+    ensures { IfOk result (λ o. IsParsedWhole G.table nonterminal (K.kinds tokens.now)
+        (Passes S.became sink.old sink.new) o) }
 {
     let count = tokens.count();
     if count > MOST_TOKENS {
         return Err(NoMemory);
     }
     let mut stack = Vec::new(alloc);
-    let mut actions = Vec::new(alloc);
     stack.push(Symbol::Nonterminal(nonterminal))?;
     for i in 0..count {
-        if !take_token(grammar, &mut stack, &mut actions, i as u32, tokens.kind(i))? {
+        if !take_token(grammar, &mut stack, sink, i as u32, tokens.kind(i))? {
             return Ok(Outcome::Refused(i));
         }
     }
-    match step(grammar, &mut stack, &mut actions, count as u32, END)? {
-        Step::Emptied => Ok(Outcome::Phrase(actions, count)),
+    match step(grammar, &mut stack, sink, count as u32, END)? {
+        Step::Emptied => Ok(Outcome::Phrase(count)),
         _ => Ok(Outcome::Refused(count)),
     }
 }

@@ -6,7 +6,7 @@ ghost use Rattle.sp_runs.specs.Runs.{IsRefused};
 ghost use Rattle.sp_read_expr.specs.Reading.{IsTreeRead};
 
 use sp_ast::{BoundedTree, Expr, Stmt, TypeTree};
-use sp_build::{build, every_phrase_is_built};
+use sp_build::{Builder, every_phrase_is_built};
 use sp_grammar::Start;
 use sp_lex::{ReadFault, Tokens};
 use sp_runs::read_from;
@@ -28,9 +28,9 @@ pub fn read_tree(
         (length tokens.now.text) span kind)) }
 {
     every_phrase_is_built();
-    let parsed = read_from(alloc, tokens, start, at)?;
-    let tree = build(alloc, tokens, at as usize, parsed.actions.as_slice())?;
-    Ok((tree, parsed.to))
+    let mut builder = Builder::new(alloc, tokens, at as usize);
+    let to = read_from(alloc, tokens, start, at, &mut builder)?;
+    Ok((builder.into_tree(), to))
 }
 
 /// Reads an expression: the longest run of tokens from `t[at]` on that begins one. Where the run is an expression, the

@@ -48,8 +48,8 @@ pub none_of : (start : Start) (tokens : List Token) (ks : List ℕ) (at m : ℕ)
 none_of start tokens ks at m e d actions t = d actions (subst (λ w. IsSentence start (take m w) actions) (sym (numbers_from tokens ks at e)) t)
 
 -- what an outcome says
-pub parsed_as : (start : Start) (w : List ℕ) (at : ℕ) (o p : Outcome) → o ≡ p → IsParsed start w at o → IsParsed start w at p
-parsed_as start w at o p e h = subst (λ z. IsParsed start w at z) e h
+pub parsed_as : (start : Start) (w : List ℕ) (at : ℕ) (ArePassed : List ActionAt → Type 0) (o p : Outcome) → o ≡ p → IsParsed start w at ArePassed o → IsParsed start w at ArePassed p
+parsed_as start w at ArePassed o p e h = subst (λ z. IsParsed start w at ArePassed z) e h
 
 -- a refusal behind the longest run, which is no text
 pub refused_of : (start : Start) (tokens : List Token) (at end m to : ℕ) (r : ReadFault) → r ≡ fault.Diag (refused_at end (drop to tokens)) (refused_with (drop to tokens)) → to ≡ at + m

@@ -9,6 +9,6 @@ mod refusals;
 mod terminals;
 
 pub use laws::{derivation_is_one, longest_run_is_one, no_production_has_other_words};
-pub use read::{Parsed, read_from};
+pub use read::read_from;
 pub use refusals::unexpected;
 pub use terminals::terminal_of;

@@ -9,7 +9,8 @@
 use sp_base::{Place, place_of};
 use sp_grammar::{Action, Start, action_of};
 use sp_lex::{ReadFault, Token, lex};
-use sp_runs::{Parsed, read_from};
+use sp_parser::ActionAt;
+use sp_runs::read_from;
 use std::alloc::{AllocError, Global};
 use std::io;
 use stored_cases::bytes_of;
@@ -49,22 +50,25 @@ fn read(alloc: Global, source: &[u8], start: Start, at: u32) -> Result<u32, Read
     if at as usize > tokens.len() {
         return Ok(0);
     }
-    let parsed = read_from(alloc, &tokens, start, at)?;
-    Ok(byte_at(source, tokens.as_slice(), parsed.to))
+    let mut actions: Vec<ActionAt> = Vec::new(alloc);
+    let to = read_from(alloc, &tokens, start, at, &mut actions)?;
+    Ok(byte_at(source, tokens.as_slice(), to))
 }
 
-/// What is read of the text.
-fn parsed(alloc: Global, source: &[u8], start: Start) -> Result<Parsed, ReadFault> {
+/// The actions of the text's derivation.
+fn passed(alloc: Global, source: &[u8], start: Start) -> Result<Vec<ActionAt>, ReadFault> {
     let tokens = lex(alloc, source)?;
-    read_from(alloc, &tokens, start, 0)
+    let mut actions: Vec<ActionAt> = Vec::new(alloc);
+    read_from(alloc, &tokens, start, 0, &mut actions)?;
+    Ok(actions)
 }
 
 /// The actions of the text's derivation by their names.
 fn actions(alloc: Global, source: &[u8], start: Start) -> Result<String, AllocError> {
     let mut words = format!(in alloc; "actions")?;
-    match parsed(alloc, source, start) {
-        Ok(parsed) => {
-            for passed in parsed.actions.as_slice() {
+    match passed(alloc, source, start) {
+        Ok(actions) => {
+            for passed in actions.as_slice() {
                 match action_of(passed.action) {
                     Some(Action::Begin | Action::Name | Action::Path | Action::Row | Action::Absent)
                     | None => {}

@@ -136,21 +136,21 @@ lacks_at fields Phase.Fed p s live = live.1.lacks
 lacks_at fields Phase.Ended p s live = absurd live
 lacks_at fields Phase.Broken p s live = absurd live
 
-final_marks : (r : Reading) → (meaning_by r).stand ≢ Stand.Waiting → (meaning_by r).marks ≡ []
-final_marks (ends fine es st) final = refl
-final_marks (ends (failed e) es st) final = refl
-final_marks (ends (need mark) es st) final = absurd (final refl)
+final_points : (r : Reading) → (meaning_by r).stand ≢ Stand.Waiting → (meaning_by r).retention_points ≡ []
+final_points (ends fine es st) final = refl
+final_points (ends (failed e) es st) final = refl
+final_points (ends (need point) es st) final = absurd (final refl)
 
 kept_none : (fields : List Field) (stand : Stand) (window s : List ℕ) → stand ≢ Stand.Waiting → stand ≡ (unit_means fields s held_open).stand → window ≡ [] → length window ≡ length s - low (unit_means fields) s held_open
 kept_none fields stand window s final is none =
-    let m = ap (λ marks. least (length s) marks) (final_marks (fields_mean s held_open fields begun) (λ e. final (is ∙ e))) in
+    let m = ap (λ points. least (length s) points) (final_points (fields_mean s held_open fields begun) (λ e. final (is ∙ e))) in
     omega (arith, m, ap length none)
 
 -- the bytes that are kept
 pub kept_at : (fields : List Field) (phase : Phase) (stand : Stand) (p : Progress) (s : List ℕ) → IsLive phase stand fields p s → length p.window ≡ length s - low (unit_means fields) s held_open
 kept_at fields Phase.Fed Stand.Waiting p s live =
     let w = live.1 in
-    let m = ap (λ (m : Meaning). least (length s) m.marks) (mean_waits fields p.next (state_of p) p.window s w.leads w.lacks w.left) in
+    let m = ap (λ (m : Meaning). least (length s) m.retention_points) (mean_waits fields p.next (state_of p) p.window s w.leads w.lacks w.left) in
     omega (arith, m, ap length w.leads.is_window, length-drop p.place s, w.leads.within)
 kept_at fields Phase.Fed Stand.Done p s live = kept_none fields Stand.Done p.window s (λ e. cc) live.0 live.1
 kept_at fields Phase.Fed (Stand.Failed e) p s live = kept_none fields (Stand.Failed e) p.window s (λ e. cc) live.0 live.1

@@ -27,7 +27,7 @@ leads_here fields next st window s close leads =
 
 -- the meaning where no field is left
 pub mean_whole : (fields : List Field) (next : ℕ) (st : State) (window s : List ℕ) (close : Close) → Leads fields next st window s → length fields ≤ next
-    → unit_means fields s close ≡ record { events = told (What.Done (unit (fields_of st.fields))); stand = Stand.Done; marks = [] }
+    → unit_means fields s close ≡ record { events = told (What.Done (unit (fields_of st.fields))); stand = Stand.Done; retention_points = [] }
 mean_whole fields next st window s close leads le =
     ap meaning_by (leads_here fields next st window s close leads ∙ ap (λ fs. fields_mean s close fs st) (drop_all next fields le))
 
@@ -43,18 +43,18 @@ lacking_ended (f ∷ fs) st window s some lacks is = fields_lack s ended f fs st
 
 -- the meaning where the bytes of the next field lack
 pub mean_waits : (fields : List Field) (next : ℕ) (st : State) (window s : List ℕ) → Leads fields next st window s → Lacks (drop next fields) window → next < length fields
-    → unit_means fields s held_open ≡ record { events = []; stand = Stand.Waiting; marks = st.place ∷ [] }
+    → unit_means fields s held_open ≡ record { events = []; stand = Stand.Waiting; retention_points = st.place ∷ [] }
 mean_waits fields next st window s leads lacks lt =
     ap meaning_by (leads_here fields next st window s held_open leads ∙ lacking_result (drop next fields) st window s (omega (arith, length-drop next fields)) lacks leads.is_window)
 
 pub mean_short : (fields : List Field) (next : ℕ) (st : State) (window s : List ℕ) → Leads fields next st window s → Lacks (drop next fields) window → next < length fields
-    → unit_means fields s ended ≡ record { events = told (What.Failed (short_at st.place)); stand = Stand.Failed (short_at st.place); marks = [] }
+    → unit_means fields s ended ≡ record { events = told (What.Failed (short_at st.place)); stand = Stand.Failed (short_at st.place); retention_points = [] }
 mean_short fields next st window s leads lacks lt =
     ap meaning_by (leads_here fields next st window s ended leads ∙ lacking_ended (drop next fields) st window s (omega (arith, length-drop next fields)) lacks leads.is_window)
 
 -- the unit told its last event, which is that of its meaning
 pub ends_by : (fields : List Field) (p : Progress) (s : List ℕ) (close : Close) (before after : List Event) (stand : Stand) (what : What) (e : Event)
-    → unit_means fields s close ≡ record { events = told what; stand = stand; marks = [] } → after ≡ before ++ e ∷ [] → e ≡ record { at = []; what = what } → p.window ≡ []
+    → unit_means fields s close ≡ record { events = told what; stand = stand; retention_points = [] } → after ≡ before ++ e ∷ [] → e ≡ record { at = []; what = what } → p.window ≡ []
     → Ends fields p s close before after stand
 ends_by fields p s close before after stand what e is pushed last cleared = record {
   is_stand = sym (ap (λ (m : Meaning). m.stand) is);

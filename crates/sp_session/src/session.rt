@@ -201,7 +201,7 @@ impl<'p> Session<'p> {
         self.received
     }
 
-    /// How many bytes of the input it keeps: those from the meaning's oldest mark on, and none where the unit
+    /// How many bytes of the input it keeps: those from the meaning's oldest retention point on, and none where the unit
     /// does not wait.
     pub fn kept(&self) -> u64
         ensures live { (s : List ℕ) → StandsFor self.now s

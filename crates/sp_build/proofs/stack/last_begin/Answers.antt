@@ -1,4 +1,4 @@
-use Rattle.std.proofs.Common.{take, length, ◌-◌, ◌+◌, ◌≡◌, arith}
+use Rattle.std.proofs.Common.{take, length, ◌-◌, arith}
 use Rattle.sp_build.proofs.Held.{split_last}
 use Rattle.sp_build.proofs.stack.last_begin.Goals as goal
 

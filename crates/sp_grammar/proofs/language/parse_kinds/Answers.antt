@@ -1,5 +1,6 @@
 use Rattle.std.proofs.Common.{◌<◌, subst, sym, length, drop}
 use Rattle.sp_parser.specs.Certificate.{IsStart}
+use Rattle.sp_parser.specs.Sinks.{Took}
 use Rattle.sp_grammar.specs.Language.{language_sets}
 use Rattle.sp_grammar.proofs.Sentences.{answered}
 use Rattle.sp_grammar.proofs.Starting.{ends_after, is_part}
@@ -12,4 +13,4 @@ pub parse_from-requires-clause-end : goal.parse_from-requires-clause-end
 parse_from-requires-clause-end g c = subst (λ n. IsStart language_sets n) (sym c.number.ensures) (ends_after c.args.start)
 
 pub returns : goal.returns
-returns g c = answered c.args.start c.number.result (drop c.args.at (g.K.Kinds.kinds c.args.tokens.now)) c.args.at c.parse_from.result c.number.ensures c.parse_from.ensures
+returns g c = answered c.args.start c.number.result (drop c.args.at (g.K.Kinds.kinds c.args.tokens.now)) c.args.at (Took g.S.Sink.became c.args.sink.now c.parse_from.new.sink) c.parse_from.result c.number.ensures c.parse_from.ensures

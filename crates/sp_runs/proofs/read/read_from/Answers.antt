@@ -1,5 +1,6 @@
 use Rattle.std.proofs.Common.{◌≡◌, ◌≤◌, ◌+◌, length, drop, ap, ◌∙◌, arith}
 use Rattle.sp_grammar.specs.Sentences.{IsParsed}
+use Rattle.sp_parser.specs.Sinks.{Took}
 use Rattle.sp_parser.specs.declared.outcome.Outcome.TheVariants.{Phrase, Refused}
 use Rattle.sp_lex.specs.declared.tokens.ReadFault.TheVariants as fault
 use Rattle.sp_runs.specs.Kinds.{numbers_of}
@@ -8,8 +9,8 @@ use Rattle.sp_runs.proofs.Longest.{count_in_order, run_within, run_of, text_of, 
 use Rattle.sp_runs.proofs.read.read_from.Goals as goal
 
 pub overflow_cast-result : goal.overflow_cast-result
-overflow_cast-result c =
-    let p : IsParsed c.args.start (drop c.args.at (numbers_of c.as_slice.result.now)) c.args.at (Phrase c.in-Phrase.actions c.in-Phrase.to) = parsed_as c.args.start _ c.args.at _ _ c.in-Phrase.is c.in_ok-actions.ensures in
+overflow_cast-result g c =
+    let p : IsParsed c.args.start (drop c.args.at (numbers_of c.as_slice.result.now)) c.args.at (Took g.S.Sink.became c.args.sink.now c.parse_kinds.new.sink) (Phrase c.in-Phrase.to) = parsed_as c.args.start _ c.args.at _ _ _ c.in-Phrase.is c.in_ok-to.ensures in
     let place : c.in-Phrase.to ≡ c.args.at + p.0 = p.1 in
     let within : c.args.at + p.0 ≤ length c.args.tokens.now.list = run_within c.args.start c.args.tokens.now.list c.args.at p.0 c.requires.at (run_of c.args.start c.args.tokens.now.list (numbers_of c.as_slice.result.now) c.args.at p.0 (ap numbers_of c.as_slice.ensures) p.2) in
     let fewer : 0 + length c.args.tokens.now.list ≤ length c.args.tokens.now.text = count_in_order 0 c.args.tokens.now.list (length c.args.tokens.now.text) c.are_of_their_text.ensures.order in
@@ -17,15 +18,15 @@ overflow_cast-result c =
     omega arith
 
 pub returns-in-Phrase-clause-read : goal.returns-in-Phrase-clause-read
-returns-in-Phrase-clause-read c =
-    let p : IsParsed c.args.start (drop c.args.at (numbers_of c.as_slice.result.now)) c.args.at (Phrase c.in-Phrase.actions c.in-Phrase.to) = parsed_as c.args.start _ c.args.at _ _ c.in-Phrase.is c.in_ok-actions.ensures in
+returns-in-Phrase-clause-read g c =
+    let p : IsParsed c.args.start (drop c.args.at (numbers_of c.as_slice.result.now)) c.args.at (Took g.S.Sink.became c.args.sink.now c.parse_kinds.new.sink) (Phrase c.in-Phrase.to) = parsed_as c.args.start _ c.args.at _ _ _ c.in-Phrase.is c.in_ok-to.ensures in
     let e = ap numbers_of c.as_slice.ensures in
-    let d = text_of c.args.start c.args.tokens.now.list (numbers_of c.as_slice.result.now) c.args.at p.0 c.in-Phrase.actions.items e p.3 in
-    (p.0, p.1, run_of c.args.start c.args.tokens.now.list (numbers_of c.as_slice.result.now) c.args.at p.0 e p.2, d)
+    let d = text_of c.args.start c.args.tokens.now.list (numbers_of c.as_slice.result.now) c.args.at p.0 p.3.0 e p.3.2 in
+    (p.3.0, p.3.1, (p.0, p.1, run_of c.args.start c.args.tokens.now.list (numbers_of c.as_slice.result.now) c.args.at p.0 e p.2, d))
 
 pub returns-in-Refused-clause-refused : goal.returns-in-Refused-clause-refused
-returns-in-Refused-clause-refused c =
-    let p : IsParsed c.args.start (drop c.args.at (numbers_of c.as_slice.result.now)) c.args.at (Refused c.in-Refused.to) = parsed_as c.args.start _ c.args.at _ _ c.in-Refused.is c.in_ok-actions.ensures in
+returns-in-Refused-clause-refused g c =
+    let p : IsParsed c.args.start (drop c.args.at (numbers_of c.as_slice.result.now)) c.args.at (Took g.S.Sink.became c.args.sink.now c.parse_kinds.new.sink) (Refused c.in-Refused.to) = parsed_as c.args.start _ c.args.at _ _ _ c.in-Refused.is c.in_ok-to.ensures in
     let e = ap numbers_of c.as_slice.ensures in
     refused_of c.args.start c.args.tokens.now.list c.args.at (length c.args.tokens.now.text) p.0 c.in-Refused.to c.refusal.result
     (c.refusal.ensures
@@ -34,7 +35,7 @@ returns-in-Refused-clause-refused c =
     (run_of c.args.start c.args.tokens.now.list (numbers_of c.as_slice.result.now) c.args.at p.0 e p.2) (none_of c.args.start c.args.tokens.now.list (numbers_of c.as_slice.result.now) c.args.at p.0 e p.3)
 
 pub returns-in-Refused-clause-inside : goal.returns-in-Refused-clause-inside
-returns-in-Refused-clause-inside c =
+returns-in-Refused-clause-inside g c =
     inside_of c.args.tokens.now.list (length c.args.tokens.now.text) c.in-Refused.to (refused_with (drop c.in-Refused.to c.args.tokens.now.list)) c.refusal.result
     (c.refusal.ensures
     ∙ ap (λ text. fault.Diag (refused_at (length text) (drop c.in-Refused.to c.as_slice-in-Refused.result.now)) (refused_with (drop c.in-Refused.to c.as_slice-in-Refused.result.now))) c.text.ensures

@@ -1,6 +1,4 @@
-use Rattle.std.proofs.Common.{sym, subst, arith, drop, length, ◌<◌, ◌∙◌, ◌-◌, ◌≡◌, ap, reverse}
-use Rattle.sp_build.specs.Building.{opened, Stack}
-use Rattle.sp_build.specs.Items.{begun}
+use Rattle.std.proofs.Common.{sym, subst, arith, ◌∙◌, ◌≡◌, reverse}
 use Rattle.sp_build.specs.Stacks.{AreTrees, floor_of}
 use Rattle.sp_build.proofs.Held.{begun_there, not_begun_there, not_begun_none, floor_of_last, count_within}
 use Rattle.sp_build.proofs.stack.TreeStack.begun_under.Goals as goal

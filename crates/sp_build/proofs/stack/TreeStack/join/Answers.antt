@@ -1,8 +1,7 @@
-use Rattle.std.proofs.Common.{sym, subst, arith, drop, take, length, true, ◌∙◌, ◌++◌, ◌∷◌, [], ◌≡◌, ◌≤◌, ◌-◌, List, ap}
-use Rattle.sp_ast.specs.Trees.{Tree, tree, trees}
-use Rattle.sp_ast.specs.Slots.{slots, fill}
-use Rattle.sp_ast.specs.Places.{trees_at, ArePlaces}
-use Rattle.sp_build.specs.Stacks.{last_trees, AreTrees, Holds}
+use Rattle.std.proofs.Common.{sym, subst, arith, ◌∙◌, List, ap}
+use Rattle.sp_ast.specs.Trees.{Tree, tree}
+use Rattle.sp_ast.specs.Places.{trees_at}
+use Rattle.sp_build.specs.Stacks.{last_trees, AreTrees}
 use Rattle.sp_build.proofs.Held.{count_within, parts_places, parts_trees, places_drop, left_out_holds, joined_tree}
 use Rattle.sp_build.proofs.stack.TreeStack.join.Goals as goal
 

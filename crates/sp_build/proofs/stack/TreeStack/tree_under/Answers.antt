@@ -1,7 +1,5 @@
-use Rattle.std.proofs.Common.{sym, subst, arith, drop, length, ◌<◌, ◌∙◌, ◌-◌, ◌≡◌, ap, reverse, get_or}
-use Rattle.sp_ast.specs.Places.{tree_at}
-use Rattle.sp_build.specs.Items.{built}
-use Rattle.sp_build.specs.Stacks.{AreTrees, IsFloor, floor_of}
+use Rattle.std.proofs.Common.{sym, subst, arith}
+use Rattle.sp_build.specs.Stacks.{AreTrees}
 use Rattle.sp_build.proofs.Held.{tree_there_read, no_tree_under_read, count_within}
 use Rattle.sp_build.proofs.stack.TreeStack.tree_under.Goals as goal
 
