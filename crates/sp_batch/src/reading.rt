@@ -20,7 +20,8 @@ enum Reading<'a> {
 
 /// What follows the header.
 fn header(text: &[u8]) -> Option<&[u8]>
-    ensures { MatchOption result (header text.now ≡ None) (λ rest. header text.now ≡ Some rest.now) }
+    ensures { MatchOption result (header text.now ≡ None)
+        (λ rest. header text.now ≡ Some rest.now) }
 {
     line_end(behind(b"!spicy-batch v2", text)?)
 }
@@ -59,7 +60,8 @@ fn with_data<'a>(
     size: u64,
     rest: Option<&'a [u8]>,
 ) -> Result<Reading<'a>, NoMemory>
-    ensures { IfOk result (λ reading. reading_of reading ≡ with_data id size (option_map (λ r. r.now) rest.entry)) }
+    ensures { IfOk result (λ reading. reading_of reading
+        ≡ with_data id size (option_map (λ r. r.now) rest.entry)) }
 {
     match rest {
         None => Ok(Reading::Bad(BKind::CutShort)),
@@ -96,7 +98,8 @@ pub fn read_record(
 ) -> Result<Option<(Record, u64)>, BatchFault>
     requires { at ≤ length bytes.now }
     ensures end { IfOk result (λ found. IfNone found (at ≡ length bytes.now)) }
-    ensures next { IfOk result (λ found. IfSome found (λ two. (at < two.1) × (two.1 ≤ length bytes.now))) }
+    ensures next { IfOk result (λ found. IfSome found
+        (λ two. (at < two.1) × (two.1 ≤ length bytes.now))) }
     ensures record { IfOk result (λ found. IfSome found
         (λ two. IsRecord (drop at bytes.now) two.0 (drop two.1 bytes.now))) }
     ensures fault { IfErr result (λ fault. IsFault (drop at bytes.now) at fault) }

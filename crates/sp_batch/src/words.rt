@@ -12,7 +12,8 @@ use std::str::from_utf8;
 /// The bytes before the first `c`, or all, and those behind it where there is one.
 pub(crate) fn cut(c: u8, s: &[u8]) -> (&[u8], Option<&[u8]>)
     ensures front { result.0.now ≡ front c s.now }
-    ensures past { MatchOption result.1 (past c s.now ≡ None) (λ rest. past c s.now ≡ Some rest.now) }
+    ensures past { MatchOption result.1 (past c s.now ≡ None)
+        (λ rest. past c s.now ≡ Some rest.now) }
 {
     match memchr(c, s) {
         Some(at) => (&s[..at], Some(&s[at + 1..])),
@@ -30,7 +31,8 @@ pub(crate) fn behind<'a>(front: &[u8], s: &'a [u8]) -> Option<&'a [u8]>
 
 /// What follows an LF, or nothing at the end of the text.
 pub(crate) fn line_end(tail: &[u8]) -> Option<&[u8]>
-    ensures { MatchOption result (line_end tail.now ≡ None) (λ rest. line_end tail.now ≡ Some rest.now) }
+    ensures { MatchOption result (line_end tail.now ≡ None)
+        (λ rest. line_end tail.now ≡ Some rest.now) }
 {
     match tail {
         [] => Some(tail),
@@ -55,7 +57,8 @@ fn is_name(word: &[u8]) -> bool
 
 /// The bytes as one name.
 pub(crate) fn name(word: &[u8]) -> Option<&str>
-    ensures { MatchOption result (name word.now ≡ None) (λ text. name word.now ≡ Some text.now) }
+    ensures { MatchOption result (name word.now ≡ None)
+        (λ text. name word.now ≡ Some text.now) }
 {
     if is_name(word) {
         match from_utf8(word) {
