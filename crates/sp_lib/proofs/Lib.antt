@@ -2,5 +2,7 @@ pub mod DigitsRead
 pub mod Fronts
 pub mod Popped
 pub mod BytesBegun
-pub mod Decoded
+pub mod TextsDecoded
 pub mod PartsPushed
+pub mod GroupsDecoded
+pub mod Base64Rows

@@ -5,7 +5,7 @@ use Rattle.memchr.specs.Find.{FindsNeedle}
 use Rattle.sp_value.specs.Val.{Val, bytes}
 use Rattle.sp_methods.specs.Separated.{parts}
 use Rattle.sp_methods.proofs.Found.{parts_at_the_first, parts_without_any}
-use Rattle.sp_lib.proofs.Decoded.{left}
+use Rattle.sp_lib.proofs.TextsDecoded.{left}
 
 module _ (d rest : List ℕ) (some : 0 < length d) (whole list new : List Val) (v : Val) (before : whole ≡ list ++ map bytes (parts d 0 rest)) (pushed : new ≡ list ++ v ∷ []) where
   -- one more part, and those that are left

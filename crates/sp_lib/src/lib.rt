@@ -3,6 +3,7 @@
 #![tactic(auto)]
 
 mod fault;
+mod groups;
 mod letters;
 mod members;
 mod numerals;
@@ -11,6 +12,7 @@ mod separated;
 mod slices;
 mod texts;
 
+pub use groups::{Decoded, base64_group};
 pub use letters::{lower, upper};
 pub use members::{back, front, get, pop_back, push_back};
 pub use numerals::{to_int, to_uint};

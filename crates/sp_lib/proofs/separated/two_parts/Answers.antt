@@ -1,6 +1,6 @@
 use Rattle.std.proofs.Common.{length, ◌+◌, refl, sym, ◌∙◌, arith}
 use Rattle.sp_methods.proofs.Found.{parts_at_the_first, parts_without_any}
-use Rattle.sp_lib.proofs.Decoded.{left, nothing_left}
+use Rattle.sp_lib.proofs.TextsDecoded.{left, nothing_left}
 use Rattle.sp_lib.proofs.separated.two_parts.Goals as goal
 
 pub returns-in-Some-clause-before : goal.returns-in-Some-clause-before

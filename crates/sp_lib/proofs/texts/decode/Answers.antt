@@ -1,4 +1,4 @@
-use Rattle.sp_lib.proofs.Decoded.{decoded_refused}
+use Rattle.sp_lib.proofs.TextsDecoded.{decoded_refused}
 use Rattle.sp_lib.proofs.texts.decode.Goals as goal
 
 pub returns-then-strategy-eq2 : goal.returns-then-strategy-eq2

@@ -1,0 +1,94 @@
+//! Reads the text of a batch whole, or makes the generator's input in pieces, for measurements. Standard input is the text; or a
+//! line `gen`, the number of records and the size of a piece, with spaces between them. Says how many records, or pieces, there
+//! were, and how many bytes they hold.
+#![tactic(auto)]
+
+ghost use Rattle.std.specs.Prelude.{◌≤◌, length};
+
+use sp_base::NoMemory;
+use sp_batch::{BatchFault, Record, read_header, read_record};
+use sp_generator::gen_piece;
+use std::alloc::Global;
+use std::io;
+use std::io::Read;
+
+/// What the records of a batch, or the pieces of an input, come to.
+#[derive(Clone, Copy)]
+struct Sum {
+    parts: u64,
+    bytes: u64,
+}
+
+/// The records from a place on.
+fn records(alloc: Global, text: &[u8], from: u64) -> Result<Sum, BatchFault>
+    requires { from ≤ length text.now }
+{
+    let mut at = from;
+    let mut sum = Sum { parts: 0, bytes: 0 };
+    for _ in 0..=text.len() {
+        let Some((record, next)) = read_record(alloc, text, at)? else {
+            break;
+        };
+        if let Record::Data { bytes, .. } = &record {
+            sum.bytes = sum.bytes.saturating_add(bytes.len() as u64);
+        }
+        sum.parts = sum.parts.saturating_add(1);
+        at = next;
+    }
+    Ok(sum)
+}
+
+/// The pieces of the generator's input.
+fn pieces(alloc: Global, n: u64, size: u64) -> Result<Sum, NoMemory>
+    requires { n ≤ 4294967296 }
+{
+    let mut sum = Sum { parts: 0, bytes: 0 };
+    for _ in 0..u64::MAX {
+        let piece = gen_piece(alloc, n, sum.bytes, size)?;
+        if piece.is_empty() {
+            break;
+        }
+        sum.bytes = sum.bytes.saturating_add(piece.len() as u64);
+        sum.parts = sum.parts.saturating_add(1);
+    }
+    Ok(sum)
+}
+
+/// The numbers of the line `gen`.
+fn sizes(line: &str) -> Option<(u64, u64)> {
+    let (n, size) = line.strip_prefix("gen ")?.split_once(" ")?;
+    Some((n.parse::<u64>().ok()?, size.trim().parse::<u64>().ok()?))
+}
+
+/// What the text comes to.
+fn answer(alloc: Global, text: &[u8]) -> Result<Sum, BatchFault> {
+    if text.len() < 64 {
+        if let Ok(line) = std::str::from_utf8(text) {
+            if let Some((n, size)) = sizes(line) {
+                if n <= 1 << 32 {
+                    return Ok(pieces(alloc, n, size)?);
+                }
+            }
+        }
+    }
+    let from = read_header(text)?;
+    records(alloc, text, from)
+}
+
+fn main(rt: HostRuntime) -> io::Result<()> {
+    let mut text = Vec::new(rt.alloc());
+    rt.stdin().read_to_end(&mut text)?;
+    match answer(rt.alloc(), text.as_slice()) {
+        Ok(sum) => {
+            let parts = sum.parts;
+            let bytes = sum.bytes;
+            println!(rt; "{parts} parts, {bytes} bytes")?;
+        }
+        Err(BatchFault::Bad(kind, at)) => {
+            let name = kind.name();
+            println!(rt; "{name} at {at}")?;
+        }
+        Err(BatchFault::NoMemory) => println!(rt; "out of memory")?,
+    }
+    Ok(())
+}
