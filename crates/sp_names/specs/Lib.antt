@@ -1,0 +1,6 @@
+pub mod Declarations
+pub mod Names
+pub mod Types
+pub mod Aliases
+pub mod Faults
+pub mod Rows

@@ -1,0 +1,8 @@
+//! What names mean over a list of modules: tables of declarations, paths, written types, and the types of aliases.
+#![tactic(auto)]
+
+mod rows;
+mod sort;
+
+pub use rows::{Bitfield, Declaration};
+pub use sort::{DeclSort, Meaning, Scope};
