@@ -4,3 +4,4 @@ pub mod Types
 pub mod Aliases
 pub mod Faults
 pub mod Rows
+pub mod Tables

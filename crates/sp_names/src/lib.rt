@@ -3,6 +3,8 @@
 
 mod rows;
 mod sort;
+mod table;
+mod tell;
 
 pub use rows::{Bitfield, Declaration};
 pub use sort::{DeclSort, Meaning, Scope};
