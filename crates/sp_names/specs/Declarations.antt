@@ -108,3 +108,22 @@ before s list g = length (all_from s 0 (take g (rows list)))
 -- the library has four enums, whose numbers are the first
 abbrev pub library_enums : ℕ
 library_enums = 4
+
+-- a declaration's number among those of its sort in a row; an enum's is counted behind those of the library
+abbrev pub number_in : List Declaration → ℕ → DeclSort → ℕ
+number_in rs g sort_is.Unit = length (all_from sort_is.Unit 0 (take g rs))
+number_in rs g sort_is.Enum = library_enums + length (all_from sort_is.Enum 0 (take g rs))
+number_in rs g sort_is.Constant = length (all_from sort_is.Constant 0 (take g rs))
+number_in rs g sort_is.Function = length (all_from sort_is.Function 0 (take g rs))
+number_in rs g _ = 0
+
+abbrev pub sort_or : Option Declaration → DeclSort
+sort_or None = sort_is.Property
+sort_or (Some d) = sort_of d.tree
+
+-- what the declaration of a number declares; where there is none, no name
+abbrev pub sort_at : List Tree → ℕ → DeclSort
+sort_at list g = sort_or (declaration_at list g)
+
+abbrev pub number_at : List Tree → ℕ → ℕ
+number_at list g = number_in (rows list) g (sort_at list g)

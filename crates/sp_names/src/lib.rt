@@ -1,7 +1,9 @@
 //! What names mean over a list of modules: tables of declarations, paths, written types, and the types of aliases.
 #![tactic(auto)]
 
+mod passes;
 mod rows;
+
 mod sort;
 mod table;
 mod tell;

@@ -1,10 +1,10 @@
 // What declarations tell: which name they give, and what they declare.
-ghost use Rattle.std.specs.Prelude.{◌≡◌, option_copied};
-ghost use Rattle.sp_names.specs.Declarations.{sort_of, type_sort};
-ghost use Rattle.sp_names.specs.Names.{declared_name, import_name, label_name};
+ghost use Rattle.std.specs.Prelude.{◌≡◌, [], option_copied, IfSome, IfNone};
+ghost use Rattle.sp_names.specs.Declarations.{sort_of, type_sort, type_tree_of, module_name, module_declarations};
+ghost use Rattle.sp_names.specs.Names.{declared_name, import_name, label_name, enum_labels};
 
 use crate::sort::DeclSort;
-use sp_ast::{DeclKind, DeclView, LabelKind, Ref, TypeKind, TypeView};
+use sp_ast::{DeclKind, DeclView, LabelKind, Members, Module, Ref, TypeKind, TypeView};
 
 /// The name of a type, a constant or a function.
 pub(crate) fn declared_name<'a>(tree: &Ref<'a, DeclKind>) -> Option<&'a str>
@@ -56,5 +56,41 @@ pub(crate) fn sort_of(tree: &Ref<'_, DeclKind>) -> DeclSort
         DeclView::Type { type_, .. } => type_sort(&type_),
         DeclView::Const { .. } => DeclSort::Constant,
         DeclView::Function { .. } => DeclSort::Function,
+    }
+}
+
+/// The declarations of a module.
+pub(crate) fn declarations_of(whole: &Module) -> Members<'_, DeclKind>
+    ensures { result ≡ module_declarations whole.now }
+{
+    whole.root().view().declarations
+}
+
+/// The name of a module.
+pub(crate) fn name_of(whole: &Module) -> &str
+    ensures { result.now ≡ module_name whole.now }
+{
+    whole.root().view().name.text()
+}
+
+/// The labels of a type that is an enum.
+fn labels_in<'a>(tree: &Ref<'a, TypeKind>) -> Option<Members<'a, LabelKind>>
+    ensures some { IfSome result (λ ls. enum_labels tree.now ≡ ls) }
+    ensures none { IfNone result (enum_labels tree.now ≡ []) }
+{
+    match tree.view() {
+        TypeView::Enum(labels) => Some(labels),
+        _ => None,
+    }
+}
+
+/// The labels of a declaration of an enum.
+pub(crate) fn labels_of<'a>(tree: &Ref<'a, DeclKind>) -> Option<Members<'a, LabelKind>>
+    ensures some { IfSome result (λ ls. enum_labels (type_tree_of tree.now) ≡ ls) }
+    ensures none { IfNone result (enum_labels (type_tree_of tree.now) ≡ []) }
+{
+    match tree.view() {
+        DeclView::Type { type_, .. } => labels_in(&type_),
+        _ => None,
     }
 }

@@ -1,9 +1,8 @@
-use Rattle.indexmap.specs.IndexMap.{get_by_text}
 use Rattle.sp_names.specs.Names.{label_name}
-use Rattle.sp_names.specs.Tables.{LeadsTo}
+use Rattle.sp_names.specs.Tables.{LeadsTo, told_by}
 use Rattle.sp_names.proofs.table.label_table.Given as goal
 
 abbrev pub invariant-loop-label : goal.invariant-loop-label
 invariant-loop-label l =
     (goal.iterator-loop-label).can_next l.label-iterator × (goal.iterator-loop-label).is_finite l.label-iterator
-    × LeadsTo label_name 0 l.fn.labels l.number l.label-iterator (get_by_text l.table)
+    × LeadsTo label_name 0 l.fn.labels l.number l.label-iterator (told_by l.table)
