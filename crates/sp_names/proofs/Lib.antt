@@ -1,3 +1,6 @@
 pub mod Noting
 pub mod Lists
 pub mod Further
+pub mod Bits
+pub mod Lookups
+pub mod Behind

@@ -63,10 +63,15 @@ abbrev pub imported_scope : List Tree → List ℕ → Option Scope
 imported_scope list x =
     if bytes_eq x (codes "spicy") then Some scope_is.Spicy else (if bytes_eq x (codes "filter") then Some scope_is.Filter else module_scope (module_named list x))
 
+-- the name of a module, if it is there
+abbrev pub own_name : Option Tree → Option (List ℕ)
+own_name None = None
+own_name (Some t) = Some (module_name t)
+
 -- the module that a name names in a module: itself, or one that it imports; the imports of an imported module don't count
 abbrev pub visible : List Tree → ℕ → List ℕ → Option Scope
 visible list m x =
-    if bytes_eq x (module_name (module_at list m)) then Some (scope_is.Module m) else (if is_imported list m x then imported_scope list x else None)
+    if is_name x (own_name (slice_get list m)) then Some (scope_is.Module m) else (if is_imported list m x then imported_scope list x else None)
 
 -- the place of a name among names
 abbrev pub place_among : List ℕ → ℕ → List (List ℕ) → Option ℕ

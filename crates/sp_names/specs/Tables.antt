@@ -1,14 +1,18 @@
 -- What tables of names hold.
-use Rattle.std.specs.Prelude.{ℕ, ◌≡◌, ◌+◌, ◌==◌, length, Bool, true, false, is_some, if◌then◌else◌, List, [], ◌∷◌, ◌++◌, Option, Some, None, slice_get}
-use Rattle.indexmap.specs.IndexMap.{get_by_text}
+use Rattle.std.specs.Prelude.{ℕ, ◌≡◌, ◌+◌, ◌==◌, nat_eq, length, Bool, true, false, is_some, if◌then◌else◌, List, [], ◌∷◌, ◌++◌, Option, Some, None, slice_get}
+use Rattle.indexmap.specs.IndexMap.{get, get_by_text}
 use Rattle.sp_ast.specs.Trees.{Tree}
 use Rattle.sp_names.specs.declared.rows.Declaration.{Declaration}
 use Rattle.sp_names.specs.declared.sort.DeclSort.{DeclSort}
 use Rattle.sp_names.specs.declared.sort.DeclSort.TheVariants as sort_is
 use Rattle.sp_names.specs.declared.table.NameTable.{NameTable}
 use Rattle.sp_names.specs.declared.table.ModuleNames.{ModuleNames}
-use Rattle.sp_names.specs.Declarations.{library_enums, sort_number, all_from, number_in, sort_or}
-use Rattle.sp_names.specs.Names.{is_name, first_named, declared, is_imported, label_name, labels_of}
+use Rattle.sp_names.specs.declared.passes.Sorted.{Sorted}
+use Rattle.sp_names.specs.declared.rows.Bitfield.{Bitfield}
+use Rattle.sp_names.specs.declared.bitfields.PlaceTable.{PlaceTable}
+use Rattle.sp_names.specs.Types.{bitfields, bitfield_number, first_placed}
+use Rattle.sp_names.specs.Declarations.{rows, library_enums, sort_number, all_from, number_in, sort_or}
+use Rattle.sp_names.specs.Names.{is_name, first_named, declared, is_imported, label_name, name_of_module, labels_of}
 
 -- what a table tells of a name
 abbrev pub told_by : NameTable → List ℕ → Option ℕ
@@ -76,3 +80,42 @@ declaration_in rs (Some g) = slice_get rs g
 -- the labels of each enum
 abbrev pub IsLabels : List Declaration → List ℕ → ℕ → NameTable → Type 0
 IsLabels rs enums n table = IsTable label_name 0 (labels_of (declaration_in rs (slice_get enums n))) (told_by table)
+
+-- what a table tells of a place, at which the type of a bitfield begins
+abbrev pub placed_by : PlaceTable → ℕ → Option ℕ
+placed_by table p = get nat_eq table.first p
+
+abbrev pub IsPlaced : (ℕ → Option ℕ) → (ℕ → Option ℕ) → ℕ → ℕ → Type 0
+IsPlaced old new place number =
+    (p : ℕ) → new p ≡ earlier (old p) (if place == p then Some number else None)
+
+-- the trees of bitfields
+abbrev pub trees_of : List Bitfield → List Tree
+trees_of [] = []
+trees_of (b ∷ bs) = b.tree ∷ trees_of bs
+
+abbrev pub PlacesLeadTo : ℕ → List Tree → ℕ → List Tree → (ℕ → Option ℕ) → Type 0
+PlacesLeadTo first all k left told =
+    (p : ℕ) → earlier (told p) (first_placed p k left) ≡ first_placed p first all
+
+abbrev pub ArePlaced : ℕ → List Tree → (ℕ → Option ℕ) → Type 0
+ArePlaced first ts told = (p : ℕ) → told p ≡ first_placed p first ts
+
+-- the places of the bitfields of each module
+abbrev pub IsPlaces : List Tree → ℕ → PlaceTable → Type 0
+IsPlaces list m table = (p : ℕ) → placed_by table p ≡ bitfield_number list m p
+
+-- all tables of a list of modules
+pub record AreTables (list : List Tree) (rs : List Declaration) (numbers : List ℕ) (sorted : Sorted) (names : List ModuleNames) (by_name : NameTable) (labels : List NameTable) (bits : List Bitfield) (places : List PlaceTable) : Type 0 where
+  pub rows_are : rs ≡ rows list
+  pub all_numbers : length numbers ≡ length rs
+  pub numbers_are : Each (IsNumber rs) numbers
+  pub sorted_are : AreSorted rs sorted.units.items sorted.enums.items sorted.constants.items sorted.functions.items
+  pub all_names : length names ≡ length list
+  pub names_are : Each (IsOf list) names
+  pub modules_are : IsTable name_of_module 0 list (told_by by_name)
+  pub all_labels : length labels ≡ length sorted.enums.items
+  pub labels_are : Each (IsLabels rs sorted.enums.items) labels
+  pub bitfields_are : bits ≡ bitfields list
+  pub all_places : length places ≡ length list
+  pub places_are : Each (IsPlaces list) places

@@ -21,21 +21,17 @@ use Rattle.sp_names.specs.declared.rows.Bitfield.{Bitfield}
 use Rattle.sp_names.specs.Declarations.{module_at}
 use Rattle.sp_names.specs.Names.{declared, visible, path_names, path_means}
 
-abbrev pub is_bitfield : Form → Bool
-is_bitfield (form_is.Type type_is.Bitfield) = true
-is_bitfield _ = false
-
--- a tree before others, where it is asked for
-abbrev pub with_tree : Bool → Tree → List Tree → List Tree
-with_tree true t ts = t ∷ ts
-with_tree false t ts = ts
+-- a tree where it is the type of a bitfield
+abbrev pub if_bitfield : Tree → List Tree
+if_bitfield (node (form_is.Type type_is.Bitfield) span ts) = node (form_is.Type type_is.Bitfield) span ts ∷ []
+if_bitfield _ = []
 
 -- the types of bitfields in a tree, in the order of the text
 abbrev mutual
   pub bitfields_in : Tree → List Tree
   bitfields_in absent = []
   bitfields_in (row ts) = bitfields_among ts
-  bitfields_in (node form span ts) = with_tree (is_bitfield form) (node form span ts) (bitfields_among ts)
+  bitfields_in (node form span ts) = if_bitfield (node form span ts) ++ bitfields_among ts
 
   pub bitfields_among : Trees → List Tree
   bitfields_among none = []

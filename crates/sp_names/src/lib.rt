@@ -1,12 +1,17 @@
 //! What names mean over a list of modules: tables of declarations, paths, written types, and the types of aliases.
 #![tactic(auto)]
 
+mod bitfields;
+mod names;
 mod passes;
+mod paths;
 mod rows;
 
 mod sort;
 mod table;
 mod tell;
 
+pub use names::Names;
+pub use passes::LIBRARY_ENUMS;
 pub use rows::{Bitfield, Declaration};
 pub use sort::{DeclSort, Meaning, Scope};
