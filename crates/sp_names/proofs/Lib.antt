@@ -4,3 +4,5 @@ pub mod Further
 pub mod Bits
 pub mod Lookups
 pub mod Behind
+pub mod TypesOf
+pub mod Opens

@@ -1,5 +1,6 @@
 -- The types of type declarations, as questions whose answers hang on each other.
-use Rattle.std.specs.Prelude.{ℕ, ◌≡◌, ◌+◌, List, [], ◌∷◌, length, take, Option, Some, None, ◌⊎◌}
+use Rattle.std.specs.Prelude.{ℕ, ◌≡◌, ◌+◌, List, [], ◌∷◌, length, take, Option, Some, None, ◌⊎◌, Vec}
+use Rattle.std.specs.declared.alloc.Global.{Global}
 use Rattle.sp_ast.specs.Trees.{Tree}
 use Rattle.sp_types.specs.Types.{Ty, word}
 use Rattle.sp_types.specs.declared.words.Word.TheVariants as word_is
@@ -77,3 +78,15 @@ pub data Leads (list : List Tree) : ℕ → ℕ → Type 0 where
 -- a declaration is made of itself, or of one that is
 abbrev pub IsEndless : List Tree → ℕ → Type 0
 IsEndless list i = (j : ℕ) × ((i ≡ j) ⊎ Leads list i j) × Leads list j j
+
+-- the type of a declaration, where those on which it hangs are answered
+abbrev pub declaration_type : List Tree → (ℕ → Option Ty) → ℕ → Option Declaration → Ty
+declaration_type list f g None = unknown
+declaration_type list f g (Some d) = sort_type list f g d (sort_of d.tree)
+
+abbrev pub items_of : Vec ℕ Global → List ℕ
+items_of v = v.items
+
+-- the declarations on which each hangs
+abbrev pub IsAsked : List Tree → ℕ → Vec ℕ Global → Type 0
+IsAsked list g v = items_of v ≡ asks list (declaration_at list g)

@@ -5,3 +5,4 @@ pub mod Aliases
 pub mod Faults
 pub mod Rows
 pub mod Tables
+pub mod AliasLaws

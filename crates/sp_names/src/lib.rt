@@ -1,6 +1,7 @@
 //! What names mean over a list of modules: tables of declarations, paths, written types, and the types of aliases.
 #![tactic(auto)]
 
+mod aliases;
 mod bitfields;
 mod names;
 mod passes;
@@ -10,7 +11,9 @@ mod rows;
 mod sort;
 mod table;
 mod tell;
+mod types;
 
+pub use aliases::resolve_types;
 pub use names::Names;
 pub use passes::LIBRARY_ENUMS;
 pub use rows::{Bitfield, Declaration};
