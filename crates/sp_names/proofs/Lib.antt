@@ -6,3 +6,5 @@ pub mod Lookups
 pub mod Behind
 pub mod TypesOf
 pub mod Opens
+pub mod Chains
+pub mod Checks

@@ -3,6 +3,8 @@
 
 mod aliases;
 mod bitfields;
+mod faults;
+mod laws;
 mod names;
 mod passes;
 mod paths;
@@ -14,6 +16,7 @@ mod tell;
 mod types;
 
 pub use aliases::resolve_types;
+pub use laws::none_is_endless;
 pub use names::Names;
 pub use passes::LIBRARY_ENUMS;
 pub use rows::{Bitfield, Declaration};
