@@ -1,5 +1,5 @@
 -- Paths as lists of names, and what stands behind a label.
-use Rattle.std.proofs.Common.{ℕ, ◌≡◌, Bool, true, false, refl, sym, ap, ◌∙◌, List, [], ◌∷◌, length, Option, Some, None}
+use Rattle.std.proofs.Common.{ℕ, ◌≡◌, true, false, refl, sym, ap, ◌∙◌, List, [], ◌∷◌, length, Option, Some}
 use Rattle.std.specs.Prelude.{◌==◌}
 use Rattle.sp_ast.specs.Trees.{Tree, tree}
 use Rattle.sp_ast.specs.declared.forms.Form.TheVariants as form_is
@@ -26,8 +26,8 @@ behind_label list f meaning found names others name owner label x m e h l n z =
     let more = some_more others z in
     let ys = names_of more.1 in
     sym (
-      ap (λ o. behind list f 1 o (names_of names)) m
-      ∙ ap (λ ns. behind list f 1 (Some found) (names_of ns)) (e ∙ ap (λ os. name ∷ os) more.2)
-      ∙ ap (λ o. behind list f 2 (label_of list o (name_of name)) (name_of more.0 ∷ ys)) (sym h)
-      ∙ ap (λ w. behind list f 2 (label_of list (Some owner) w) (name_of more.0 ∷ ys)) n
-      ∙ ap (λ o. behind list f 2 (some_label owner o) (name_of more.0 ∷ ys)) (sym l))
+    ap (λ o. behind list f 1 o (names_of names)) m
+    ∙ ap (λ ns. behind list f 1 (Some found) (names_of ns)) (e ∙ ap (λ os. name ∷ os) more.2)
+    ∙ ap (λ o. behind list f 2 (label_of list o (name_of name)) (name_of more.0 ∷ ys)) (sym h)
+    ∙ ap (λ w. behind list f 2 (label_of list (Some owner) w) (name_of more.0 ∷ ys)) n
+    ∙ ap (λ o. behind list f 2 (some_label owner o) (name_of more.0 ∷ ys)) (sym l))

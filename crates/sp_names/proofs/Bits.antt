@@ -1,14 +1,11 @@
 -- The types of bitfields, a step further.
-use Rattle.std.proofs.Common.{ℕ, ◌≡◌, ◌<◌, ◌≤◌, ◌+◌, zero, suc, refl, sym, ap, ◌∙◌, arith, List, [], ◌∷◌, ◌++◌, length, drop, take, get_or}
-use Rattle.std.proofs.lemmas.List.{length-append, append_assoc, length-take-le, take_more, drop_at}
-use Rattle.sp_ast.specs.Trees.{Tree, Trees, trees, tree, trees_size, span_of}
-use Rattle.sp_ast.specs.Levels.{level_tree}
-use Rattle.sp_ast.specs.declared.forms.Form.{Form}
-use Rattle.sp_base.specs.declared.places.Span.{Span}
+use Rattle.std.proofs.Common.{ℕ, ◌≡◌, ◌<◌, ◌≤◌, ◌+◌, suc, refl, sym, ap, ◌∙◌, arith, List, [], ◌∷◌, ◌++◌, length, drop, take, get_or}
+use Rattle.std.proofs.lemmas.List.{append_assoc, length-take-le, take_more, drop_at}
+use Rattle.sp_ast.specs.Trees.{Tree, trees, trees_size}
 use Rattle.sp_names.specs.declared.rows.Bitfield.{Bitfield}
 use Rattle.sp_names.specs.declared.bitfields.PlaceTable.{PlaceTable}
 use Rattle.sp_names.specs.Declarations.{tree_or, module_at}
-use Rattle.sp_names.specs.Types.{if_bitfield, bitfields_in, bitfields_among, bitfields_of, bitfields_from, bitfields, bitfield_number, first_placed}
+use Rattle.sp_names.specs.Types.{bitfields_in, bitfields_among, bitfields_of, bitfields_from, bitfields, first_placed}
 use Rattle.sp_names.specs.Tables.{trees_of, ArePlaced, IsPlaces, placed_by}
 use Rattle.sp_names.proofs.Lists.{here}
 

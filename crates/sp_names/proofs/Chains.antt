@@ -1,5 +1,5 @@
 -- A declaration has no type exactly where it is made of itself, or of one that is.
-use Rattle.std.proofs.Common.{ℕ, ◌≡◌, ◌≤◌, ◌<◌, ◌≢◌, ◌+◌, zero, suc, refl, sym, ap, subst, ◌∙◌, arith, List, [], ◌∷◌, length, Bool, true, false, ltb, Option, Some, None, slice_get, ◌⊎◌, inl, inr, get_or}
+use Rattle.std.proofs.Common.{ℕ, ◌≡◌, ◌≤◌, ◌<◌, zero, suc, refl, sym, ap, subst, ◌∙◌, arith, List, [], ◌∷◌, length, Bool, true, false, ltb, Option, Some, None, ◌⊎◌, inl, inr}
 use Rattle.std.specs.Prelude.{replicate}
 use Rattle.std.proofs.Math.ListN.{set}
 use Rattle.std.proofs.lemmas.List.{length-set, length-replicate, get_or-replicate, get_or_past}
@@ -13,9 +13,8 @@ use Rattle.sp_solver.specs.Told.{told}
 use Rattle.sp_solver.specs.Rows.{marked, Among, fresh_in}
 use Rattle.sp_solver.proofs.Rows.{same_or, marked_more}
 use Rattle.sp_solver.proofs.Steps.{fewer_fresh}
-use Rattle.sp_names.specs.declared.rows.Declaration.{Declaration}
-use Rattle.sp_names.specs.Declarations.{rows, declaration_at, sort_of}
-use Rattle.sp_names.specs.Aliases.{open_or, first_open, asks, declaration_type, when_open, try_one, tries, IsResolved, Mentions, Leads, one, more, IsEndless}
+use Rattle.sp_names.specs.Declarations.{rows, declaration_at}
+use Rattle.sp_names.specs.Aliases.{open_or, first_open, asks, declaration_type, try_one, tries, IsResolved, Mentions, Leads, one, more, IsEndless}
 use Rattle.sp_names.specs.AliasLaws.{none_some, some_is, by_option, open_none, here, when_done, when_waits, is_fair, is_inside}
 
 open_among : (f : ℕ → Option Ty) (xs : List ℕ) (j : ℕ) → first_open f xs ≡ Some j → Among xs j

@@ -1,5 +1,5 @@
 -- The tables of a list, a step further.
-use Rattle.std.proofs.Common.{ℕ, ◌≡◌, ◌<◌, ◌+◌, suc, refl, sym, ap, ◌∙◌, arith, Bool, true, false, List, [], ◌∷◌, ◌++◌, length, take, Option, Some, None, is_some, slice_get, get_or}
+use Rattle.std.proofs.Common.{ℕ, ◌≡◌, ◌<◌, ◌+◌, suc, refl, sym, ap, ◌∙◌, arith, Bool, true, false, List, [], ◌∷◌, ◌++◌, length, take, is_some, get_or}
 use Rattle.std.specs.Prelude.{if◌then◌else◌}
 use Rattle.std.proofs.lemmas.List.{length-append, length-take-le, take_more}
 use Rattle.sp_ast.specs.Trees.{Tree}
@@ -7,7 +7,7 @@ use Rattle.sp_names.specs.declared.rows.Declaration.{Declaration}
 use Rattle.sp_names.specs.declared.sort.DeclSort.{DeclSort}
 use Rattle.sp_names.specs.declared.sort.DeclSort.TheVariants as sort_is
 use Rattle.sp_names.specs.declared.table.ModuleNames.{ModuleNames}
-use Rattle.sp_names.specs.Declarations.{rows, rows_of, rows_from, base, tree_or, module_at, module_declarations, is_sort, sort_of, all_from, number_in, sort_or, library_enums}
+use Rattle.sp_names.specs.Declarations.{rows_of, rows_from, base, tree_or, module_at, module_declarations, is_sort, sort_of, all_from, number_in, sort_or, library_enums}
 use Rattle.sp_names.specs.Names.{first_named, declared_name, import_name}
 use Rattle.sp_names.specs.Tables.{told_by, IsTable, IsOf, IsNumber, AreSorted, grown, grown_by, number_by}
 use Rattle.sp_names.proofs.Lists.{here}

@@ -1,5 +1,5 @@
 -- What the tables of a list tell.
-use Rattle.std.proofs.Common.{ℕ, ◌≡◌, ◌<◌, ◌≤◌, ◌-◌, zero, suc, refl, sym, ap, ◌∙◌, arith, Bool, false, true, List, [], ◌∷◌, length, Option, Some, None, is_some, slice_get, get_or}
+use Rattle.std.proofs.Common.{ℕ, ◌≡◌, ◌<◌, ◌≤◌, ◌-◌, zero, suc, refl, sym, ap, ◌∙◌, arith, Bool, false, List, [], ◌∷◌, length, Option, Some, None, is_some, slice_get, get_or}
 use Rattle.std.specs.Prelude.{if◌then◌else◌, nat_lt}
 use Rattle.std.proofs.lemmas.Bool.Decides.{nat_tests}
 use Rattle.sp_ast.specs.Trees.{Tree}

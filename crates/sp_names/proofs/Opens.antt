@@ -1,12 +1,12 @@
 -- The walk over the declarations on which one hangs.
-use Rattle.std.proofs.Common.{ℕ, ◌≡◌, ◌≤◌, ◌<◌, ◌+◌, zero, suc, refl, sym, ap, subst, ◌∙◌, arith, List, [], ◌∷◌, length, take, Option, Some, None, slice_get, get_or, is_some, Bool, true, false, Vec, Global}
+use Rattle.std.proofs.Common.{ℕ, ◌≡◌, ◌≤◌, ◌<◌, ◌+◌, zero, suc, refl, sym, ap, subst, ◌∙◌, arith, List, [], ◌∷◌, length, take, Option, Some, None, slice_get, get_or, is_some, true, false, Vec, Global}
 use Rattle.std.proofs.lemmas.List.{take_all}
 use Rattle.sp_ast.specs.Trees.{Tree}
 use Rattle.sp_types.specs.Types.{Ty}
 use Rattle.sp_solver.specs.declared.attempt.Attempt.TheVariants.{Done, Waits}
 use Rattle.sp_names.specs.declared.rows.Declaration.{Declaration}
-use Rattle.sp_names.specs.Declarations.{rows, declaration_at, sort_of}
-use Rattle.sp_names.specs.Aliases.{first_open, open_or, asks, sort_type, declaration_type, when_open, try_one, tries, ready, items_of, IsAsked}
+use Rattle.sp_names.specs.Declarations.{rows, declaration_at}
+use Rattle.sp_names.specs.Aliases.{first_open, open_or, asks, declaration_type, when_open, try_one, tries, ready, IsAsked}
 use Rattle.sp_names.specs.AliasLaws.{here as some_here, none_some, some_is, open_none, none_open}
 use Rattle.sp_names.specs.Tables.{Each}
 use Rattle.sp_names.proofs.Lists.{here}

@@ -1,7 +1,7 @@
 -- Types of trees in a row, and what these name.
-use Rattle.std.proofs.Common.{ℕ, ◌≡◌, ◌≤◌, ◌+◌, refl, sym, ap, ◌∙◌, arith, List, [], ◌∷◌, ◌++◌, Option}
+use Rattle.std.proofs.Common.{ℕ, ◌≡◌, refl, sym, ap, ◌∙◌, List, [], ◌∷◌, ◌++◌, Option}
 use Rattle.std.proofs.lemmas.List.{append_assoc}
-use Rattle.sp_ast.specs.Trees.{Tree, trees, trees_size}
+use Rattle.sp_ast.specs.Trees.{Tree, trees}
 use Rattle.sp_types.specs.Types.{Ty, Tys, tys}
 use Rattle.sp_types.specs.Types as types
 use Rattle.sp_names.specs.Types.{type_in, types_in, mentions_in, mentions_among}

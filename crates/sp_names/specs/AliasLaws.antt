@@ -3,9 +3,7 @@ use Rattle.std.proofs.Common.{ℕ, ◌≡◌, ◌≤◌, ◌<◌, ◌+◌, zero,
 use Rattle.std.specs.Prelude.{if◌then◌else◌, codes}
 use Rattle.std.specs.Str.{bytes_eq}
 use Rattle.std.proofs.lemmas.List.{length-append}
-use Rattle.sp_base.specs.declared.places.Span.{Span}
 use Rattle.sp_ast.specs.Trees.{Tree, Trees, absent, row, node, none, more}
-use Rattle.sp_ast.specs.declared.forms.Form.{Form}
 use Rattle.sp_ast.specs.declared.forms.Form.TheVariants as form_is
 use Rattle.sp_ast.specs.declared.forms.TypeForm.TheVariants as type_is
 use Rattle.sp_types.specs.Types.{Ty, Tys, made}
@@ -21,9 +19,9 @@ use Rattle.sp_names.specs.declared.sort.Meaning.{Meaning}
 use Rattle.sp_names.specs.declared.sort.Meaning.TheVariants as meaning_is
 use Rattle.sp_names.specs.declared.sort.Scope.{Scope}
 use Rattle.sp_names.specs.declared.sort.Scope.TheVariants as scope_is
-use Rattle.sp_names.specs.Declarations.{rows, rows_of, rows_from, base, tree_or, module_at, module_declarations, declaration_at, sort_of, type_tree_of}
-use Rattle.sp_names.specs.Names.{is_name, first_named, declared_name, declared, visible, place_among, library_names, label_in, some_declaration, some_library, some_label, named_in, enum_type, enum_of, own_enum, label_of, behind, in_scope, in_own, meaning_or, means, path_names, path_means}
-use Rattle.sp_names.specs.Types.{meaning_type, or_unknown, form_type, type_in, types_in, one_or_none, named_numbers, mentions, form_mentions, mentions_in, mentions_among}
+use Rattle.sp_names.specs.Declarations.{rows, rows_of, rows_from, base, module_at, module_declarations, declaration_at, sort_of, type_tree_of}
+use Rattle.sp_names.specs.Names.{is_name, first_named, declared_name, declared, visible, place_among, library_names, label_in, some_declaration, some_library, some_label, named_in, enum_type, enum_of, own_enum, label_of, behind, in_scope, in_own, meaning_or, means, path_names}
+use Rattle.sp_names.specs.Types.{meaning_type, or_unknown, type_in, types_in, one_or_none, named_numbers, mentions, mentions_in, mentions_among}
 use Rattle.sp_names.specs.Aliases.{open_or, first_open, sort_asks, asks, sort_type, when_open, nowhere, try_one, tries, ready}
 
 pub none_some : {A : Type 0} (o : Option A) (a : A) → o ≡ None → o ≡ Some a → ⊥

@@ -1,7 +1,7 @@
 -- What names and paths mean.
-use Rattle.std.specs.Prelude.{ℕ, ◌-◌, ◌==◌, suc, Bool, true, false, is_some, nat_lt, if◌then◌else◌, List, [], ◌∷◌, ◌++◌, Option, Some, None, slice_get, codes}
+use Rattle.std.specs.Prelude.{ℕ, ◌-◌, ◌==◌, suc, Bool, false, is_some, nat_lt, if◌then◌else◌, List, [], ◌∷◌, Option, Some, None, slice_get, codes}
 use Rattle.std.specs.Str.{bytes_eq}
-use Rattle.sp_ast.specs.Trees.{Tree, Trees, absent, row, node, none, more}
+use Rattle.sp_ast.specs.Trees.{Tree, node, more}
 use Rattle.sp_ast.specs.declared.forms.Form.TheVariants as form_is
 use Rattle.sp_ast.specs.declared.forms.DeclForm.TheVariants as decl_is
 use Rattle.sp_ast.specs.declared.forms.TypeForm.TheVariants as type_is

@@ -1,25 +1,22 @@
 -- Rows on which the definitions are run: two modules that import each other, with an enum by aliases, an alias that is made of
 -- itself, and names that are both a declaration and a module.
-use Rattle.std.specs.Prelude.{ℕ, ◌≡◌, Bool, true, false, List, [], ◌∷◌, Option, Some, None, length, map, codes, refl}
+use Rattle.std.specs.Prelude.{ℕ, ◌≡◌, false, List, [], ◌∷◌, Option, Some, None, length, map, codes, refl}
 use Rattle.sp_base.specs.declared.places.Span.{Span}
 use Rattle.sp_ast.specs.Trees.{Tree, absent, in_row, tree}
 use Rattle.sp_ast.specs.declared.forms.Form.{Form}
 use Rattle.sp_ast.specs.declared.forms.Form.TheVariants as form_is
 use Rattle.sp_ast.specs.declared.forms.DeclForm.TheVariants as decl_is
-use Rattle.sp_ast.specs.declared.forms.TypeForm.{TypeForm}
 use Rattle.sp_ast.specs.declared.forms.TypeForm.TheVariants as type_is
 use Rattle.sp_ast.specs.declared.forms.ExprForm.TheVariants as expr_is
 use Rattle.sp_types.specs.Types.{Ty, word}
 use Rattle.sp_types.specs.declared.words.Word.TheVariants as word_is
-use Rattle.sp_rules.specs.declared.fault.Fault.{Fault}
 use Rattle.sp_rules.specs.declared.rule.Rule.TheVariants as rule_is
-use Rattle.sp_rules.specs.Least.{broken, checked}
+use Rattle.sp_rules.specs.Least.{broken}
 use Rattle.sp_solver.specs.Rounds.{round}
 use Rattle.sp_names.specs.declared.sort.DeclSort.TheVariants as sort_is
-use Rattle.sp_names.specs.declared.sort.Meaning.{Meaning}
 use Rattle.sp_names.specs.declared.sort.Meaning.TheVariants as meaning_is
-use Rattle.sp_names.specs.Declarations.{rows, all_of, sort_of, before}
-use Rattle.sp_names.specs.Names.{module_named, declared, visible, means}
+use Rattle.sp_names.specs.Declarations.{rows, all_of}
+use Rattle.sp_names.specs.Names.{declared, means}
 use Rattle.sp_names.specs.Aliases.{tries}
 use Rattle.sp_names.specs.Faults.{name_faults, fault_at}
 

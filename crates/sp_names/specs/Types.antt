@@ -1,5 +1,5 @@
 -- The types that are written: what each is in its module, and which declarations it names.
-use Rattle.std.specs.Prelude.{ℕ, ◌==◌, suc, Bool, true, false, if◌then◌else◌, List, [], ◌∷◌, ◌++◌, take, length, Option, Some, None, slice_get}
+use Rattle.std.specs.Prelude.{ℕ, ◌==◌, suc, if◌then◌else◌, List, [], ◌∷◌, ◌++◌, take, length, Option, Some, None, slice_get}
 use Rattle.sp_base.specs.declared.places.Span.{Span}
 use Rattle.sp_words.specs.declared.words.IntWord.{IntWord}
 use Rattle.sp_words.specs.declared.words.IntWord.TheVariants as int

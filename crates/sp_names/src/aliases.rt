@@ -94,9 +94,7 @@ impl<'a> Names<'a> {
             DeclSort::Unit => Ok(Type::word(Word::Unit(self.number(declaration)))),
             DeclSort::Enum => Ok(Type::word(Word::Enum(self.number(declaration)))),
             DeclSort::Alias => match row.tree.view() {
-                DeclView::Type { type_, .. } => {
-                    self.type_in(alloc, known, row.module, &type_)
-                }
+                DeclView::Type { type_, .. } => { self.type_in(alloc, known, row.module, &type_) }
                 _ => Ok(Type::word(Word::Unknown)),
             },
             _ => Ok(Type::word(Word::Unknown)),

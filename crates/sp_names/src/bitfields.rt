@@ -59,11 +59,7 @@ fn add_bitfields<'a>(
 }
 
 #[cycle(add)]
-fn add_among<'a>(
-    list: &mut Vec<Bitfield<'a>>,
-    owner: u32,
-    parts: Parts<'a>,
-) -> Result<(), NoMemory>
+fn add_among<'a>(list: &mut Vec<Bitfield<'a>>, owner: u32, parts: Parts<'a>) -> Result<(), NoMemory>
     ensures { OnOk result (list.new.items ≡ list.old.items
         ++ bitfields_of owner (bitfields_among (trees parts.entry))) }
 {
@@ -92,11 +88,7 @@ pub(crate) fn number_at(table: &PlaceTable, place: u32) -> Option<u32>
 }
 
 /// The places of bitfields from one on.
-fn place_table(
-    alloc: Global,
-    list: &[Bitfield<'_>],
-    first: usize,
-) -> Result<PlaceTable, NoMemory>
+fn place_table(alloc: Global, list: &[Bitfield<'_>], first: usize) -> Result<PlaceTable, NoMemory>
     ensures { IfOk result (λ t. ArePlaced first (trees_of (drop first list.now)) (placed_by t)) }
 {
     let mut table = PlaceTable {

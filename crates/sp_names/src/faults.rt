@@ -32,12 +32,7 @@ fn path_span(path: &Ref<'_, PathKind>, place: u32) -> Span
 }
 
 /// Notes a path that names nothing.
-fn note_nothing(
-    owner: u32,
-    path: &Ref<'_, PathKind>,
-    meaning: Meaning,
-    least: &mut Option<Fault>,
-)
+fn note_nothing(owner: u32, path: &Ref<'_, PathKind>, meaning: Meaning, least: &mut Option<Fault>)
     ensures { least.new ≡ checked least.old (nothing_fault owner path.now meaning) }
 {
     if let Meaning::Nothing(place) = meaning {

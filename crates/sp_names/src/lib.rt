@@ -9,7 +9,6 @@ mod names;
 mod passes;
 mod paths;
 mod rows;
-
 mod sort;
 mod table;
 mod tell;

@@ -50,15 +50,10 @@ pub(crate) fn look_up(table: &NameTable, name: &str) -> Option<u32>
 }
 
 /// Notes the number of a name, unless it has one.
-fn declare(
-    alloc: Global,
-    table: &mut NameTable,
-    name: &str,
-    number: u32,
-) -> Result<(), NoMemory>
+fn declare(alloc: Global, table: &mut NameTable, name: &str, number: u32) -> Result<(), NoMemory>
     ensures { OnOk result ((x : List ℕ) → told_by table.new x
         ≡ cond (is_some (told_by table.old name.now)) (told_by table.old x)
-            (cond (bytes_eq x name.now) (Some number) (told_by table.old x))) }
+        (cond (bytes_eq x name.now) (Some number) (told_by table.old x))) }
 {
     if look_up(table, name).is_some() {
         return Ok(());

@@ -111,7 +111,11 @@ impl<'a> Names<'a> {
             TypeView::Void => Ok(Type::word(Word::Void)),
             TypeView::Int(word) => Ok(Type::word(int_word(word))),
             TypeView::Tuple(members) => {
-                Type::made(alloc, Maker::Tuple, self.types_in(alloc, known, owner, members)?)
+                Type::made(
+                    alloc,
+                    Maker::Tuple,
+                    self.types_in(alloc, known, owner, members)?,
+                )
             }
             TypeView::Vector(element) => {
                 let part = self.type_in(alloc, known, owner, &element)?;

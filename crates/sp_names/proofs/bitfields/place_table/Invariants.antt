@@ -1,4 +1,4 @@
-use Rattle.std.proofs.Common.{◌≡◌, drop}
+use Rattle.std.proofs.Common.{drop}
 use Rattle.sp_names.specs.Tables.{PlacesLeadTo, trees_of, placed_by}
 use Rattle.sp_names.proofs.bitfields.place_table.Given as goal
 

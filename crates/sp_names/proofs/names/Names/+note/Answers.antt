@@ -25,5 +25,5 @@ pub note_tree-returns-in_ok-note_twice-in-Of : goal.note_tree-returns-in_ok-note
 note_tree-returns-in_ok-note_twice-in-Of t c =
     let is = sym c.level.ensures ∙ ap level_tree c.in-Of.is in
     subst (λ z. OnOk c.note_among-in-Of.result (c.note_among-in-Of.new.least ≡ z))
-        (whole_tree c.args.self.now (told c.args.known.now) c.args.owner c.in-Of.field-0.now c.in-Of.field-1 c.in-Of.parts c.args.tree.now c.args.least.now c.note_path.new.least c.note_twice.new.least is c.note_path.ensures c.in_ok-note_twice-in-Of.ensures)
-        c.note_among-in-Of.ensures
+    (whole_tree c.args.self.now (told c.args.known.now) c.args.owner c.in-Of.field-0.now c.in-Of.field-1 c.in-Of.parts c.args.tree.now c.args.least.now c.note_path.new.least c.note_twice.new.least is c.note_path.ensures c.in_ok-note_twice-in-Of.ensures)
+    c.note_among-in-Of.ensures

@@ -1,6 +1,4 @@
-use Rattle.std.proofs.Common.{◌++◌, ◌∙◌, ap, sym}
 use Rattle.sp_ast.specs.Trees.{span_of}
-use Rattle.sp_names.specs.Types.{mentions}
 use Rattle.sp_names.proofs.Behind.{path_is}
 use Rattle.sp_names.proofs.names.Names.add_path.Goals as goal
 

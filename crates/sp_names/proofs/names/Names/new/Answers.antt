@@ -1,4 +1,3 @@
-use Rattle.std.proofs.Common.{◌∙◌, ap}
 use Rattle.sp_names.proofs.names.Names.new.Goals as goal
 
 pub invariant_of-result : goal.invariant_of-result
