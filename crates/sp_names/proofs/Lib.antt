@@ -1,0 +1,10 @@
+pub mod Noting
+pub mod Lists
+pub mod Further
+pub mod Bits
+pub mod Lookups
+pub mod Behind
+pub mod TypesOf
+pub mod Opens
+pub mod Chains
+pub mod Checks

@@ -1,0 +1,130 @@
+// Tables of names: the number of the first tree that gives each.
+ghost use Rattle.std.specs.Prelude.{◌≡◌, ◌+◌, ℕ, List, Some, None, cond, is_some, option_copied, IfOk, OnOk};
+ghost use Rattle.std.specs.Str.{bytes_eq};
+ghost use Rattle.sp_names.specs.Names.{declared_name, import_name, label_name, name_of_module};
+ghost use Rattle.sp_names.specs.Tables.{IsNoted, IsTable, told_by};
+
+use crate::tell::{declared_name, import_name, label_name, name_of};
+use indexmap::IndexMap;
+use sp_ast::{DeclKind, LabelKind, Members, Module};
+use sp_base::NoMemory;
+use std::alloc::Global;
+
+/// The number of the first tree that gives each name.
+#[derive(Drop)]
+pub(crate) struct NameTable {
+    first: IndexMap<String, u32>,
+}
+
+impl NameTable {
+    pub(crate) fn new(alloc: Global) -> NameTable
+        ensures { (x : List ℕ) → told_by result x ≡ None }
+    {
+        NameTable {
+            first: IndexMap::new(alloc),
+        }
+    }
+}
+
+/// The names of one module.
+#[derive(Drop)]
+pub(crate) struct ModuleNames {
+    /// The number of the first type, constant or function of each name.
+    pub(crate) declared: NameTable,
+    /// The number of the first import of each name.
+    pub(crate) imported: NameTable,
+}
+
+/// The sum of two numbers. Lists of more trees than numbers don't fit into memory.
+pub(crate) fn sum(a: u32, b: u32) -> Result<u32, NoMemory>
+    ensures { IfOk result (λ n. n ≡ a + b) }
+{
+    a.checked_add(b).ok_or(NoMemory)
+}
+
+/// The number of a name.
+pub(crate) fn look_up(table: &NameTable, name: &str) -> Option<u32>
+    ensures { result ≡ told_by table.now name.now }
+{
+    table.first.get(name).copied()
+}
+
+/// Notes the number of a name, unless it has one.
+fn declare(alloc: Global, table: &mut NameTable, name: &str, number: u32) -> Result<(), NoMemory>
+    ensures { OnOk result ((x : List ℕ) → told_by table.new x
+        ≡ cond (is_some (told_by table.old name.now)) (told_by table.old x)
+        (cond (bytes_eq x name.now) (Some number) (told_by table.old x))) }
+{
+    if look_up(table, name).is_some() {
+        return Ok(());
+    }
+    table.first.insert(String::from_str(alloc, name)?, number)?;
+    Ok(())
+}
+
+/// The numbers of modules, from 0, by their names.
+pub(crate) fn module_table(alloc: Global, modules: &[Module]) -> Result<NameTable, NoMemory>
+    ensures { IfOk result (λ t. IsTable name_of_module 0 modules.now (told_by t)) }
+{
+    let mut table = NameTable::new(alloc);
+    let mut number = 0;
+    for i in 0..modules.len() {
+        note_name(alloc, &mut table, Some(name_of(&modules[i])), number)?;
+        number = sum(number, 1)?;
+    }
+    Ok(table)
+}
+
+/// Notes the number of a name, if there is one, unless it has one.
+pub(crate) fn note_name(
+    alloc: Global,
+    table: &mut NameTable,
+    name: Option<&str>,
+    number: u32,
+) -> Result<(), NoMemory>
+    ensures { OnOk result (IsNoted (told_by table.old) (told_by table.new)
+        (option_copied name.entry) number) }
+{
+    match name {
+        Some(name) => declare(alloc, table, name, number),
+        None => Ok(()),
+    }
+}
+
+/// The places of labels, from 0, by their names.
+pub(crate) fn label_table(
+    alloc: Global,
+    labels: Members<'_, LabelKind>,
+) -> Result<NameTable, NoMemory>
+    ensures { IfOk result (λ t. IsTable label_name 0 labels.entry (told_by t)) }
+{
+    let mut table = NameTable::new(alloc);
+    let mut number = 0;
+    for label in labels {
+        note_name(alloc, &mut table, label_name(&label), number)?;
+        number = sum(number, 1)?;
+    }
+    Ok(table)
+}
+
+/// The names of a module by its declarations, of which the first has this number.
+pub(crate) fn module_names(
+    alloc: Global,
+    declarations: Members<'_, DeclKind>,
+    first: u32,
+) -> Result<ModuleNames, NoMemory>
+    ensures declared { IfOk result (λ t. IsTable declared_name first declarations.entry
+        (told_by t.declared)) }
+    ensures imported { IfOk result (λ t. IsTable import_name first declarations.entry
+        (told_by t.imported)) }
+{
+    let mut declared = NameTable::new(alloc);
+    let mut imported = NameTable::new(alloc);
+    let mut number = first;
+    for declaration in declarations {
+        note_name(alloc, &mut declared, declared_name(&declaration), number)?;
+        note_name(alloc, &mut imported, import_name(&declaration), number)?;
+        number = sum(number, 1)?;
+    }
+    Ok(ModuleNames { declared, imported })
+}

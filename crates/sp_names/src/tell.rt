@@ -1,0 +1,96 @@
+// What declarations tell: which name they give, and what they declare.
+ghost use Rattle.std.specs.Prelude.{◌≡◌, [], option_copied, IfSome, IfNone};
+ghost use Rattle.sp_names.specs.Declarations.{sort_of, type_sort, type_tree_of, module_name, module_declarations};
+ghost use Rattle.sp_names.specs.Names.{declared_name, import_name, label_name, enum_labels};
+
+use crate::sort::DeclSort;
+use sp_ast::{DeclKind, DeclView, LabelKind, Members, Module, Ref, TypeKind, TypeView};
+
+/// The name of a type, a constant or a function.
+pub(crate) fn declared_name<'a>(tree: &Ref<'a, DeclKind>) -> Option<&'a str>
+    ensures { option_copied result ≡ declared_name tree.now }
+{
+    match tree.view() {
+        DeclView::Type { name, .. }
+        | DeclView::Const { name, .. }
+        | DeclView::Function { name, .. } => Some(name.text()),
+        _ => None,
+    }
+}
+
+/// The name of a module that is imported.
+pub(crate) fn import_name<'a>(tree: &Ref<'a, DeclKind>) -> Option<&'a str>
+    ensures { option_copied result ≡ import_name tree.now }
+{
+    match tree.view() {
+        DeclView::Import(name) => Some(name.text()),
+        _ => None,
+    }
+}
+
+/// The name of a label.
+pub(crate) fn label_name<'a>(tree: &Ref<'a, LabelKind>) -> Option<&'a str>
+    ensures { option_copied result ≡ label_name tree.now }
+{
+    Some(tree.view().name.text())
+}
+
+fn type_sort(tree: &Ref<'_, TypeKind>) -> DeclSort
+    ensures { result ≡ type_sort tree.now }
+{
+    match tree.view() {
+        TypeView::Unit(_) => DeclSort::Unit,
+        TypeView::Enum(_) => DeclSort::Enum,
+        _ => DeclSort::Alias,
+    }
+}
+
+/// What a declaration declares.
+pub(crate) fn sort_of(tree: &Ref<'_, DeclKind>) -> DeclSort
+    ensures { result ≡ sort_of tree.now }
+{
+    match tree.view() {
+        DeclView::Import(_) => DeclSort::Import,
+        DeclView::ByteOrder(_) | DeclView::Version(_) => DeclSort::Property,
+        DeclView::On { .. } => DeclSort::Hook,
+        DeclView::Type { type_, .. } => type_sort(&type_),
+        DeclView::Const { .. } => DeclSort::Constant,
+        DeclView::Function { .. } => DeclSort::Function,
+    }
+}
+
+/// The declarations of a module.
+pub(crate) fn declarations_of(whole: &Module) -> Members<'_, DeclKind>
+    ensures { result ≡ module_declarations whole.now }
+{
+    whole.root().view().declarations
+}
+
+/// The name of a module.
+pub(crate) fn name_of(whole: &Module) -> &str
+    ensures { result.now ≡ module_name whole.now }
+{
+    whole.root().view().name.text()
+}
+
+/// The labels of a type that is an enum.
+fn labels_in<'a>(tree: &Ref<'a, TypeKind>) -> Option<Members<'a, LabelKind>>
+    ensures some { IfSome result (λ ls. enum_labels tree.now ≡ ls) }
+    ensures none { IfNone result (enum_labels tree.now ≡ []) }
+{
+    match tree.view() {
+        TypeView::Enum(labels) => Some(labels),
+        _ => None,
+    }
+}
+
+/// The labels of a declaration of an enum.
+pub(crate) fn labels_of<'a>(tree: &Ref<'a, DeclKind>) -> Option<Members<'a, LabelKind>>
+    ensures some { IfSome result (λ ls. enum_labels (type_tree_of tree.now) ≡ ls) }
+    ensures none { IfNone result (enum_labels (type_tree_of tree.now) ≡ []) }
+{
+    match tree.view() {
+        DeclView::Type { type_, .. } => labels_in(&type_),
+        _ => None,
+    }
+}

@@ -1,0 +1,239 @@
+// The types that are written, and which declarations they name.
+ghost use Rattle.std.specs.Prelude.{◌≡◌, ◌++◌, IfOk, OnOk};
+ghost use Rattle.sp_ast.specs.Trees.{trees};
+ghost use Rattle.sp_types.specs.Types.{tys, made, none, more};
+ghost use Rattle.sp_types.specs.declared.words.Maker.TheVariants as maker_is;
+ghost use Rattle.sp_solver.specs.Told.{told};
+ghost use Rattle.sp_names.specs.Types.{int_word, or_unknown, meaning_type, bitfield_word, type_in, types_in, one_or_none, named_numbers, mentions, mentions_in, mentions_among};
+ghost use Rattle.sp_names.specs.Names.{names_of, path_names};
+
+use crate::names::Names;
+use crate::sort::{Meaning, Scope};
+use sp_ast::{Members, NameKind, PathKind, Ref, TypeKind, TypeView};
+use sp_base::NoMemory;
+use sp_numbers::Width;
+use sp_types::{Maker, Type, Word};
+use sp_words::IntWord;
+use std::alloc::Global;
+
+fn int_word(word: IntWord) -> Word
+    ensures { result ≡ int_word word }
+{
+    match word {
+        IntWord::Uint8 => Word::Uint(Width::W8),
+        IntWord::Uint16 => Word::Uint(Width::W16),
+        IntWord::Uint32 => Word::Uint(Width::W32),
+        IntWord::Uint64 => Word::Uint(Width::W64),
+        IntWord::Int8 => Word::Int(Width::W8),
+        IntWord::Int16 => Word::Int(Width::W16),
+        IntWord::Int32 => Word::Int(Width::W32),
+        IntWord::Int64 => Word::Int(Width::W64),
+    }
+}
+
+/// The type of a declaration; `Unknown` where it has no answer.
+fn known_type(known: &[Option<Type>], declaration: u32) -> Result<Type, NoMemory>
+    ensures { IfOk result (λ t. t ≡ or_unknown (told known.now declaration)) }
+{
+    match known.get(declaration as usize) {
+        Some(Some(found)) => found.copy(),
+        _ => Ok(Type::word(Word::Unknown)),
+    }
+}
+
+/// The type that a path to this meaning is.
+pub(crate) fn meaning_type(known: &[Option<Type>], meaning: Meaning) -> Result<Type, NoMemory>
+    ensures { IfOk result (λ t. t ≡ meaning_type (told known.now) meaning) }
+{
+    match meaning {
+        Meaning::Declaration(declaration) => known_type(known, declaration),
+        Meaning::LibraryEnum(number) => Ok(Type::word(Word::Enum(number))),
+        Meaning::Decoder => Ok(Type::word(Word::Decoder)),
+        Meaning::Label { .. } | Meaning::Nothing(_) => Ok(Type::word(Word::Unknown)),
+    }
+}
+
+fn bitfield_type(number: Option<u32>) -> Type
+    ensures { result ≡ bitfield_word number }
+{
+    match number {
+        Some(number) => Type::word(Word::Bitfield(number)),
+        None => Type::word(Word::Unknown),
+    }
+}
+
+fn made_of_one(alloc: Global, maker: Maker, part: Type) -> Result<Type, NoMemory>
+    ensures { IfOk result (λ t. t ≡ made maker (more part none)) }
+{
+    let mut parts = Vec::with_capacity(alloc, 1)?;
+    parts.push(part)?;
+    Type::made(alloc, maker, parts)
+}
+
+fn map_of(alloc: Global, key: Type, value: Type) -> Result<Type, NoMemory>
+    ensures { IfOk result (λ t. t ≡ made maker_is.Map (more key (more value none))) }
+{
+    let mut parts = Vec::with_capacity(alloc, 2)?;
+    parts.push(key)?;
+    parts.push(value)?;
+    Type::made(alloc, Maker::Map, parts)
+}
+
+/// Puts a number on the list, if there is one.
+fn put_number(list: &mut Vec<u32>, number: Option<u32>) -> Result<(), NoMemory>
+    ensures { OnOk result (list.new.items ≡ list.old.items ++ one_or_none number) }
+{
+    if let Some(number) = number {
+        list.push(number)?;
+    }
+    Ok(())
+}
+
+impl<'a> Names<'a> {
+    /// The type that a tree of a type is in a module, where `known` has the types of type declarations by their numbers. A
+    /// unit or an enum that is not the whole type of a declaration is unknown, and so is what names no type. A type of more
+    /// parts than a type may have is answered as want of memory.
+    #[cycle(type_in)]
+    pub fn type_in(
+        &self,
+        alloc: Global,
+        known: &[Option<Type>],
+        owner: u32,
+        tree: &Ref<'_, TypeKind>,
+    ) -> Result<Type, NoMemory>
+        ensures { IfOk result (λ t. t ≡ type_in self.now (told known.now) owner tree.now) }
+    {
+        match tree.view() {
+            TypeView::Path(path) => meaning_type(known, self.means(known, owner, &path)),
+            TypeView::Bool => Ok(Type::word(Word::Bool)),
+            TypeView::Bytes => Ok(Type::word(Word::Bytes)),
+            TypeView::String => Ok(Type::word(Word::String)),
+            TypeView::Void => Ok(Type::word(Word::Void)),
+            TypeView::Int(word) => Ok(Type::word(int_word(word))),
+            TypeView::Tuple(members) => {
+                Type::made(
+                    alloc,
+                    Maker::Tuple,
+                    self.types_in(alloc, known, owner, members)?,
+                )
+            }
+            TypeView::Vector(element) => {
+                let part = self.type_in(alloc, known, owner, &element)?;
+                made_of_one(alloc, Maker::Vector, part)
+            }
+            TypeView::Set(element) => {
+                let part = self.type_in(alloc, known, owner, &element)?;
+                made_of_one(alloc, Maker::Set, part)
+            }
+            TypeView::Map { key, value } => {
+                let key = self.type_in(alloc, known, owner, &key)?;
+                map_of(alloc, key, self.type_in(alloc, known, owner, &value)?)
+            }
+            TypeView::Bitfield { .. } => {
+                Ok(bitfield_type(self.bitfield_number(owner, tree.span().from)))
+            }
+            TypeView::Enum(_) | TypeView::Unit(_) => Ok(Type::word(Word::Unknown)),
+        }
+    }
+
+    #[cycle(type_in)]
+    fn types_in(
+        &self,
+        alloc: Global,
+        known: &[Option<Type>],
+        owner: u32,
+        members: Members<'_, TypeKind>,
+    ) -> Result<Vec<Type>, NoMemory>
+        ensures { IfOk result (λ v. tys v.items
+            ≡ types_in self.now (told known.now) owner (trees members.entry)) }
+    {
+        let mut parts = Vec::new(alloc);
+        for member in members {
+            parts.push(self.type_in(alloc, known, owner, &member)?)?;
+        }
+        Ok(parts)
+    }
+
+    fn named_number(&self, scope: Option<Scope>, name: &str) -> Option<u32>
+        ensures { one_or_none result ≡ named_numbers self.now scope name.now }
+    {
+        match scope {
+            Some(Scope::Module(number)) => self.declared(number, name),
+            _ => None,
+        }
+    }
+
+    /// Puts the declarations on the list on whose types the meaning of a path hangs.
+    fn add_names(
+        &self,
+        list: &mut Vec<u32>,
+        owner: u32,
+        names: Members<'_, NameKind>,
+    ) -> Result<(), NoMemory>
+        ensures { OnOk result (list.new.items ≡ list.old.items
+            ++ mentions self.now owner (names_of names.entry)) }
+    {
+        let Some((first, others)) = names.split_first() else {
+            return Ok(());
+        };
+        put_number(list, self.declared(owner, first.text()))?;
+        let Some((second, _)) = others.split_first() else {
+            return Ok(());
+        };
+        let scope = self.visible(owner, first.text());
+        put_number(list, self.named_number(scope, second.text()))
+    }
+
+    fn add_path(
+        &self,
+        list: &mut Vec<u32>,
+        owner: u32,
+        path: &Ref<'_, PathKind>,
+    ) -> Result<(), NoMemory>
+        ensures { OnOk result (list.new.items ≡ list.old.items
+            ++ mentions self.now owner (path_names path.now)) }
+    {
+        self.add_names(list, owner, path.names())
+    }
+
+    /// Puts the declarations on the list that the tree of a type names.
+    #[cycle(mention)]
+    pub(crate) fn add_mentions(
+        &self,
+        list: &mut Vec<u32>,
+        owner: u32,
+        tree: &Ref<'_, TypeKind>,
+    ) -> Result<(), NoMemory>
+        ensures { OnOk result (list.new.items ≡ list.old.items
+            ++ mentions_in self.now owner tree.now) }
+    {
+        match tree.view() {
+            TypeView::Path(path) => self.add_path(list, owner, &path),
+            TypeView::Tuple(members) => self.add_all(list, owner, members),
+            TypeView::Vector(element) | TypeView::Set(element) => {
+                self.add_mentions(list, owner, &element)
+            }
+            TypeView::Map { key, value } => {
+                self.add_mentions(list, owner, &key)?;
+                self.add_mentions(list, owner, &value)
+            }
+            _ => Ok(()),
+        }
+    }
+
+    #[cycle(mention)]
+    fn add_all(
+        &self,
+        list: &mut Vec<u32>,
+        owner: u32,
+        members: Members<'_, TypeKind>,
+    ) -> Result<(), NoMemory>
+        ensures { OnOk result (list.new.items ≡ list.old.items
+            ++ mentions_among self.now owner (trees members.entry)) }
+    {
+        for member in members {
+            self.add_mentions(list, owner, &member)?;
+        }
+        Ok(())
+    }
+}
