@@ -10,7 +10,7 @@ and_true : (b : Bool) → (b && true) ≡ b
 and_true true = refl
 and_true false = refl
 
-joined : (p : Expr → Bool) (xs ys : List Expr) {a b : Bool} → list_all p xs ≡ a → list_all p ys ≡ b → list_all p (xs ++ ys) ≡ (a && b)
+pub joined : (p : Expr → Bool) (xs ys : List Expr) {a b : Bool} → list_all p xs ≡ a → list_all p ys ≡ b → list_all p (xs ++ ys) ≡ (a && b)
 joined p xs ys g h = list_all-append p xs ys ∙ (rw (g, h) refl)
 
 mutual

@@ -5,3 +5,8 @@ pub mod ExprCodes
 pub mod ExprViews
 pub mod ExprFalls
 pub mod ExprLevels
+pub mod Stmts
+pub mod StmtCodes
+pub mod StmtViews
+pub mod StmtFalls
+pub mod StmtNodes

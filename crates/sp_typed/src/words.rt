@@ -168,8 +168,9 @@ pub enum ManyOp {
     Convert(u32),
     /// `new U(a)`, with its arguments, and the slice of the text where the path stands.
     New(NewOf, Span),
-    /// A method of the library. The receiver is the first part, and arguments that were left out are written out.
-    Method(Method),
+    /// A method of the library. The receiver is the first part, and arguments that were left out are written out. Where the
+    /// method changes its receiver, and what this is a member of is neither `self` nor a local, that is kept in this slot.
+    Method(Method, Option<u32>),
     /// A method of a unit, and the slice of the text where its name stands. The receiver is the first part.
     OfUnit(UnitMethod, Span),
     /// A method of a sink. The receiver is the first part.
