@@ -1,0 +1,20 @@
+//! The typed list's declarations: how fields are read, and the units, functions, hooks, constants, enums and bitfields of a list
+//! of modules, with all names looked up and all values typed.
+#![tactic(auto)]
+
+mod attributes;
+mod declarations;
+mod items;
+mod readings;
+mod rows;
+#[cfg(test)]
+mod tests;
+
+pub use attributes::Attribute;
+pub use declarations::{
+    BitRange, Bitfield, Constant, ConstantValue, Enum, Function, Hook, HookOf, Label, Member,
+    MemberKind, Parameter, Typed, Unit, Variable,
+};
+pub use items::{Arm, Field, Part, PartNode};
+pub use readings::{ReadOp, Reading, Spec, SpecNode, TokenOp, UnitOf};
+pub use rows::Row;
