@@ -88,9 +88,6 @@ one_of_step parts i x then one two entry first second third lt is below has_is c
 
 -- so many times
 
-pub copies_begin : (r rest : Syntax) (entry begin : List ℕ) (then : ℕ) (first net : List Spot) → IsChain rest then entry begin first net → IsChain (copies 0 r rest) then entry begin first net
-copies_begin r rest entry begin then first net c = c
-
 pub copies_more : (n : ℕ) (r rest : Syntax) → followed r (copies n r rest) ≡ copies (n + 1) r rest
 copies_more n r rest = ap (λ k. copies k r rest) (sym (add-one n))
 
@@ -196,9 +193,6 @@ above p a n le ne e = elim (order p a) [ inl lt ↦ omega arith | inr ge ↦ eli
 
 many_kept : (second : List Spot) (a : ℕ) (s : Spot) (p : ℕ) → p ≢ a → at (set second a s) p ≡ at second p
 many_kept second a s p ne = get_or-set_other second a p s spot.Nothing ne
-
-nothing_jumps : (s : Spot) (q : ℕ) → s ≡ spot.Nothing → jumps s q ≡ true → ⊥
-nothing_jumps s q e m = absurd (let k : false ≡ true = sym (ap (λ z. jumps z q) e) ∙ m in cc)
 
 byte_no_jump : (s : Spot) → is_byte s ≡ true → is_jump s ≡ true → ⊥
 byte_no_jump (spot.Byte bytes next) b j = absurd (let q : false ≡ true = j in cc)

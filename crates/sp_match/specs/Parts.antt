@@ -57,10 +57,6 @@ abbrev pub copies : ℕ → Syntax → Syntax → Syntax
 copies zero r rest = rest
 copies (suc n) r rest = followed r (copies n r rest)
 
--- at most n words of A
-abbrev pub UpTo : ℕ → (List ℕ → Type 0) → List ℕ → Type 0
-UpTo n A w = (k : ℕ) × (k ≤ n) × Times k A w
-
 -- any number of words of A
 abbrev pub Star : (List ℕ → Type 0) → List ℕ → Type 0
 Star A w = (n : ℕ) × Times n A w
