@@ -1,16 +1,14 @@
 -- The line of each record is read as what it says, and what a line says is written so.
-use Rattle.std.proofs.Common.{◌≡◌, ◌≢◌, ◌≤◌, ◌+◌, ℕ, Bool, true, false, ◌&&◌, List, [], ◌∷◌, ◌++◌, length, Option, None, Some, decimal, refl, ap, sym, subst, ◌∙◌, arith, inl, inr}
-use Rattle.std.specs.Prelude.{codes, not, ◌==◌, ◌⊎◌}
-use Rattle.std.specs.List.{list_all}
-use Rattle.std.proofs.lemmas.Bool.{and_parts, and_from}
+use Rattle.std.proofs.Common.{◌≡◌, ◌≤◌, ℕ, Bool, true, false, List, ◌∷◌, ◌++◌, length, Option, None, Some, decimal, refl, ap, sym, subst, ◌∙◌, inl, inr}
+use Rattle.std.specs.Prelude.{codes, ◌⊎◌}
 use Rattle.sp_batch.specs.declared.record.Record.{Record}
 use Rattle.sp_batch.specs.declared.record.Record.TheVariants.{BeginFlow, Data, Gap, EndFlow, BeginConn, EndConn}
 use Rattle.sp_batch.specs.declared.heads.Head.{Head}
 use Rattle.sp_batch.specs.declared.heads.Head.TheVariants.{Whole, DataLine}
-use Rattle.sp_batch.specs.Grammar.{is_name, Most, spaced, kind_word, data_line as data_words, line_of, IsSound, front, written}
+use Rattle.sp_batch.specs.Grammar.{is_name, Most, kind_word, data_line as data_words, line_of, IsSound, front, written}
 use Rattle.sp_batch.specs.Reading.{past, behind, if_some, or_else, name, first_name, first_kind, number, sized, begin_flow, begin_conn, data_line, gap, end_flow, end_conn, head}
-use Rattle.sp_batch.proofs.Cuts.{lacks, cut_before, cut_whole, behind_whole, behind_front, name_lacks, name_of, name_sound}
-use Rattle.sp_batch.proofs.Numbers.{number_decimal, number_sound, decimal_lacks}
+use Rattle.sp_batch.proofs.Cuts.{cut_before, cut_whole, behind_whole, name_lacks, name_of, name_sound}
+use Rattle.sp_batch.proofs.Numbers.{number_decimal, number_sound}
 
 pub if_some_is : {A B : Type 0} (o : Option A) (x : A) (f : A → Option B) (y : Option B) → o ≡ Some x → f x ≡ y → if_some o f ≡ y
 if_some_is o x f y e is = ap (λ p. if_some p f) e ∙ is

@@ -1,7 +1,6 @@
 -- Numbers of records in decimal digits.
-use Rattle.std.proofs.Common.{◌≡◌, ◌≤◌, ◌<◌, ◌+◌, ◌-◌, ◌*◌, ◌^◌, ℕ, Bool, true, false, ◌&&◌, List, [], ◌∷◌, ◌++◌, length, Option, None, Some, Ok, Err, decimal, refl, ap, sym, ◌∙◌, arith, inl, inr, lit<}
+use Rattle.std.proofs.Common.{◌≡◌, ◌≤◌, ◌<◌, ◌^◌, ℕ, true, false, ◌&&◌, List, [], ◌∷◌, None, Some, Ok, Err, decimal, refl, ap, sym, ◌∙◌, arith, inl, inr}
 use Rattle.std.specs.Prelude.{◌==◌, not, nat_le, Result}
-use Rattle.std.specs.Int.{IsInRange}
 use Rattle.std.specs.Str.{bytes_eq, IsUtf8, all_ascii_digits}
 use Rattle.std.specs.Str.Parse.{ParsesUnsigned}
 use Rattle.std.specs.Char.{is_ascii_digit}

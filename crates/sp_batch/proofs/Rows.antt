@@ -1,7 +1,7 @@
 -- What texts begin with, computed.
 use Rattle.std.specs.Prelude.{false, codes}
 use Rattle.std.specs.Fmt.{digits}
-use Rattle.std.proofs.Common.{◌≡◌, [], ◌++◌, refl}
+use Rattle.std.proofs.Common.{◌≡◌, [], refl}
 use Rattle.sp_base.specs.declared.kinds.BKind.TheVariants.{BadRecord, CutShort}
 use Rattle.sp_batch.specs.declared.record.Record.TheVariants.{BeginFlow, Data, Gap}
 use Rattle.sp_batch.specs.Reading.{found, bad, read}

@@ -1,21 +1,20 @@
 -- What reading finds is what the grammar says, both ways.
-use Rattle.std.proofs.Common.{◌≡◌, ◌≢◌, ◌≤◌, ◌<◌, ◌+◌, ◌-◌, ℕ, zero, suc, Bool, true, false, ◌&&◌, List, [], ◌∷◌, ◌++◌, length, take, drop, replicate, Option, None, Some, decimal, refl, ap, sym, subst, ◌∙◌, append_assoc, arith, inl, inr}
+use Rattle.std.proofs.Common.{◌≡◌, ◌≢◌, ◌≤◌, ◌<◌, ◌+◌, ◌-◌, ℕ, Bool, true, false, List, [], ◌∷◌, ◌++◌, length, take, drop, replicate, Option, None, Some, decimal, refl, ap, sym, subst, ◌∙◌, append_assoc, arith, inl, inr}
 use Rattle.std.specs.Prelude.{codes, not, ◌==◌, ◌⊎◌, nat_lt}
-use Rattle.std.specs.List.{list_all}
-use Rattle.std.proofs.lemmas.Bool.{cases_Bool, cond-true, cond-false, eqb-true, eqb-false, ltb-true, ltb-false, lt-ltb, le-ltb, and_parts, and_from, ne_eqb, not_from_false}
+use Rattle.std.proofs.lemmas.Bool.{cases_Bool, cond-true, cond-false, eqb-true, eqb-false, ltb-true, ltb-false, lt-ltb, le-ltb, and_parts, and_from, ne_eqb}
 use Rattle.std.proofs.lemmas.List.{length-append, take_at, drop_at, take-append-drop, take_rest, length-take-le, length-replicate, append-nil}
 use Rattle.sp_base.specs.declared.kinds.BKind.{BKind}
-use Rattle.sp_base.specs.declared.kinds.BKind.TheVariants.{BadHeader, BadRecord, UnknownFlow, FlowTwice, UnknownParser, CutShort}
+use Rattle.sp_base.specs.declared.kinds.BKind.TheVariants.{BadRecord, CutShort}
 use Rattle.sp_batch.specs.declared.record.Record.{Record}
 use Rattle.sp_batch.specs.declared.record.Record.TheVariants.{BeginFlow, Data, Gap, EndFlow, BeginConn, EndConn}
 use Rattle.sp_batch.specs.declared.heads.Head.{Head}
 use Rattle.sp_batch.specs.declared.heads.Head.TheVariants.{Whole, DataLine}
-use Rattle.sp_batch.specs.Grammar.{is_name, Most, spaced, kind_word, data_line as data_words, line_of, written, IsSound, front, Ends, IsRecord, IsCutShort, IsNoLine, IsUnended, IsBad, IsHeader}
-use Rattle.sp_batch.specs.Reading.{past, behind, if_some, line_end, head, Reading, found, bad, following, with_end, ended, with_data, with_head, read, header}
+use Rattle.sp_batch.specs.Grammar.{is_name, Most, kind_word, data_line as data_words, line_of, written, IsSound, front, Ends, IsRecord, IsCutShort, IsNoLine, IsUnended, IsBad, IsHeader}
+use Rattle.sp_batch.specs.Reading.{past, behind, line_end, head, found, bad, following, with_end, ended, with_head, read, header}
 use Rattle.sp_batch.specs.Answers.{IsWrong}
 use Rattle.sp_batch.proofs.Cuts.{lacks, cut_before, cut_alone, cut_whole, cut_all, behind_whole, behind_front, name_lacks}
 use Rattle.sp_batch.proofs.Numbers.{decimal_lacks}
-use Rattle.sp_batch.proofs.Lines.{head_of, data_head, line_head, line_sound, IsLineOf, if_some_parts, if_some_is}
+use Rattle.sp_batch.proofs.Lines.{head_of, data_head, line_head, line_sound, if_some_parts, if_some_is}
 
 -- the end of a line
 pub end_sound : (tail rest : List ℕ) → line_end tail ≡ Some rest → Ends tail rest

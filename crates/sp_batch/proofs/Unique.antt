@@ -1,12 +1,10 @@
 -- A text begins with one record at most, and is a batch of one list of records at most.
 use Rattle.std.proofs.Common.{◌≡◌, ◌≢◌, ℕ, List, [], ◌∷◌, refl, ap, sym, subst, ◌∙◌, inl, inr, Some}
 use Rattle.std.specs.Prelude.{◌⊎◌}
-use Rattle.sp_base.specs.declared.kinds.BKind.{BKind}
 use Rattle.sp_base.specs.declared.kinds.BKind.TheVariants.{BadHeader, BadRecord, UnknownFlow, FlowTwice, UnknownParser, CutShort}
 use Rattle.sp_batch.specs.declared.record.Record.{Record}
-use Rattle.sp_batch.specs.Grammar.{IsRecord, IsCutShort, IsBad, IsHeader, AreRecords, IsBatch}
-use Rattle.sp_batch.specs.Reading.{Reading, found, bad, read, header}
-use Rattle.sp_batch.specs.Answers.{IsWrong}
+use Rattle.sp_batch.specs.Grammar.{IsRecord, IsCutShort, IsBad, AreRecords}
+use Rattle.sp_batch.specs.Reading.{Reading, found, bad, read}
 use Rattle.sp_batch.specs.Laws.{OneRecord, OneAnswer, SomeAnswer, OneBatch}
 use Rattle.sp_batch.proofs.Texts.{header_of, same_record, read_sound, read_bad, read_record, read_cut, read_wrong, some_text}
 

@@ -1,5 +1,5 @@
 -- What the calls answer.
-use Rattle.std.specs.Prelude.{◌≡◌, ℕ, List, Option, Some, None}
+use Rattle.std.specs.Prelude.{◌≡◌, ℕ, List}
 use Rattle.sp_base.specs.declared.kinds.BKind.{BKind}
 use Rattle.sp_base.specs.declared.kinds.BKind.TheVariants.{BadHeader, BadRecord, UnknownFlow, FlowTwice, UnknownParser, CutShort}
 use Rattle.sp_batch.specs.declared.record.BatchFault.{BatchFault}

@@ -1,6 +1,6 @@
 -- The text of a batch: a header's line, and records. A record is a line of words with one space between two of them, and behind
 -- the line of data stand the data. A line ends by LF, and so do data; the last LF of the text may be missing.
-use Rattle.std.specs.Prelude.{◌≡◌, ◌≢◌, ℕ, ◌≤◌, ◌<◌, ◌^◌, ◌⊎◌, nat_lt, nat_le, Bool, true, false, ◌&&◌, ◌==◌, IsTrue, if◌then◌else◌, List, [], ◌∷◌, ◌++◌, length, codes, decimal}
+use Rattle.std.specs.Prelude.{◌≡◌, ◌≢◌, ℕ, ◌≤◌, ◌<◌, ◌^◌, ◌⊎◌, nat_lt, nat_le, Bool, true, false, ◌&&◌, ◌==◌, if◌then◌else◌, List, [], ◌∷◌, ◌++◌, length, codes, decimal}
 use Rattle.std.specs.List.{list_all}
 use Rattle.sp_batch.specs.declared.record.Record.{Record}
 use Rattle.sp_batch.specs.declared.record.Record.TheVariants.{BeginFlow, Data, Gap, EndFlow, BeginConn, EndConn}

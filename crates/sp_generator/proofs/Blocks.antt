@@ -1,7 +1,7 @@
 -- Where records stand in the made input: the lengths of records begin anew after 64 of them, which are 2,080 bytes.
-use Rattle.std.proofs.Common.{◌≡◌, ◌≤◌, ◌<◌, ◌+◌, ◌-◌, ◌*◌, ◌/◌, ◌%◌, ℕ, zero, suc, List, [], ◌∷◌, ◌++◌, length, take, drop, refl, ap, sym, ◌∙◌, append_assoc, zero-add, add-zero, add-suc, suc-add, arith, inl, inr}
+use Rattle.std.proofs.Common.{◌≡◌, ◌≤◌, ◌<◌, ◌+◌, ◌-◌, ◌*◌, ◌/◌, ◌%◌, ℕ, zero, suc, List, [], ◌∷◌, ◌++◌, length, take, drop, refl, ap, sym, ◌∙◌, append_assoc, zero-add, add-zero, suc-add, arith, inl, inr}
 use Rattle.std.proofs.lemmas.Bool.{cases_lt}
-use Rattle.std.proofs.lemmas.List.{length-append, length-drop, drop_at, drop-append-le, drop_all, drop-drop}
+use Rattle.std.proofs.lemmas.List.{length-append, drop_at, drop-append-le, drop_all, drop-drop}
 use Rattle.sp_generator.specs.Input.{size_of, rising, record_of, records}
 
 -- the length of so many records

@@ -1,5 +1,5 @@
 -- The made input, computed.
-use Rattle.std.proofs.Common.{◌≡◌, List, ℕ, [], ◌∷◌, length, refl}
+use Rattle.std.proofs.Common.{◌≡◌, [], ◌∷◌, length, refl}
 use Rattle.sp_generator.specs.Input.{rising, records, input}
 
 two_records : input 2 ≡ 3 ∷ 0 ∷ 1 ∷ 2 ∷ 10 ∷ 1 ∷ 2 ∷ 3 ∷ 4 ∷ 5 ∷ 6 ∷ 7 ∷ 8 ∷ 9 ∷ 10 ∷ []

@@ -1,5 +1,5 @@
 -- What is ahead at a place of the made input.
-use Rattle.std.specs.Prelude.{◌≡◌, ℕ, ◌+◌, ◌-◌, ◌≤◌, ◌<◌, ◌^◌, List, ◌++◌}
+use Rattle.std.specs.Prelude.{ℕ, ◌+◌, ◌-◌, ◌≤◌, ◌<◌, ◌^◌, List, ◌++◌}
 use Rattle.sp_generator.specs.declared.pieces.Ahead.{Ahead}
 use Rattle.sp_generator.specs.Input.{rising, records}
 

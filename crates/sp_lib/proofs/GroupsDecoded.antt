@@ -1,18 +1,17 @@
 -- What the standard engine of `base64` decodes is a group.
-use Rattle.std.proofs.Common.{◌≡◌, ◌≤◌, ◌<◌, ◌+◌, ◌-◌, ◌*◌, ◌/◌, ◌%◌, ℕ, zero, suc, Bool, true, false, List, [], ◌∷◌, ◌++◌, length, take, drop, replicate, Ok, Err, refl, ap, sym, subst, ◌∙◌, arith, slice_index, OnOk}
-use Rattle.std.specs.Prelude.{◌↔◌, Result, codes}
-use Rattle.std.proofs.lemmas.List.{length-append, length-replicate, drop-replicate, drop_at, take_at}
+use Rattle.std.proofs.Common.{◌≡◌, ◌≤◌, ◌<◌, ◌+◌, ◌-◌, ℕ, List, [], ◌∷◌, length, take, drop, replicate, Ok, Err, refl, ap, sym, subst, ◌∙◌, arith, OnOk}
+use Rattle.std.specs.Prelude.{◌↔◌, Result}
+use Rattle.std.proofs.lemmas.List.{length-append, length-replicate, drop-replicate}
 use Rattle.base64.specs.declared.decode.DecodeSliceError.{DecodeSliceError}
 use Rattle.base64.specs.declared.decode.DecodeSliceError.TheVariants.{DecodeError as DecodeFailed, OutputSliceTooSmall}
-use Rattle.base64.specs.declared.decode.DecodeError.{DecodeError}
 use Rattle.base64.specs.Engines.{standard}
 use Rattle.base64.specs.GeneralPurpose.{encode_of, decode_of, decode_slice_of, decoded_bytes_of, IsBytes, IsStrict}
-use Rattle.base64.specs.Rfc4648.{encode_symbols, encode, unpadded_len, padding_len}
-use Rattle.base64.specs.Decode.{IsWrittenOver, decoded_estimate}
+use Rattle.base64.specs.Rfc4648.{encode_symbols, unpadded_len, padding_len}
+use Rattle.base64.specs.Decode.{IsWrittenOver}
 use Rattle.base64.proofs.EngineFacts.{decode_of_iff, decode_of_bytes}
 use Rattle.base64.proofs.Decoding.{conservative_ok, conservative_err, conservative_small}
 use Rattle.base64.proofs.RoundTrip.{length-encode_symbols}
-use Rattle.sp_lib.specs.Base64.{alphabet, padding, symbol, symbols, IsGroup}
+use Rattle.sp_lib.specs.Base64.{symbols, IsGroup}
 
 strict : IsStrict standard
 strict = (refl, refl)

@@ -1,4 +1,3 @@
-use Rattle.std.proofs.Common.{◌≡◌, List, ℕ, sym, ◌∙◌, inl, inr}
 use Rattle.sp_batch.proofs.Unique.{one_record, some_answer, one_answer}
 use Rattle.sp_batch.proofs.laws.law_of_records.Goals as goal
 

@@ -1,4 +1,4 @@
-use Rattle.std.proofs.Common.{◌≡◌, ◌-◌, length, take, drop, refl, ap, sym, ◌∙◌, arith}
+use Rattle.std.proofs.Common.{refl, ap, sym, ◌∙◌, arith}
 use Rattle.sp_batch.specs.Answers.{reading_of}
 use Rattle.sp_batch.proofs.Texts.{place_found, place_bad}
 use Rattle.sp_batch.proofs.reading.read_record.Goals as goal

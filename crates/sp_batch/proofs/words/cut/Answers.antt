@@ -1,5 +1,4 @@
-use Rattle.std.proofs.Common.{◌≡◌, ◌<◌, ◌+◌, ℕ, true, ap, sym, ◌∙◌, length, arith, slice_index, Some}
-use Rattle.std.specs.Prelude.{◌==◌}
+use Rattle.std.proofs.Common.{◌+◌, ap, sym, ◌∙◌, arith, Some}
 use Rattle.std.proofs.lemmas.List.{take_rest}
 use Rattle.sp_batch.proofs.Cuts.{cut_at, cut_nowhere}
 use Rattle.sp_batch.proofs.words.cut.Goals as goal

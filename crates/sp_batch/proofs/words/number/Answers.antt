@@ -1,5 +1,5 @@
-use Rattle.std.proofs.Common.{◌≡◌, ℕ, ◌≤◌, true, sym, ◌∙◌, arith, decimal, Ok, Err, List}
-use Rattle.sp_batch.proofs.Numbers.{no_number, no_number_bytes, number_parsed, number_written, not_written}
+use Rattle.std.proofs.Common.{sym, ◌∙◌}
+use Rattle.sp_batch.proofs.Numbers.{no_number_bytes, number_parsed, number_written, not_written}
 use Rattle.sp_batch.proofs.words.number.Goals as goal
 
 pub returns-in_default : goal.returns-in_default

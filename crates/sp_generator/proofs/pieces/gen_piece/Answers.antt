@@ -1,4 +1,4 @@
-use Rattle.std.proofs.Common.{length, take, drop, ◌-◌, arith}
+use Rattle.std.proofs.Common.{take, drop, arith}
 use Rattle.sp_generator.specs.Input.{input}
 use Rattle.sp_generator.specs.Ahead.{bytes_of}
 use Rattle.sp_generator.proofs.Blocks.{pushed}

@@ -1,4 +1,4 @@
-use Rattle.std.proofs.Common.{◌≡◌, ◌≤◌, ◌<◌, ◌+◌, ◌-◌, ◌++◌, ap, sym, ◌∙◌, arith, ℕ, drop}
+use Rattle.std.proofs.Common.{◌≡◌, ◌≤◌, ◌<◌, ◌+◌, ◌-◌, ◌++◌, ap, ◌∙◌, arith, drop}
 use Rattle.sp_generator.specs.Input.{rising, records, size_of}
 use Rattle.sp_generator.proofs.Blocks.{at_block, past_record, within_record, at_record, no_record}
 use Rattle.sp_generator.proofs.pieces.Ahead.at.Goals.{then-skipping-test+else-size_of-skipped, else-skipping-test, else-next-count-via-then-next-count+else-skipped-gt0, else-next-count-via-else-next-count}

@@ -1,5 +1,5 @@
-use Rattle.std.proofs.Common.{◌≡◌, ◌+◌, ◌-◌, ◌++◌, ◌∷◌, zero, ap, sym, ◌∙◌, arith, ℕ}
-use Rattle.sp_generator.specs.Input.{rising, records, size_of}
+use Rattle.std.proofs.Common.{◌≡◌, ◌+◌, ◌-◌, ◌++◌, ◌∷◌, ap, sym, ◌∙◌, arith}
+use Rattle.sp_generator.specs.Input.{rising, records}
 use Rattle.sp_generator.proofs.Blocks.{next_rising, next_size, nothing_left}
 use Rattle.sp_generator.proofs.pieces.Ahead.next.Goals as goal
 
