@@ -1,8 +1,7 @@
 // What a node of an expression is, apart from its parts, its type and its place.
 use sp_base::{ByteList, Span, Text};
-use sp_methods::Method;
 use sp_types::Word;
-use sp_words::BinaryOp;
+use sp_words::{BinaryOp, Method};
 
 /// A type as it is written: the slice of the text, and what is wrong with it.
 #[derive(Clone, Copy)]
@@ -89,8 +88,6 @@ pub enum OneOp {
     Bit(u32),
     /// `e?.f`: whether a field is set, by its member's number.
     IsSet(u32),
-    /// A member of a tuple, by its number from 0.
-    Item(u32),
     /// No value: a member of this name, which the part doesn't have.
     NoMember(Span),
 }
@@ -100,8 +97,10 @@ pub enum OneOp {
 pub enum TwoOp {
     /// An operator between two operands.
     Binary(BinaryOp),
-    /// An element of a vector, or the value of a key of a map or a set.
+    /// An element of a vector, the value of a key of a map, or a key of a set.
     Index,
+    /// A member of a tuple, by its number from 0. The second part is the constant index, as it is written.
+    Item(u32),
 }
 
 /// What a `connect` starts.
