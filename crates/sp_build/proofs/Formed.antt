@@ -19,7 +19,7 @@ use Rattle.sp_ast.specs.Slots.{slots, fill, is_formed, are_formed}
 use Rattle.sp_ast.specs.Trees.{Tree, absent, row, node, more, none, trees, tree, in_row, respan, span_of}
 use Rattle.sp_build.specs.Items.{begun, built}
 use Rattle.sp_build.specs.Rules.{Rule, begins, leaves_out, takes, gathers, closes, closes_integer, closes_attribute, encloses, joins, wraps, rule}
-use Rattle.sp_build.specs.RuleParts.{HasParts}
+use Rattle.sp_build.specs.inside.RuleParts.{HasParts}
 use Rattle.sp_build.specs.Tokens.{form_of, integer_of, attribute_of}
 use Rattle.sp_build.specs.Building.{Stack, Left, left, then_do, popped, gathered, popped_all, opened, parts_of, popped_parts, token_of, stretch, stretch_from, push, push_if, close_with, worded, done_by, acted, with_action, go_on, all_done}
 use Rattle.sp_build.proofs.Standing.{some_equal, not_some}

@@ -9,7 +9,7 @@ use Rattle.sp_ast.specs.declared.groups.Slot.TheVariants.{Part as part, Several 
 use Rattle.sp_ast.specs.Groups.{is_of, fits}
 use Rattle.sp_build.specs.Items.{begun, built}
 use Rattle.sp_build.specs.Building.{Stack, Left, left, then_do, popped, gathered, opened, parts_of, popped_parts, close_with}
-use Rattle.sp_build.specs.Popping.{Ends, IsUnder, IsFound}
+use Rattle.sp_build.specs.inside.Popping.{Ends, IsUnder, IsFound}
 use Rattle.sp_build.specs.Stacks.{last_before, last_trees, first_span, AreTrees, IsFloor, IsOpen}
 
 pub more_trees : (n : ℕ) (s r : Stack) (t : Tree) → AreTrees n s → drop n s ≡ built t ∷ r → AreTrees (suc n) s

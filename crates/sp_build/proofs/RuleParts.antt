@@ -28,10 +28,10 @@ use Rattle.sp_ast.specs.Slots.{slots, fill}
 use Rattle.sp_ast.specs.Trees.{Tree, trees, none}
 use Rattle.sp_build.specs.Items.{begun, built}
 use Rattle.sp_build.specs.Building.{Stack, Left, left, gathered, parts_of, popped_parts}
-use Rattle.sp_build.specs.Popping.{ask_for_one, ask_well}
-use Rattle.sp_build.specs.RuleParts.{HasNoParts, HasParts}
+use Rattle.sp_build.specs.inside.Popping.{ask_for_one, ask_well}
+use Rattle.sp_build.specs.inside.RuleParts.{HasNoParts, HasParts}
 use Rattle.sp_build.specs.Rules.{Leaf, always, by_name, by_string, by_bytes, by_regex, by_number, by_integer, by_hook_name, rule}
-use Rattle.sp_build.specs.RuleViews.{worded_form}
+use Rattle.sp_build.specs.inside.RuleViews.{worded_form}
 use Rattle.sp_build.specs.declared.rules.Worded.{Worded}
 use Rattle.sp_build.specs.declared.rules.Worded.TheVariants as worded
 use Rattle.sp_build.specs.Tokens.{form_of, integer_of}

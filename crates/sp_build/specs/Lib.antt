@@ -4,7 +4,5 @@ pub mod Items
 pub mod Building
 pub mod Progress
 pub mod Starting
-pub mod RuleParts
-pub mod RuleViews
-pub mod Popping
 pub mod Stacks
+pub mod inside

@@ -3,7 +3,7 @@ ghost use Rattle.std.specs.Prelude.{◌≡◌, ◌≤◌, ◌∷◌, [], length,
 ghost use Rattle.sp_ast.specs.Trees.{Tree as Data};
 ghost use Rattle.sp_parser.specs.Grammar.{action_at};
 ghost use Rattle.sp_build.specs.Items.{built};
-ghost use Rattle.sp_build.specs.Popping.{IsStep};
+ghost use Rattle.sp_build.specs.inside.Popping.{IsStep};
 ghost use Rattle.sp_build.specs.Progress.{progress, stepped, while_found};
 
 use crate::stack::TreeStack;

@@ -2,7 +2,7 @@
 ghost use Rattle.std.specs.Prelude.{◌≡◌, ◌<◌, ◌^◌, drop, suc, true, IfSome};
 ghost use Rattle.sp_ast.specs.Trees.{span_of};
 ghost use Rattle.sp_build.specs.Building.{left, gathered, popped_all};
-ghost use Rattle.sp_build.specs.Popping.{passes, IsUnder, IsOnTop, IsFound};
+ghost use Rattle.sp_build.specs.inside.Popping.{passes, IsUnder, IsOnTop, IsFound};
 ghost use Rattle.sp_build.specs.Stacks.{last_trees, first_span, AreTrees, AreFound};
 
 use crate::stack::TreeStack;

@@ -1,7 +1,7 @@
 // What each action builds of the trees before it.
 ghost use Rattle.std.specs.Prelude.{◌≡◌};
 ghost use Rattle.sp_build.specs.Rules.{rule, operation, prefixed};
-ghost use Rattle.sp_build.specs.RuleViews.{rule_view};
+ghost use Rattle.sp_build.specs.inside.RuleViews.{rule_view};
 
 use sp_ast::{
     BaseForm, BodyForm, DeclForm, ExprForm, Form, Group, GuardForm, ItemForm, PartForm, StmtForm,

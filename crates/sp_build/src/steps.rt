@@ -5,9 +5,9 @@ ghost use Rattle.sp_ast.specs.Slots.{slots, fill, an};
 ghost use Rattle.sp_ast.specs.declared.forms.Form.TheVariants as form_is;
 ghost use Rattle.sp_build.specs.Items.{built};
 ghost use Rattle.sp_build.specs.Building.{Stack, stretch_from, close_with, done_by, acted};
-ghost use Rattle.sp_build.specs.Popping.{IsStep};
-ghost use Rattle.sp_build.specs.RuleParts.{HasNoParts, HasParts};
-ghost use Rattle.sp_build.specs.RuleViews.{leaf_view, rule_view, worded_form};
+ghost use Rattle.sp_build.specs.inside.Popping.{IsStep};
+ghost use Rattle.sp_build.specs.inside.RuleParts.{HasNoParts, HasParts};
+ghost use Rattle.sp_build.specs.inside.RuleViews.{leaf_view, rule_view, worded_form};
 ghost use Rattle.sp_build.specs.Rules.{gathers, closing, closing_integer, closing_attribute, encloses, joining, wraps, takes};
 ghost use Rattle.sp_build.specs.Stacks.{last_trees, AreTrees, AreClosed, IsOpen};
 

@@ -5,7 +5,7 @@ ghost use Rattle.sp_lex.specs.Readings.{bytes_of};
 ghost use Rattle.sp_literals.specs.Values.{kind_at, bytes_at};
 ghost use Rattle.sp_build.specs.Building.{token_of, end_before, stretch, leaf};
 ghost use Rattle.sp_build.specs.Rules.{by_name, by_string, by_bytes, by_regex, by_number, by_hook_name};
-ghost use Rattle.sp_build.specs.RuleViews.{leaf_view};
+ghost use Rattle.sp_build.specs.inside.RuleViews.{leaf_view};
 ghost use Rattle.sp_build.specs.Tokens.{form_of, integer_of, attribute_of};
 
 use crate::rules::Leaf;

@@ -5,7 +5,7 @@ use Rattle.slab.specs.Slab.{Slab, get, slab_len, ContainsKey, Updates}
 use Rattle.sp_chain.specs.declared.nodes.Node.{Node}
 use Rattle.sp_chain.specs.declared.nodes.Content.TheVariants.{List as Ring, Item}
 use Rattle.sp_chain.specs.Rings.{after_in, before_in, item_of, item_in, length_of, length_in, with_own, weight, IsRun, IsRing, IsSound, list_at, list_from, last_key, first_key}
-use Rattle.sp_chain.specs.Steps.{SetsAfter, SetsBefore, SetsLength, IsPlace, IsHeld, KeepsOthers, Inserts, Unlinks, Splices}
+use Rattle.sp_chain.specs.inside.Steps.{SetsAfter, SetsBefore, SetsLength, IsPlace, IsHeld, KeepsOthers, Inserts, Unlinks, Splices}
 use Rattle.sp_chain.proofs.Sums.{sum_same, sum_one, sum_holds, sum_holds_two}
 use Rattle.sp_chain.proofs.RingLemmas.{same_run, Apart, apart_free, apart_longer, away, run_after, run_before, run_split, run_rest, apart_rest, apart_first, apart_last, run_end, run_join, apart_end, Near, frame, insert_run, unlink_run, list_of_ring, Nearly, retarget, untouched}
 

@@ -6,8 +6,8 @@ use Rattle.slab.specs.Slab.{Slab, get, slab_len}
 use Rattle.sp_chain.specs.declared.nodes.Node.{Node}
 use Rattle.sp_chain.specs.Chains.{list_of, put_one, put_at, put_in, with_slot}
 use Rattle.sp_chain.specs.Rings.{after_in, before_in, item_in, length_in, with_own, weight, IsRun, IsRing, IsSound, list_from, lists_in}
-use Rattle.sp_chain.specs.Steps.{IsHeld}
-use Rattle.sp_chain.specs.Lending.{with_item_in, with_item_at}
+use Rattle.sp_chain.specs.inside.Steps.{IsHeld}
+use Rattle.sp_chain.specs.inside.Lending.{with_item_in, with_item_at}
 use Rattle.sp_chain.proofs.Sums.{sum_same}
 use Rattle.sp_chain.proofs.RingLemmas.{Apart, apart_other, run_split, list_of_ring}
 use Rattle.sp_chain.proofs.ArenaLemmas.{item_apart, list_cases, no_list, ring_free, held_there, item_of_held}

@@ -8,7 +8,7 @@ use Rattle.sp_chain.specs.declared.nodes.Content.TheVariants.{List as Ring}
 use Rattle.sp_chain.specs.declared.nodes.Node.{Node}
 use Rattle.sp_chain.specs.Chains.{Chains, list_of, IsLive, HasSlot, Holds, first_slot, Updates, Splices as SplicesLists, EachSlotOnce, IsDrained, places_of, HasFree}
 use Rattle.sp_chain.specs.Rings.{after_in, before_in, item_in, length_in, with_own, weight, IsRun, IsRing, IsSound, list_from, lists_in, last_key}
-use Rattle.sp_chain.specs.Steps.{IsPlace, IsHeld, Inserts, Unlinks, Splices}
+use Rattle.sp_chain.specs.inside.Steps.{IsPlace, IsHeld, Inserts, Unlinks, Splices}
 use Rattle.sp_chain.proofs.Sums.{sum_map, sum_one}
 use Rattle.sp_chain.proofs.RingLemmas.{apart_free, Near, frame, same_run, run_before, run_split, list_of_ring}
 use Rattle.sp_chain.proofs.ArenaLemmas.{rings_stay, keeps, length_there, list_cases, no_list, ring_of_list, ring_free, list_there}

@@ -1,5 +1,4 @@
 pub mod Chains
 pub mod Rings
-pub mod Steps
-pub mod Lending
 pub mod Lent
+pub mod inside

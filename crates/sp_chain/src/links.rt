@@ -2,7 +2,7 @@
 ghost use Rattle.std.specs.Prelude.{◌≡◌, ◌≢◌, ◌≤◌, IsSome, IsOk, IfOk, IfErr, OnErr};
 ghost use Rattle.slab.specs.Slab.{get, HasRoomFor};
 ghost use Rattle.sp_chain.specs.Rings.{IsSound, length_in};
-ghost use Rattle.sp_chain.specs.Steps.{IsPlace, IsHeld, Inserts, Unlinks, Splices};
+ghost use Rattle.sp_chain.specs.inside.Steps.{IsPlace, IsHeld, Inserts, Unlinks, Splices};
 
 use crate::nodes::{
     Content, Node, after_of, before_of, length_of, set_after, set_before, set_length,

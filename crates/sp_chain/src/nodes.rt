@@ -3,8 +3,8 @@ ghost use Rattle.std.specs.Prelude.{◌≡◌, ◌≢◌, Some, IsSome};
 ghost use Rattle.std.specs.Borrow.{Lends, sem};
 ghost use Rattle.slab.specs.Slab.{ContainsKey, get};
 ghost use Rattle.sp_chain.specs.Rings.{after_in, before_in, item_in, item_of, length_in};
-ghost use Rattle.sp_chain.specs.Lending.{lends_node};
-ghost use Rattle.sp_chain.specs.Steps.{SetsAfter, SetsBefore, SetsLength};
+ghost use Rattle.sp_chain.specs.inside.Lending.{lends_node};
+ghost use Rattle.sp_chain.specs.inside.Steps.{SetsAfter, SetsBefore, SetsLength};
 
 use slab::Slab;
 
@@ -40,7 +40,7 @@ impl<T> Content<T> {
 }
 
 impl<T> Node<T> {
-    ghost use Rattle.sp_chain.specs.Lending.{lends_item};
+    ghost use Rattle.sp_chain.specs.inside.Lending.{lends_item};
 
     fn item_mut(&mut self) -> &mut T
         requires { IsSome (item_of self.old.content) }

@@ -19,7 +19,7 @@ use Rattle.sp_command.specs.Puts.{IsFront, IsPartPut}
 use Rattle.sp_driver.specs.Shown.{flow_name, most_taken, added, shown, whole, run_lines}
 use Rattle.sp_driver.specs.Run.{IsPrompt, IsRunPart, IsTakenWhole, IsWhole, AtExit, Runs}
 use Rattle.sp_driver.specs.declared.exits.Stop.{Stop}
-use Rattle.sp_driver.specs.Fed.{IsFedBy, exit_of_stop, exit_of_stand}
+use Rattle.sp_driver.specs.inside.Fed.{IsFedBy, exit_of_stop, exit_of_stand}
 
 -- what is shown of whole pieces doesn't hang on what follows
 pub shown-append : (meaning : UnitMeaning) (n : ℕ) (s t : List ℕ) (i : ℕ) → i * n ≤ length s → shown meaning n (s ++ t) i ≡ shown meaning n s i

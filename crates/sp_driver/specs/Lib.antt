@@ -1,9 +1,9 @@
 pub mod Causes
 pub mod Driver
-pub mod Fed
 pub mod Loads
 pub mod Parts
 pub mod Run
 pub mod Shown
 pub mod Whole
 pub mod Words
+pub mod inside

@@ -10,7 +10,7 @@ ghost use Rattle.sp_driver.specs.Parts.{StopCause};
 ghost use Rattle.sp_driver.specs.Shown.{added, flow_name};
 ghost use Rattle.sp_driver.specs.Run.{Runs, RunCause};
 ghost use Rattle.sp_driver.specs.Driver.{run_meaning};
-ghost use Rattle.sp_driver.specs.Fed.{IsFedBy, Turned, TurnCause, IsOver, exit_of_stop, exit_of_stand};
+ghost use Rattle.sp_driver.specs.inside.Fed.{IsFedBy, Turned, TurnCause, IsOver, exit_of_stop, exit_of_stand};
 
 use crate::exits::{RunExit, Stop, Turn};
 use crate::pieces::{fill, put_lines};

@@ -1,5 +1,4 @@
 pub mod Tree
 pub mod TreeSizes
-pub mod TreeCodes
 pub mod TreeView
-pub mod TreeFalls
+pub mod inside

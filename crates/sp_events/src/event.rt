@@ -82,7 +82,7 @@ impl Model for Events {
     ghost Value = { List Event };
 
     ghost use Rattle.std.specs.Coded.{codes};
-    ghost use Rattle.sp_events.specs.TreeCodes.{coded_tree};
+    ghost use Rattle.sp_events.specs.inside.TreeCodes.{coded_tree};
 
     ghost coded = { Prim.hlevel (codes, coded_tree) };
 

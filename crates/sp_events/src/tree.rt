@@ -43,7 +43,7 @@ pub enum Node {
 
 impl Model for Tree {
     ghost use Rattle.sp_events.specs.Tree.{TreeData};
-    ghost use Rattle.sp_events.specs.TreeCodes.{coded_tree};
+    ghost use Rattle.sp_events.specs.inside.TreeCodes.{coded_tree};
     ghost use Rattle.sp_events.specs.TreeSizes.{tree_size};
 
     ghost Value = { TreeData };
@@ -57,7 +57,7 @@ impl Model for Tree {
     ghost size = { tree_size };
 
     ghost use Rattle.std.proofs.Common.{arith};
-    ghost use Rattle.sp_events.specs.TreeFalls.{deep-Node-le};
+    ghost use Rattle.sp_events.specs.inside.TreeFalls.{deep-Node-le};
 
     ghost size_decreases = { λ t h. Prim.omega (arith, deep-Node-le t.node) };
 }

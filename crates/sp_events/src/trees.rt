@@ -12,7 +12,7 @@ impl Model for Trees {
     ghost use Rattle.std.specs.Prelude.{List};
     ghost use Rattle.std.specs.Coded.{codes};
     ghost use Rattle.sp_events.specs.Tree.{TreeData};
-    ghost use Rattle.sp_events.specs.TreeCodes.{coded_tree};
+    ghost use Rattle.sp_events.specs.inside.TreeCodes.{coded_tree};
 
     ghost Value = { List TreeData };
 

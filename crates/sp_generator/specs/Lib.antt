@@ -1,3 +1,3 @@
 pub mod Input
-pub mod Ahead
 pub mod Line
+pub mod inside

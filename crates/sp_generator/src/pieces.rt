@@ -1,7 +1,7 @@
 // Pieces of the made input, each from its own place.
 ghost use Rattle.std.specs.Prelude.{◌≡◌, ◌≤◌, ◌<◌, ◌^◌, [], ◌∷◌, take, drop, IfOk, MatchOption};
 ghost use Rattle.sp_generator.specs.Input.{size_of, records, input};
-ghost use Rattle.sp_generator.specs.Ahead.{bytes_of, IsSmall};
+ghost use Rattle.sp_generator.specs.inside.Ahead.{bytes_of, IsSmall};
 
 use sp_base::{ByteList, NoMemory};
 use std::alloc::Global;

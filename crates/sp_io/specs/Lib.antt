@@ -1,5 +1,5 @@
 pub mod Causes
 pub mod Held
 pub mod Moved
-pub mod Opening
 pub mod Stored
+pub mod inside

@@ -1,7 +1,7 @@
 // Modules in the real folders. They tell no content; each error raises the count of faults.
 ghost use Rattle.std.specs.Prelude.{◌≡◌, None, take, IfOk, IfSome};
 ghost use Rattle.std.specs.IoError.{error_kind};
-ghost use Rattle.sp_io.specs.Opening.{unopened, unread};
+ghost use Rattle.sp_io.specs.inside.Opening.{unopened, unread};
 
 use crate::traits::{Modules, ModulesFault};
 use sp_base::{ByteList, NoMemory};

@@ -13,7 +13,7 @@ use Rattle.sp_lex.specs.Elements.{ends_operand, element_at}
 use Rattle.sp_lex.specs.Faults.{byte_span, IsTokenFault, IsReadingFault, GoesBefore}
 use Rattle.sp_lex.specs.Nesting.{role_of, level, after, outermost}
 use Rattle.sp_lex.specs.Readings.{Reading, Stops, Reads, token_at, reads_from, read_on, reading, behind, whole, bytes_of, HasItsText, IsLongest, InOrder}
-use Rattle.sp_lex.specs.Scanning.{Scanned}
+use Rattle.sp_lex.specs.inside.Scanning.{Scanned}
 use Rattle.sp_lex.specs.declared.elements.Element.{Element}
 use Rattle.sp_lex.specs.declared.elements.Element.TheVariants as element
 use Rattle.sp_lex.specs.declared.kinds.TokenKind.{TokenKind}

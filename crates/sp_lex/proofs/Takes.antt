@@ -8,7 +8,7 @@ use Rattle.sp_lex.specs.Elements.{ends_operand, element_at}
 use Rattle.sp_lex.specs.Faults.{IsTokenFault, IsReadingFault, GoesBefore, OnDiag}
 use Rattle.sp_lex.specs.Nesting.{role_of, level, after, outermost}
 use Rattle.sp_lex.specs.Readings.{token_at, reading, bytes_of}
-use Rattle.sp_lex.specs.Scanning.{Scanned}
+use Rattle.sp_lex.specs.inside.Scanning.{Scanned}
 use Rattle.sp_lex.specs.declared.elements.Element.TheVariants as element
 use Rattle.sp_lex.specs.declared.kinds.TokenKind.{TokenKind}
 use Rattle.sp_lex.specs.declared.nesting.Nesting.{Nesting}

@@ -7,7 +7,7 @@ pub mod Listed
 pub mod Literals
 pub mod Nesting
 pub mod Readings
-pub mod Scanning
 pub mod Signs
 pub mod Spellings
 pub mod Written
+pub mod inside

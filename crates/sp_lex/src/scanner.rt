@@ -8,7 +8,7 @@ ghost use Rattle.sp_lex.specs.Elements.{element_at};
 ghost use Rattle.sp_lex.specs.Faults.{most_bytes, IsTokenFault, IsReadingFault, GoesBefore, OnDiag};
 ghost use Rattle.sp_lex.specs.Nesting.{role_of, level, after, outermost, IsBounded};
 ghost use Rattle.sp_lex.specs.Readings.{token_at, reading, whole, HasItsText, IsLongest, InOrder};
-ghost use Rattle.sp_lex.specs.Scanning.{Scanned};
+ghost use Rattle.sp_lex.specs.inside.Scanning.{Scanned};
 
 use crate::elements::{Element, element_at};
 use crate::faults::own_fault;

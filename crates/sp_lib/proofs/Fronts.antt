@@ -10,7 +10,7 @@ use Rattle.std.specs.List.{prefix_len}
 use Rattle.bstr.proofs.lemmas.UnicodeLemmas.{none_after_valid}
 use Rattle.sp_methods.specs.Decoding.{utf8_character, ascii_character, characters, are_whole}
 use Rattle.sp_methods.proofs.Texts.{utf8_taken, utf8_whole, utf8_stray, AreAscii, ascii_taken, ascii_whole}
-use Rattle.sp_lib.specs.Fronts.{IsFront}
+use Rattle.sp_lib.specs.inside.Fronts.{IsFront}
 
 parted : (n : ℕ) (x : List ℕ) → take n x ++ drop n x ≡ x
 parted zero x = refl

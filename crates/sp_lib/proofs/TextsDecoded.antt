@@ -5,7 +5,7 @@ use borrow.Author.Tests.{eq-eqb}
 use Rattle.sp_base.specs.declared.kinds.PKind.TheVariants.{BadConversion}
 use Rattle.sp_methods.specs.Decoding.{character_in, characters, are_whole, fill_of, is_charset, is_strategy, is_accepted, decode}
 use Rattle.sp_methods.proofs.Texts.{whole_strayed}
-use Rattle.sp_lib.specs.Fronts.{IsFront}
+use Rattle.sp_lib.specs.inside.Fronts.{IsFront}
 use Rattle.sp_lib.proofs.Fronts.{take_whole}
 
 -- what is left behind the front, as code lends it

@@ -3,7 +3,7 @@ ghost use Rattle.std.specs.Prelude.{◌≡◌, ◌<◌, ◌≤◌, ◌++◌, ◌
 ghost use Rattle.std.specs.List.{prefix_len};
 ghost use Rattle.sp_methods.specs.Answers.{Tells};
 ghost use Rattle.sp_methods.specs.Decoding.{character_in, characters, are_whole, fill_of, is_charset, is_strategy, decode};
-ghost use Rattle.sp_lib.specs.Fronts.{IsFront};
+ghost use Rattle.sp_lib.specs.inside.Fronts.{IsFront};
 
 use crate::fault::made;
 use sp_base::{ByteList, NoMemory, PKind, Text};

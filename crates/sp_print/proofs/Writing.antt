@@ -15,7 +15,7 @@ use Rattle.sp_print.specs.declared.layouts.Piece.{Piece}
 use Rattle.sp_print.specs.declared.layouts.Piece.TheVariants as pieces
 use Rattle.sp_print.specs.Layouts.{opening, closing, between}
 use Rattle.sp_print.specs.Words.{fixed}
-use Rattle.sp_print.specs.Pieces.{IsLaid}
+use Rattle.sp_print.specs.inside.Pieces.{IsLaid}
 use Rattle.sp_print.specs.Canonical.{Writing, last_kind, kinds, chain, enclosed, write, needs_parentheses, at_place, is_absent, is_empty_row, anywhere, followed, listed, framed, part, part_of, parts_of, rowed, laid, spelled, lines}
 
 pub last_puts : (ws : List Word) (p : Page) → (puts ws p).last ≡ last_kind p.last ws

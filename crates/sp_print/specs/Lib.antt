@@ -3,4 +3,4 @@ pub mod Page
 pub mod Layouts
 pub mod Own
 pub mod Canonical
-pub mod Pieces
+pub mod inside

@@ -3,7 +3,7 @@ ghost use Rattle.std.specs.Prelude.{◌≡◌, ◌≤◌, ◌++◌, OnOk, IfOk, 
 ghost use Rattle.sp_ast.specs.Trees.{trees, trees_size};
 ghost use Rattle.sp_print.specs.Page.{page};
 ghost use Rattle.sp_print.specs.Canonical.{write, spelled, laid, part, part_of, parts_of, framed, rowed, followed, listed, at_place, lines, canonical};
-ghost use Rattle.sp_print.specs.Pieces.{IsLaid};
+ghost use Rattle.sp_print.specs.inside.Pieces.{IsLaid};
 
 use crate::layouts::{Frame, PartLayout, Piece, Separator};
 use crate::own::put_own;

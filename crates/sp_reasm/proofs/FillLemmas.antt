@@ -6,7 +6,7 @@ use Rattle.sp_reasm.specs.declared.piece.Spot.{Spot}
 use Rattle.sp_reasm.specs.declared.piece.Spot.TheVariants.{Bytes as SpotBytes, Missing as SpotMissing, Free}
 use Rattle.sp_reasm.specs.Owners.{Owner, Write, Gap, covering, or_else}
 use Rattle.sp_reasm.specs.Pieces.{size_of, has, past_of, AreData, AreLost, AreFree, IsSpot, spot_len, laid}
-use Rattle.sp_reasm.specs.Filling.{without, undone, IsKept, IsPut, IsFilled}
+use Rattle.sp_reasm.specs.inside.Filling.{without, undone, IsKept, IsPut, IsFilled}
 use Rattle.sp_reasm.proofs.PieceLemmas.{byte_some, covering_write, covering_gap, covering_before, covering_behind, or_none}
 use Rattle.sp_reasm.proofs.FloorLemmas.{or_some}
 use Rattle.sp_reasm.proofs.PlaceLemmas.{below_or}

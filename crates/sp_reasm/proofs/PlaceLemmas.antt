@@ -10,7 +10,7 @@ use Rattle.sp_reasm.specs.declared.piece.Piece.{Piece}
 use Rattle.sp_reasm.specs.Owners.{Owner, or_else}
 use Rattle.sp_reasm.specs.Pieces.{size_of, has, owner_of, past_of, AreOrdered, begins_below}
 use Rattle.sp_reasm.specs.Listed.{IsSlotIn, StandsIn, entry_of, pieces_of, ArePast, IsFloor, IsIndexed}
-use Rattle.sp_reasm.specs.Filling.{without}
+use Rattle.sp_reasm.specs.inside.Filling.{without}
 use Rattle.sp_reasm.proofs.PieceLemmas.{covering_before, covering_within, covering_behind, owner-append, owner_below, pieces-append, cut, owner_cut, replaced, loosen, lt_false, lt_true}
 use Rattle.sp_reasm.proofs.FloorLemmas.{found, found_slot, next_in, cut_pieces, ordered_cut}
 

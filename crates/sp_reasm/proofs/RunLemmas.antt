@@ -7,7 +7,7 @@ use Rattle.sp_reasm.specs.declared.piece.Spot.TheVariants.{Bytes as SpotBytes, M
 use Rattle.sp_reasm.specs.Owners.{Owner, Lost, Write, covering, byte_at, or_else}
 use Rattle.sp_reasm.specs.Notes.{datum}
 use Rattle.sp_reasm.specs.Pieces.{AreData, AreLost, AreFree, IsSpot, spot_len, laid}
-use Rattle.sp_reasm.specs.Overlays.{IsDataRun, NoData}
+use Rattle.sp_reasm.specs.inside.Overlays.{IsDataRun, NoData}
 use Rattle.sp_reasm.proofs.PieceLemmas.{byte-drop, byte-take, byte_some, covering_write, covering_behind}
 use Rattle.sp_reasm.proofs.FloorLemmas.{or_some}
 use Rattle.sp_reasm.proofs.PlaceLemmas.{below_or}

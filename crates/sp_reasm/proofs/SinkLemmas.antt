@@ -16,9 +16,9 @@ use Rattle.sp_reasm.specs.State.{StandsFor, IsAnswer, Answers, IsSetting, IsSet}
 use Rattle.sp_reasm.specs.declared.piece.Piece.{Piece}
 use Rattle.sp_reasm.specs.declared.piece.Spot.{Spot}
 use Rattle.sp_reasm.specs.Pieces.{owner_of, laid, overlaid}
-use Rattle.sp_reasm.specs.Filling.{IsFilled}
-use Rattle.sp_reasm.specs.Overlays.{AreOwned, AreDelivered, data_in, overlaps_in}
-use Rattle.sp_reasm.specs.Settling.{checked, number_or, reached, pending, joint, Settles, past_head, IsWritten, IsLost, IsGivenUp, given_up, closing}
+use Rattle.sp_reasm.specs.inside.Filling.{IsFilled}
+use Rattle.sp_reasm.specs.inside.Overlays.{AreOwned, AreDelivered, data_in, overlaps_in}
+use Rattle.sp_reasm.specs.inside.Settling.{checked, number_or, reached, pending, joint, Settles, past_head, IsWritten, IsLost, IsGivenUp, given_up, closing}
 use Rattle.sp_reasm.proofs.StandLemmas.{all-append, IsBounded, bounded_after, start_is_past}
 use Rattle.sp_reasm.proofs.PieceLemmas.{le_true, byte-drop, covering_write, or_none}
 use Rattle.sp_reasm.proofs.PlaceLemmas.{below_or}

@@ -6,7 +6,7 @@ use Rattle.sp_reasm.specs.declared.notes.Note.{Note}
 use Rattle.sp_reasm.specs.declared.notes.Note.TheVariants.{Overlap, Undelivered, Skipped, Deliver, Gap as Missing, Closed}
 use Rattle.sp_reasm.specs.Owners.{Owner, Data, Lost, byte_at}
 use Rattle.sp_reasm.specs.Notes.{owners_from, before_runs, runs, datum, both, overlapped, overlap_note, undelivered_note, before_notes, told}
-use Rattle.sp_reasm.specs.Overlays.{IsDataRun, IsLostRun, NoData, IsFirstRun, AreOwned, IsTold, AreDelivered, data_in, overlaps_in}
+use Rattle.sp_reasm.specs.inside.Overlays.{IsDataRun, IsLostRun, NoData, IsFirstRun, AreOwned, IsTold, AreDelivered, data_in, overlaps_in}
 use Rattle.sp_reasm.proofs.StandLemmas.{BeginsFrom, runs_apart}
 use Rattle.sp_reasm.proofs.PieceLemmas.{byte_some}
 use Rattle.sp_reasm.proofs.PlaceLemmas.{below_or}

@@ -5,7 +5,5 @@ pub mod Rows
 pub mod Laws
 pub mod Pieces
 pub mod Listed
-pub mod Overlays
-pub mod Filling
 pub mod State
-pub mod Settling
+pub mod inside

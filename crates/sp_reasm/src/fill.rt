@@ -2,7 +2,7 @@
 ghost use Rattle.std.specs.Prelude.{◌≡◌, ℕ, ◌+◌, ◌<◌, ◌≤◌, ◌^◌, None, IfOk, OnOk, OnErr};
 ghost use Rattle.sp_reasm.specs.Owners.{or_else};
 ghost use Rattle.sp_reasm.specs.Pieces.{owner_of, has, past_of, size_of, spot_len, IsSpot};
-ghost use Rattle.sp_reasm.specs.Filling.{undone, IsKept, IsPut, IsFilled};
+ghost use Rattle.sp_reasm.specs.inside.Filling.{undone, IsKept, IsPut, IsFilled};
 
 use crate::pending::Pending;
 use crate::piece::{Content, Piece, Spot};

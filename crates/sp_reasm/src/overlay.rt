@@ -2,7 +2,7 @@
 ghost use Rattle.std.specs.Prelude.{◌≡◌, ℕ, ◌+◌, ◌-◌, ◌<◌, ◌≤◌, ◌^◌, ◌++◌, length, map, IfOk, OnOk, take};
 ghost use Rattle.sp_reasm.specs.Pieces.{IsSpot};
 ghost use Rattle.sp_reasm.specs.Notes.{runs, undelivered_note};
-ghost use Rattle.sp_reasm.specs.Overlays.{owner_in, Fits, IsDataRun, IsLostRun, IsNext, IsStep, AreDelivered, data_in, overlaps_in};
+ghost use Rattle.sp_reasm.specs.inside.Overlays.{owner_in, Fits, IsDataRun, IsLostRun, IsNext, IsStep, AreDelivered, data_in, overlaps_in};
 
 use crate::note_list::Notes;
 use crate::notes::Note;

@@ -4,7 +4,7 @@ ghost use Rattle.sp_reasm.specs.declared.piece.Piece.{Piece as PieceData};
 ghost use Rattle.sp_reasm.specs.Pieces.{owner_of, has, past_of, size_of, AreOrdered, IsSpot, begins_below};
 ghost use Rattle.sp_reasm.specs.Listed.{IsFloor};
 ghost use Rattle.sp_reasm.specs.Owners.{or_else};
-ghost use Rattle.sp_reasm.specs.Filling.{without};
+ghost use Rattle.sp_reasm.specs.inside.Filling.{without};
 
 use crate::piece::{Piece, Spot};
 use crate::piece_list::PieceList;

@@ -2,7 +2,7 @@
 ghost use Rattle.std.specs.Prelude.{◌≡◌, ℕ, ◌+◌, ◌-◌, ◌≤◌, ◌^◌, ◌++◌, length, drop, min, IfOk, OnOk, OnErr};
 ghost use Rattle.sp_reasm.specs.Sink.{Sink, new_sink, next_number, write as write_call, gap as gap_call, skip as skip_call, close as close_call, set_initial as set_initial_call};
 ghost use Rattle.sp_reasm.specs.State.{StandsFor, Answers, IsSet};
-ghost use Rattle.sp_reasm.specs.Settling.{Settles, IsWritten, IsLost, IsGivenUp, checked, number_or, reached, given_up, closing};
+ghost use Rattle.sp_reasm.specs.inside.Settling.{Settles, IsWritten, IsLost, IsGivenUp, checked, number_or, reached, given_up, closing};
 ghost use Rattle.sp_reasm.specs.Pieces.{spot_len, laid};
 
 use crate::fill::fill;

@@ -2,7 +2,6 @@ pub mod Bounds
 pub mod Bytes
 pub mod Class
 pub mod Escapes
-pub mod Falls
 pub mod Language
 pub mod Levels
 pub mod Machine
@@ -11,3 +10,4 @@ pub mod Shapes
 pub mod Syntax
 pub mod Trees
 pub mod Views
+pub mod inside

@@ -67,7 +67,7 @@ impl Model for Regex {
 
     ghost view = { λ r. node_syntax r.node };
 
-    ghost use Rattle.sp_regex.specs.Falls.{node_falls};
+    ghost use Rattle.sp_regex.specs.inside.Falls.{node_falls};
 
     ghost size_decreases = { λ r h. node_falls r.node };
 }

@@ -1,12 +1,10 @@
 pub mod Exprs
 pub mod Nodes
 pub mod Heights
-pub mod ExprCodes
 pub mod ExprViews
-pub mod ExprFalls
 pub mod ExprLevels
 pub mod Stmts
 pub mod StmtCodes
 pub mod StmtViews
-pub mod StmtFalls
 pub mod StmtNodes
+pub mod inside

@@ -58,7 +58,7 @@ impl Model for Expr {
     ghost use Rattle.std.specs.Coded.{codes};
     ghost use Rattle.sp_types.specs.contracts.types.Type as type_row;
     ghost use Rattle.sp_typed.specs.Exprs.{Expr as Data};
-    ghost use Rattle.sp_typed.specs.ExprCodes.{expr_size, coded_expr};
+    ghost use Rattle.sp_typed.specs.inside.ExprCodes.{expr_size, coded_expr};
 
     ghost Value = { Data };
 
@@ -74,7 +74,7 @@ impl Model for Expr {
     ghost size = { expr_size };
 
     ghost use Rattle.std.proofs.Common.{arith};
-    ghost use Rattle.sp_typed.specs.ExprFalls.{deep-ExprNode-le};
+    ghost use Rattle.sp_typed.specs.inside.ExprFalls.{deep-ExprNode-le};
 
     ghost size_decreases = { λ e h. Prim.omega (arith, deep-ExprNode-le e.node) };
 }

@@ -58,7 +58,7 @@ impl Model for Stmt {
     ghost size = { stmt_size };
 
     ghost use Rattle.std.proofs.Common.{arith};
-    ghost use Rattle.sp_typed.specs.StmtFalls.{deep-StmtNode-le};
+    ghost use Rattle.sp_typed.specs.inside.StmtFalls.{deep-StmtNode-le};
 
     ghost size_decreases = { λ s h. Prim.omega (arith, deep-StmtNode-le s.node) };
 }

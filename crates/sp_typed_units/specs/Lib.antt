@@ -1,10 +1,6 @@
 pub mod Specs
 pub mod SpecHeights
-pub mod SpecCodes
 pub mod SpecViews
-pub mod SpecFalls
 pub mod Parts
-pub mod PartCodes
 pub mod PartViews
-pub mod PartFalls
-pub mod SpecNodes
+pub mod inside

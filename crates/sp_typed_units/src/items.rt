@@ -61,7 +61,7 @@ impl Model for Part {
     ghost use Rattle.sp_typed.specs.contracts.exprs.Expr as expr_row;
     ghost use Rattle.sp_typed_units.specs.contracts.readings.Spec as spec_row;
     ghost use Rattle.sp_typed_units.specs.Parts.{Part as Data};
-    ghost use Rattle.sp_typed_units.specs.PartCodes.{part_size, coded_part};
+    ghost use Rattle.sp_typed_units.specs.inside.PartCodes.{part_size, coded_part};
 
     ghost Value = { Data };
 
@@ -74,7 +74,7 @@ impl Model for Part {
     ghost size = { part_size };
 
     ghost use Rattle.std.proofs.Common.{arith};
-    ghost use Rattle.sp_typed_units.specs.PartFalls.{deep-PartNode-le};
+    ghost use Rattle.sp_typed_units.specs.inside.PartFalls.{deep-PartNode-le};
 
     ghost size_decreases = { λ p h. Prim.omega (arith, deep-PartNode-le p.node) };
 }

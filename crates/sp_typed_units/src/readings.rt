@@ -73,7 +73,7 @@ impl Model for Spec {
     ghost use Rattle.sp_typed.specs.contracts.exprs.Expr as expr_row;
     ghost use Rattle.sp_typed.specs.Heights.{most_levels};
     ghost use Rattle.sp_typed_units.specs.Specs.{Spec as Data};
-    ghost use Rattle.sp_typed_units.specs.SpecCodes.{spec_size, coded_spec};
+    ghost use Rattle.sp_typed_units.specs.inside.SpecCodes.{spec_size, coded_spec};
 
     ghost Value = { Data };
 
@@ -89,7 +89,7 @@ impl Model for Spec {
     ghost size = { spec_size };
 
     ghost use Rattle.std.proofs.Common.{arith};
-    ghost use Rattle.sp_typed_units.specs.SpecFalls.{deep-SpecNode-le};
+    ghost use Rattle.sp_typed_units.specs.inside.SpecFalls.{deep-SpecNode-le};
 
     ghost size_decreases = { λ s h. Prim.omega (arith, deep-SpecNode-le s.node) };
 }

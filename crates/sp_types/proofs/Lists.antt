@@ -3,7 +3,7 @@ use Rattle.std.specs.Prelude.{◌&&◌}
 use Rattle.std.specs.List.{list_all}
 use Rattle.std.proofs.Common.{ℕ, ◌≡◌, ◌≢◌, zero, suc, ◌+◌, ◌≤◌, ◌<◌, Bool, true, false, List, [], ◌∷◌, length, get_or, refl, ap, arith}
 use Rattle.sp_types.specs.Types.{Ty, tys, is_known, are_known, is_plain, are_plain, same, all_same}
-use Rattle.sp_types.specs.Codes.{ty_size, tys_size}
+use Rattle.sp_types.specs.inside.Codes.{ty_size, tys_size}
 
 pub all_known : (ts : List Ty) → are_known (tys ts) ≡ list_all is_known ts
 all_known [] = refl

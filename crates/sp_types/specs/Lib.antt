@@ -1,5 +1,4 @@
 pub mod Types
-pub mod Codes
 pub mod Views
-pub mod Falls
 pub mod Levels
+pub mod inside

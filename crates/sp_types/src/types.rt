@@ -46,7 +46,7 @@ impl Model for Type {
     ghost use Rattle.std.specs.Prelude.{◌≡◌, ◌≤◌};
     ghost use Rattle.std.specs.Coded.{codes};
     ghost use Rattle.sp_types.specs.Types.{Ty};
-    ghost use Rattle.sp_types.specs.Codes.{ty_size, coded_ty};
+    ghost use Rattle.sp_types.specs.inside.Codes.{ty_size, coded_ty};
 
     ghost Value = { Ty };
 
@@ -62,7 +62,7 @@ impl Model for Type {
     ghost size = { ty_size };
 
     ghost use Rattle.std.proofs.Common.{arith};
-    ghost use Rattle.sp_types.specs.Falls.{deep-Node-le};
+    ghost use Rattle.sp_types.specs.inside.Falls.{deep-Node-le};
 
     ghost size_decreases = { λ t h. Prim.omega (arith, deep-Node-le t.node) };
 }

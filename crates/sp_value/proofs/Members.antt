@@ -3,7 +3,7 @@ use Rattle.std.proofs.Common.{◌≡◌, ℕ, zero, suc, ◌+◌, ◌<◌, ◌�
 use Rattle.std.specs.Ordering.{nat_cmp}
 use Rattle.std.proofs.lemmas.Bool.Decides.{nat_tests}
 use Rattle.sp_value.specs.Val.{Val, vals_of, entries_of}
-use Rattle.sp_value.specs.Sizes.{val_size, sizes, entries_size}
+use Rattle.sp_value.specs.inside.Sizes.{val_size, sizes, entries_size}
 use Rattle.sp_value.specs.Order.{vals_cmp, entries_cmp}
 
 pub size_within : (xs : List Val) (i : ℕ) (d : Val) → i < length xs → val_size (get_or xs i d) + 1 ≤ sizes (vals_of xs)

@@ -13,7 +13,7 @@ use Rattle.sp_value.specs.Val.{Val}
 use Rattle.sp_value.specs.Order.{val_cmp}
 use Rattle.sp_value.specs.Ascending.{entry_key, IsBelowAll, IsAscending, found, with_key, without}
 use Rattle.sp_value.specs.Changes.{with_value_in}
-use Rattle.sp_value.specs.Places.{IsKeyAt, IsGapAt}
+use Rattle.sp_value.specs.inside.Places.{IsKeyAt, IsGapAt}
 use Rattle.sp_value.specs.Pieces.{all_in, NoneEmpty, first_key, AreBelow, IsIn, ArePieces}
 use Rattle.sp_value.proofs.Search.{neighbours, above_like}
 use Rattle.sp_value.proofs.PieceLists.{same_in, length_in, none_at, none_with}

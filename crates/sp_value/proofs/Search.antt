@@ -11,7 +11,7 @@ use Rattle.std.proofs.lemmas.List.Sorted.{searchable_from_sorted}
 use Rattle.sp_value.specs.Val.{Val}
 use Rattle.sp_value.specs.Order.{val_cmp}
 use Rattle.sp_value.specs.Ascending.{IsBelowAll, IsAscending, found, with_key, without}
-use Rattle.sp_value.specs.Places.{IsKeyAt, IsGapAt, IsPlace}
+use Rattle.sp_value.specs.inside.Places.{IsKeyAt, IsGapAt, IsPlace}
 use Rattle.sp_value.proofs.Total.{val_cmp_total}
 
 module _ {X : Type 0} (key : X → Val) where

@@ -6,7 +6,7 @@ use Rattle.std.proofs.lemmas.Option.{slice_get-get_or}
 use Rattle.std.proofs.lemmas.Cmp.{tied_itself}
 use Rattle.sp_value.specs.Val.{Val}
 use Rattle.sp_value.specs.Ascending.{entry_key, IsAscending, found, with_key}
-use Rattle.sp_value.specs.Places.{IsKeyAt}
+use Rattle.sp_value.specs.inside.Places.{IsKeyAt}
 use Rattle.sp_value.specs.Changes.{with_value_in}
 use Rattle.sp_value.proofs.Search.{found_at, put_at}
 use Rattle.sp_value.proofs.Total.{val_cmp_total}

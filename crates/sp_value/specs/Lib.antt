@@ -1,8 +1,5 @@
 pub mod Val
-pub mod Codes
-pub mod Sizes
 pub mod View
-pub mod Falls
 pub mod Order
 pub mod Ascending
 pub mod Widths
@@ -11,8 +8,8 @@ pub mod Levels
 pub mod Owned
 pub mod Parts
 pub mod Changes
-pub mod Places
 pub mod Pieces
 pub mod OneKey
 pub mod Alike
 pub mod Integers
+pub mod inside

@@ -4,7 +4,7 @@ ghost use Rattle.std.specs.Option.{option_map};
 ghost use Rattle.std.specs.List.{remove};
 ghost use Rattle.sp_value.specs.Val.{Val};
 ghost use Rattle.sp_value.specs.Ascending.{own_key, entry_key, IsAscending, found, with_key, without};
-ghost use Rattle.sp_value.specs.Places.{IsPlace};
+ghost use Rattle.sp_value.specs.inside.Places.{IsPlace};
 
 use crate::order::compare;
 use crate::value::Value;

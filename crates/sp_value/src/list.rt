@@ -17,7 +17,7 @@ impl Model for Values {
     ghost use Rattle.std.specs.Prelude.{List};
     ghost use Rattle.std.specs.Coded.{codes};
     ghost use Rattle.sp_value.specs.Val.{Val};
-    ghost use Rattle.sp_value.specs.Codes.{coded_val};
+    ghost use Rattle.sp_value.specs.inside.Codes.{coded_val};
 
     ghost Value = { List Val };
 

@@ -42,8 +42,8 @@ pub(crate) enum Node {
 
 impl Model for Value {
     ghost use Rattle.sp_value.specs.Val.{Val};
-    ghost use Rattle.sp_value.specs.Codes.{coded_val};
-    ghost use Rattle.sp_value.specs.Sizes.{val_size};
+    ghost use Rattle.sp_value.specs.inside.Codes.{coded_val};
+    ghost use Rattle.sp_value.specs.inside.Sizes.{val_size};
 
     ghost Value = { Val };
 
@@ -60,7 +60,7 @@ impl Model for Value {
     ghost size = { val_size };
 
     ghost use Rattle.std.proofs.Common.{arith};
-    ghost use Rattle.sp_value.specs.Falls.{deep-Node-le};
+    ghost use Rattle.sp_value.specs.inside.Falls.{deep-Node-le};
 
     ghost size_decreases = { λ v h. Prim.omega (arith, deep-Node-le v.node) };
 }

@@ -1,6 +1,6 @@
 use Rattle.std.proofs.Common.{◌≡◌, ◌+◌, ◌*◌, drop}
 use Rattle.sp_types.specs.Types.{tys, all_same}
-use Rattle.sp_types.specs.Codes.{ty_size, tys_size}
+use Rattle.sp_types.specs.inside.Codes.{ty_size, tys_size}
 use Rattle.sp_types.proofs.+same.Given as goal
 
 abbrev pub decreases-types::Type::same : goal.decreases-types::Type::same

@@ -1,5 +1,5 @@
 use Rattle.std.proofs.Common.{add-one, arith, suc, length, ◌≤◌}
-use Rattle.sp_build.specs.Popping.{passes}
+use Rattle.sp_build.specs.inside.Popping.{passes}
 use Rattle.sp_build.proofs.Found.{run_more, run_ends, count_of_trees}
 use Rattle.sp_build.proofs.finding.run_under.Goals as goal
 

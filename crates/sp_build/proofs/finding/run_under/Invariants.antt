@@ -1,6 +1,6 @@
 use Rattle.std.proofs.Common.{◌≡◌, ◌-◌, drop, length}
 use Rattle.sp_build.specs.Building.{gathered}
-use Rattle.sp_build.specs.Popping.{passes}
+use Rattle.sp_build.specs.inside.Popping.{passes}
 use Rattle.sp_build.specs.Stacks.{last_trees, AreTrees}
 use Rattle.sp_build.proofs.finding.run_under.Given as goal
 

@@ -1,5 +1,5 @@
 use Rattle.std.proofs.Common.{sym, subst}
-use Rattle.sp_build.specs.RuleParts.{HasParts}
+use Rattle.sp_build.specs.inside.RuleParts.{HasParts}
 use Rattle.sp_build.proofs.RuleParts.{rules_have_parts}
 use Rattle.sp_build.proofs.steps.step.Goals as goal
 

@@ -1,5 +1,5 @@
 use Rattle.std.proofs.Common.{sym, ◌∙◌}
-use Rattle.sp_build.specs.RuleViews.{leaf_view}
+use Rattle.sp_build.specs.inside.RuleViews.{leaf_view}
 use Rattle.sp_build.proofs.RuleParts.{leaf_has_none, none_fill}
 use Rattle.sp_build.proofs.steps.takes.Goals as goal
 

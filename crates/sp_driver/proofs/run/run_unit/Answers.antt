@@ -2,7 +2,7 @@ use Rattle.std.proofs.Common.{[], refl, sym, ◌∙◌, subst}
 use Rattle.sp_meaning.specs.Meaning.{UnitMeaning}
 use Rattle.sp_driver.specs.Driver.{run_meaning}
 use Rattle.sp_driver.specs.Run.{Runs}
-use Rattle.sp_driver.specs.Fed.{IsFedBy}
+use Rattle.sp_driver.specs.inside.Fed.{IsFedBy}
 use Rattle.sp_driver.proofs.Runs.{runs_not, runs_stopped_first, told_first}
 use Rattle.sp_driver.proofs.run.run_unit.Goals as goal
 

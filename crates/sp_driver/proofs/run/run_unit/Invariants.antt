@@ -1,7 +1,7 @@
 use Rattle.std.proofs.Common.{◌≡◌, ◌≤◌, ◌-◌, ◌^◌, ℕ, List}
 use Rattle.sp_session.specs.Session.{means, received}
 use Rattle.sp_driver.specs.Driver.{run_meaning}
-use Rattle.sp_driver.specs.Fed.{IsFedBy}
+use Rattle.sp_driver.specs.inside.Fed.{IsFedBy}
 use Rattle.sp_driver.proofs.run.run_unit.Given as goal
 
 abbrev pub invariant-pieces : goal.invariant-pieces

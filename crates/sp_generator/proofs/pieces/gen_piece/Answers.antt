@@ -1,6 +1,6 @@
 use Rattle.std.proofs.Common.{take, drop, arith}
 use Rattle.sp_generator.specs.Input.{input}
-use Rattle.sp_generator.specs.Ahead.{bytes_of}
+use Rattle.sp_generator.specs.inside.Ahead.{bytes_of}
 use Rattle.sp_generator.proofs.Blocks.{pushed}
 use Rattle.sp_generator.proofs.pieces.gen_piece.Goals as goal
 

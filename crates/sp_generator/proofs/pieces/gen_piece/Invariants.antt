@@ -1,6 +1,6 @@
 use Rattle.std.proofs.Common.{◌≡◌, ◌≤◌, ◌-◌, ◌++◌, length, take, drop}
 use Rattle.sp_generator.specs.Input.{input}
-use Rattle.sp_generator.specs.Ahead.{bytes_of, IsSmall}
+use Rattle.sp_generator.specs.inside.Ahead.{bytes_of, IsSmall}
 use Rattle.sp_generator.proofs.pieces.gen_piece.Given as goal
 
 abbrev pub invariant-bytes : goal.invariant-bytes

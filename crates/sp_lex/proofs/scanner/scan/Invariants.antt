@@ -1,5 +1,5 @@
 use Rattle.std.proofs.Common.{length, ◌-◌}
-use Rattle.sp_lex.specs.Scanning.{Scanned}
+use Rattle.sp_lex.specs.inside.Scanning.{Scanned}
 use Rattle.sp_lex.proofs.scanner.scan.Given as goal
 
 abbrev pub invariant-loop-progress : goal.invariant-loop-progress

@@ -1,6 +1,6 @@
 use Rattle.std.proofs.Common.{◌≡◌, ◌-◌}
 use Rattle.sp_reasm.specs.Pieces.{owner_of}
-use Rattle.sp_reasm.specs.Filling.{undone}
+use Rattle.sp_reasm.specs.inside.Filling.{undone}
 use Rattle.sp_reasm.proofs.FillLemmas.{Fills}
 use Rattle.sp_reasm.proofs.fill.put_all.Given as goal
 

@@ -1,6 +1,6 @@
 use Rattle.std.proofs.Common.{◌+◌, sym, subst, arith}
 use Rattle.sp_reasm.specs.Pieces.{owner_of}
-use Rattle.sp_reasm.specs.Filling.{IsKept, IsPut}
+use Rattle.sp_reasm.specs.inside.Filling.{IsKept, IsPut}
 use Rattle.sp_reasm.proofs.FillLemmas.{covered_data, covered_lost, kept_free, piece_put, none_put}
 use Rattle.sp_reasm.proofs.fill.put_at.Goals as goal
 

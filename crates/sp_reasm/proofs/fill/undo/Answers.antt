@@ -1,5 +1,5 @@
 use Rattle.std.proofs.Common.{sym, ap, ◌∙◌}
-use Rattle.sp_reasm.specs.Filling.{undone}
+use Rattle.sp_reasm.specs.inside.Filling.{undone}
 use Rattle.sp_reasm.proofs.FillLemmas.{undone-push}
 use Rattle.sp_reasm.proofs.fill.undo.Goals as goal
 

@@ -1,5 +1,5 @@
 use Rattle.std.proofs.Common.{◌≡◌, length}
-use Rattle.sp_reasm.specs.Filling.{undone}
+use Rattle.sp_reasm.specs.inside.Filling.{undone}
 use Rattle.sp_reasm.proofs.fill.undo.Given as goal
 
 abbrev pub invariant-loop-start : goal.invariant-loop-start

@@ -1,5 +1,5 @@
 use Rattle.std.proofs.Common.{subst, ◌∙◌}
-use Rattle.sp_value.specs.Places.{IsKeyAt, IsGapAt}
+use Rattle.sp_value.specs.inside.Places.{IsKeyAt, IsGapAt}
 use Rattle.sp_value.proofs.Search.{put_at, put_gap}
 use Rattle.sp_value.proofs.keyed.put.Goals as goal
 

@@ -1,5 +1,5 @@
 use Rattle.std.proofs.Common.{◌≡◌, subst, OnOk}
-use Rattle.sp_value.specs.Places.{IsKeyAt, IsGapAt}
+use Rattle.sp_value.specs.inside.Places.{IsKeyAt, IsGapAt}
 use Rattle.sp_value.proofs.Search.{without_key_at, without_gap}
 use Rattle.sp_value.proofs.keyed.take.Goals as goal
 

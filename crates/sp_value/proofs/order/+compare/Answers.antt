@@ -1,6 +1,6 @@
 use Rattle.std.proofs.Common.{◌≡◌, sym, subst, ap, ◌∙◌, arith}
 use Rattle.sp_value.specs.Val.{map, vals_of, entries_of}
-use Rattle.sp_value.specs.Sizes.{val_size, sizes, entries_size}
+use Rattle.sp_value.specs.inside.Sizes.{val_size, sizes, entries_size}
 use Rattle.sp_value.specs.Order.{val_cmp, vals_cmp, entries_cmp}
 use Rattle.sp_value.specs.Pieces.{all_in, NoneEmpty, rest_in}
 use Rattle.sp_value.specs.View.{val_of}

@@ -1,6 +1,6 @@
 use Rattle.std.proofs.Common.{◌≡◌, ◌≤◌, ◌+◌, ◌*◌, length, drop}
 use Rattle.sp_value.specs.Val.{vals_of, entries_of}
-use Rattle.sp_value.specs.Sizes.{val_size, sizes, entries_size}
+use Rattle.sp_value.specs.inside.Sizes.{val_size, sizes, entries_size}
 use Rattle.sp_value.specs.Order.{vals_cmp, entries_cmp}
 use Rattle.sp_value.specs.Pieces.{all_in, rest_in}
 use Rattle.sp_value.proofs.order.+compare.Given as goal

@@ -3,7 +3,7 @@ use Rattle.std.specs.Prelude.{is_some, unwrap_or}
 use Rattle.std.specs.Option.{option_map, option_map_or}
 use Rattle.sp_value.specs.Val.{Val}
 use Rattle.sp_value.specs.Ascending.{entry_key, with_key}
-use Rattle.sp_value.specs.Places.{IsKeyAt, IsGapAt}
+use Rattle.sp_value.specs.inside.Places.{IsKeyAt, IsGapAt}
 use Rattle.sp_value.proofs.Search.{found_not}
 use Rattle.sp_value.proofs.Swaps.{swapped_at, taken_at, on_ok, is_there}
 use Rattle.sp_value.proofs.swap.swap_entry.Goals as goal

@@ -1,6 +1,6 @@
 use Rattle.std.proofs.Common.{IsSome, sym, ap, subst, ◌∙◌, refl}
 use Rattle.sp_chain.specs.Chains.{HasSlot, with_slot}
-use Rattle.sp_chain.specs.Steps.{IsHeld}
+use Rattle.sp_chain.specs.inside.Steps.{IsHeld}
 use Rattle.sp_chain.proofs.ViewLemmas.{seen, held_seen, item_seen}
 use Rattle.sp_chain.proofs.ArenaLemmas.{item_of_held}
 use Rattle.sp_chain.proofs.LentLemmas.{lent_sound, lent_seen}

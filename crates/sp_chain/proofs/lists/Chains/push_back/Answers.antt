@@ -1,6 +1,6 @@
 use Rattle.std.proofs.Common.{sym, ap, subst, ◌∙◌}
 use Rattle.sp_chain.specs.Chains.{IsLive, HasFree}
-use Rattle.sp_chain.specs.Steps.{IsPlace}
+use Rattle.sp_chain.specs.inside.Steps.{IsPlace}
 use Rattle.sp_chain.proofs.ViewLemmas.{same_sound, room_seen, pushed, end_place}
 use Rattle.sp_chain.proofs.lists.Chains.push_back.Goals as goal
 

@@ -1,5 +1,5 @@
 use Rattle.std.proofs.Common.{◌-◌}
-use Rattle.sp_reasm.specs.Overlays.{owner_in}
+use Rattle.sp_reasm.specs.inside.Overlays.{owner_in}
 use Rattle.sp_reasm.proofs.RunLemmas.{AreRead}
 use Rattle.sp_reasm.proofs.overlay.Overlay.data_run.Given as goal
 

@@ -1,5 +1,5 @@
 use Rattle.std.proofs.Common.{◌-◌, ◌^◌}
-use Rattle.sp_reasm.specs.Overlays.{owner_in}
+use Rattle.sp_reasm.specs.inside.Overlays.{owner_in}
 use Rattle.sp_reasm.proofs.TellLemmas.{Leads}
 use Rattle.sp_reasm.proofs.overlay.Overlay.deliver.Given as goal
 

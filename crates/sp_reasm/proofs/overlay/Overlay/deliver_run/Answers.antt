@@ -1,5 +1,5 @@
 use Rattle.std.proofs.Common.{◌≡◌, ◌+◌, ◌-◌, ◌^◌, ap, ◌∙◌, arith}
-use Rattle.sp_reasm.specs.Overlays.{owner_in}
+use Rattle.sp_reasm.specs.inside.Overlays.{owner_in}
 use Rattle.sp_reasm.proofs.RunLemmas.{some_read}
 use Rattle.sp_reasm.proofs.TellLemmas.{told_data, told_lost}
 use Rattle.sp_reasm.proofs.overlay.Overlay.deliver_run.Goals as goal

@@ -1,5 +1,5 @@
 use Rattle.std.proofs.Common.{arith}
-use Rattle.sp_reasm.specs.Overlays.{owner_in}
+use Rattle.sp_reasm.specs.inside.Overlays.{owner_in}
 use Rattle.sp_reasm.proofs.RunLemmas.{lost_more, not_lost}
 use Rattle.sp_reasm.proofs.overlay.Overlay.lost_end.Goals as goal
 

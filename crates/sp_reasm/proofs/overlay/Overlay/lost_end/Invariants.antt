@@ -1,6 +1,6 @@
 use Rattle.std.proofs.Common.{◌≡◌, ℕ, ◌-◌, ◌<◌, ◌≤◌, ◌^◌, max, Some}
 use Rattle.sp_reasm.specs.Owners.{Lost}
-use Rattle.sp_reasm.specs.Overlays.{owner_in}
+use Rattle.sp_reasm.specs.inside.Overlays.{owner_in}
 use Rattle.sp_reasm.proofs.overlay.Overlay.lost_end.Given as goal
 
 abbrev pub invariant-loop-len : goal.invariant-loop-len

@@ -1,5 +1,5 @@
 use Rattle.std.proofs.Common.{arith}
-use Rattle.sp_reasm.specs.Overlays.{owner_in}
+use Rattle.sp_reasm.specs.inside.Overlays.{owner_in}
 use Rattle.sp_reasm.proofs.RunLemmas.{lost_no_data, free_no_data, some_read}
 use Rattle.sp_reasm.proofs.overlay.Overlay.next_data.Goals as goal
 

@@ -1,5 +1,5 @@
 use Rattle.std.proofs.Common.{◌-◌, ◌≤◌}
-use Rattle.sp_reasm.specs.Overlays.{owner_in, NoData}
+use Rattle.sp_reasm.specs.inside.Overlays.{owner_in, NoData}
 use Rattle.sp_reasm.proofs.overlay.Overlay.next_data.Given as goal
 
 abbrev pub invariant-loop-at : goal.invariant-loop-at

@@ -1,5 +1,5 @@
 use Rattle.std.proofs.Common.{◌≡◌, ◌+◌, ◌-◌, length, take, drop, refl, subst, ap, ◌∙◌, arith}
-use Rattle.sp_reasm.specs.Overlays.{owner_in, IsNext, IsFirstRun}
+use Rattle.sp_reasm.specs.inside.Overlays.{owner_in, IsNext, IsFirstRun}
 use Rattle.sp_reasm.proofs.TellLemmas.{overlaps_more, overlaps_done}
 use Rattle.sp_reasm.proofs.overlay.Overlay.overlaps.Goals as goal
 

@@ -1,5 +1,5 @@
 use Rattle.std.proofs.Common.{◌≡◌, ◌-◌, ◌≤◌, ◌++◌, drop}
-use Rattle.sp_reasm.specs.Overlays.{owner_in, overlaps_in}
+use Rattle.sp_reasm.specs.inside.Overlays.{owner_in, overlaps_in}
 use Rattle.sp_reasm.proofs.overlay.Overlay.overlaps.Given as goal
 
 abbrev pub invariant-loop-run : goal.invariant-loop-run

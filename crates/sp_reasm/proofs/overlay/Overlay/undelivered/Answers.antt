@@ -1,5 +1,5 @@
 use Rattle.std.proofs.Common.{◌≡◌, ◌+◌, ◌++◌, map, sym, subst}
-use Rattle.sp_reasm.specs.Overlays.{owner_in, data_in, IsNext}
+use Rattle.sp_reasm.specs.inside.Overlays.{owner_in, data_in, IsNext}
 use Rattle.sp_reasm.specs.Notes.{runs, undelivered_note}
 use Rattle.sp_reasm.proofs.TellLemmas.{undelivered_more, undelivered_end}
 use Rattle.sp_reasm.proofs.overlay.Overlay.undelivered.Goals as goal

@@ -1,6 +1,6 @@
 use Rattle.std.proofs.Common.{◌≡◌, ◌-◌, ◌++◌, map}
 use Rattle.sp_reasm.specs.Notes.{runs, undelivered_note}
-use Rattle.sp_reasm.specs.Overlays.{owner_in, data_in}
+use Rattle.sp_reasm.specs.inside.Overlays.{owner_in, data_in}
 use Rattle.sp_reasm.proofs.overlay.Overlay.undelivered.Given as goal
 
 abbrev pub invariant-loop-run : goal.invariant-loop-run

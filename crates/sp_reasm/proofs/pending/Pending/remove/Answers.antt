@@ -3,7 +3,7 @@ use Rattle.std.specs.Map.{lookup, remove_entry}
 use Rattle.std.specs.BTreeMap.{is_at}
 use Rattle.std.specs.Ordering.{nat_cmp}
 use Rattle.sp_reasm.specs.Listed.{pieces_of, IsIndexed}
-use Rattle.sp_reasm.specs.Filling.{without}
+use Rattle.sp_reasm.specs.inside.Filling.{without}
 use Rattle.sp_reasm.proofs.PlaceLemmas.{removed, none_removed, removed_indexed}
 use Rattle.sp_reasm.proofs.pending.Pending.remove.Goals as goal
 

@@ -1,7 +1,7 @@
 use Rattle.std.proofs.Common.{◌+◌, ◌-◌, subst}
 use Rattle.sp_reasm.specs.declared.piece.Spot.TheVariants.{Missing}
 use Rattle.sp_reasm.specs.Pieces.{laid}
-use Rattle.sp_reasm.specs.Settling.{Settles}
+use Rattle.sp_reasm.specs.inside.Settling.{Settles}
 use Rattle.sp_reasm.proofs.SinkLemmas.{on_ok, is_lost}
 use Rattle.sp_reasm.proofs.sink.Reasm.put_gap.Goals as goal
 

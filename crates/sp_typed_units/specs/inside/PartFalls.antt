@@ -5,7 +5,7 @@ use Rattle.std.specs.declared.vec.Vec.{Vec}
 use denote.Param.Weighed.{most}
 use Rattle.sp_typed_units.specs.declared.items.Arm.{Arm}
 use Rattle.sp_typed_units.specs.Parts.{Part, parts, arms}
-use Rattle.sp_typed_units.specs.PartCodes.{part_size, parts_size, arms_size}
+use Rattle.sp_typed_units.specs.inside.PartCodes.{part_size, parts_size, arms_size}
 use Rattle.sp_typed_units.specs.PartViews.{part_of}
 use Rattle.sp_typed_units.specs.declared.items.PartNode.{PartNode}
 use Rattle.sp_typed_units.specs.declared.items.PartNode.TheVariants as node_is

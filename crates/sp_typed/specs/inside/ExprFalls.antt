@@ -3,7 +3,7 @@ use Rattle.std.specs.Prelude.{◌≤◌, ◌+◌, List, [], ◌∷◌}
 use Rattle.std.proofs.Common.{arith}
 use denote.Param.Weighed.{most}
 use Rattle.sp_typed.specs.Exprs.{Expr, exprs}
-use Rattle.sp_typed.specs.ExprCodes.{expr_size, exprs_size}
+use Rattle.sp_typed.specs.inside.ExprCodes.{expr_size, exprs_size}
 use Rattle.sp_typed.specs.ExprViews.{expr_of}
 use Rattle.sp_typed.specs.declared.exprs.ExprNode.{ExprNode}
 use Rattle.sp_typed.specs.declared.exprs.ExprNode.TheVariants.{Leaf, One, Two, Three, Many}

@@ -9,7 +9,7 @@ use Rattle.sp_reasm.specs.declared.sink.Reasm.{Reasm}
 use Rattle.sp_reasm.specs.Owners.{Owner, Write, Gap, covering, or_else}
 use Rattle.sp_reasm.specs.Notes.{owners_from, runs, undelivered_note, told}
 use Rattle.sp_reasm.specs.Pieces.{owner_of}
-use Rattle.sp_reasm.specs.Overlays.{AreOwned, data_in, overlaps_in}
+use Rattle.sp_reasm.specs.inside.Overlays.{AreOwned, data_in, overlaps_in}
 
 -- whether a call may be made
 abbrev pub checked : Bool → ℕ → ℕ → ℕ → Result Unit ReasmFault

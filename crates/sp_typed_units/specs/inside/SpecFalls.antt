@@ -1,7 +1,7 @@
 -- Each reading inside one is smaller than it.
 use Rattle.std.specs.Prelude.{◌≤◌}
 use Rattle.std.proofs.Common.{arith}
-use Rattle.sp_typed_units.specs.SpecCodes.{spec_size}
+use Rattle.sp_typed_units.specs.inside.SpecCodes.{spec_size}
 use Rattle.sp_typed_units.specs.SpecViews.{spec_of}
 use Rattle.sp_typed_units.specs.declared.readings.SpecNode.{SpecNode}
 use Rattle.sp_typed_units.specs.declared.readings.SpecNode.TheVariants as node_is

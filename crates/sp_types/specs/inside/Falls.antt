@@ -3,7 +3,7 @@ use Rattle.std.specs.Prelude.{◌≤◌, ◌+◌, List, [], ◌∷◌}
 use Rattle.std.proofs.Common.{arith}
 use denote.Param.Weighed.{most}
 use Rattle.sp_types.specs.Types.{Ty, tys}
-use Rattle.sp_types.specs.Codes.{ty_size, tys_size}
+use Rattle.sp_types.specs.inside.Codes.{ty_size, tys_size}
 use Rattle.sp_types.specs.Views.{ty_of}
 use Rattle.sp_types.specs.declared.types.Node.{Node}
 use Rattle.sp_types.specs.declared.types.Node.TheVariants.{Word, Made}

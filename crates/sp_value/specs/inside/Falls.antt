@@ -5,7 +5,7 @@ use Rattle.std.specs.declared.rc.Rc.{Rc}
 use Rattle.std.specs.declared.vec.Vec.{Vec}
 use denote.Param.Weighed.{most}
 use Rattle.sp_value.specs.Val.{Val, vals_of, entries_of}
-use Rattle.sp_value.specs.Sizes.{val_size, sizes, entries_size}
+use Rattle.sp_value.specs.inside.Sizes.{val_size, sizes, entries_size}
 use Rattle.sp_value.specs.Pieces.{all_in}
 use Rattle.sp_value.specs.View.{val_of}
 use Rattle.sp_value.specs.declared.value.Node.{Node}

@@ -1,0 +1,3 @@
+pub mod ExprCodes
+pub mod ExprFalls
+pub mod StmtFalls

@@ -1,0 +1,5 @@
+pub mod SpecCodes
+pub mod SpecFalls
+pub mod PartCodes
+pub mod PartFalls
+pub mod SpecNodes
