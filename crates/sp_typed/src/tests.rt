@@ -1,7 +1,7 @@
 // Expressions with ample memory.
 use crate::{
-    Bare, BareOp, Expr, ExprLevel, ExprParts, Leaf, LeafOp, MOST_LEVELS, Many, ManyOp, One, OneOp,
-    Stmt, StmtNode, Three, Two, TwoOp, Valued, ValuedOp, one_of, three_of, two_of,
+    Expr, ExprLevel, ExprParts, Leaf, LeafOp, MOST_LEVELS, Many, ManyOp, One, OneOp, Three, Two,
+    TwoOp, one_of, three_of, two_of,
 };
 use sp_base::{NoMemory, Span};
 use sp_numbers::Width;
@@ -115,54 +115,5 @@ fn what_is_too_high_is_refused(rt: HostRuntime) -> Result<(), NoMemory> {
     }
     assert_eq!(rt; tower.levels(), MOST_LEVELS);
     assert!(rt; minus(alloc, tower).is_err());
-    Ok(())
-}
-
-fn stop(at: u32) -> StmtNode {
-    StmtNode::Bare(Bare {
-        span: Span {
-            from: at,
-            to: at.saturating_add(5),
-        },
-        op: BareOp::Stop(true),
-    })
-}
-
-#[test]
-fn rows_are_flat(rt: HostRuntime) -> Result<(), NoMemory> {
-    let alloc = rt.alloc();
-    let mut branches = Vec::new(alloc);
-    for at in 0..3000u32 {
-        branches.push((number(at, 1), Stmt::new(stop(at))?))?;
-    }
-    let otherwise = Box::new(alloc, Stmt::new(StmtNode::Block(Vec::new(alloc)))?)?;
-    let chosen = Stmt::new(StmtNode::If(branches, otherwise))?;
-    assert_eq!(rt; chosen.levels(), 2);
-    let mut cases = Vec::new(alloc);
-    cases.push((numbers(alloc, 3)?, chosen))?;
-    let otherwise = Box::new(alloc, Stmt::new(StmtNode::Block(Vec::new(alloc)))?)?;
-    let switch = Stmt::new(StmtNode::Switch(4, number(0, 0), cases, otherwise))?;
-    assert_eq!(rt; switch.levels(), 3);
-    let StmtNode::Switch(slot, _, cases, _) = switch.level() else {
-        return Err(NoMemory);
-    };
-    assert!(rt; *slot == 4 && cases.len() == 1);
-    Ok(())
-}
-
-#[test]
-fn statements_that_are_too_high_are_refused(rt: HostRuntime) -> Result<(), NoMemory> {
-    let alloc = rt.alloc();
-    let thrown = Valued {
-        span: Span { from: 0, to: 9 },
-        op: ValuedOp::Throw,
-    };
-    let mut tower = Stmt::new(StmtNode::Valued(thrown, number(0, 1)))?;
-    assert_eq!(rt; tower.levels(), 2);
-    for _ in 2..MOST_LEVELS {
-        tower = Stmt::new(StmtNode::While(number(0, 1), Box::new(alloc, tower)?))?;
-    }
-    assert_eq!(rt; tower.levels(), MOST_LEVELS);
-    assert!(rt; Stmt::new(StmtNode::While(number(0, 1), Box::new(alloc, tower)?)).is_err());
     Ok(())
 }

@@ -7,8 +7,6 @@ mod declarations;
 mod items;
 mod readings;
 mod rows;
-#[cfg(test)]
-mod tests;
 
 pub use attributes::Attribute;
 pub use declarations::{
