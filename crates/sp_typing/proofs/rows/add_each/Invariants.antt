@@ -1,0 +1,8 @@
+use Rattle.std.proofs.Common.{◌≡◌, ◌++◌}
+use Rattle.sp_typing.specs.Contexts.{Around}
+use Rattle.sp_typing.specs.Typing.{each_to}
+use Rattle.sp_typing.proofs.rows.add_each.Given as goal
+
+abbrev pub invariant-loop-e : goal.invariant-loop-e
+invariant-loop-e g l =
+    l.parts.items ≡ l.fn.parts.items ++ each_to ((g.C.Context.around l.context).target l.op l.receiver) 0 l.yielded

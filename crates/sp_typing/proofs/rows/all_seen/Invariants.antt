@@ -1,0 +1,6 @@
+use Rattle.std.proofs.Common.{◌≡◌, map, take}
+use Rattle.sp_typing.specs.Literals.{seen}
+use Rattle.sp_typing.proofs.rows.all_seen.Given as goal
+
+abbrev pub invariant-loop-e : goal.invariant-loop-e
+invariant-loop-e l = l.all.items ≡ map seen (take l.e-index l.list)

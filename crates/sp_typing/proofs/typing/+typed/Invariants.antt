@@ -1,0 +1,28 @@
+use Rattle.std.proofs.Common.{◌≡◌, ◌+◌, ◌*◌, ◌≤◌, ◌++◌}
+use Rattle.sp_ast.specs.Trees.{trees, tree_size, trees_size}
+use Rattle.sp_typing.specs.Typing.{typed_all, pairs_typed}
+use Rattle.sp_typing.proofs.typing.+typed.Given as goal
+
+abbrev pub decreases-typed : goal.decreases-typed
+decreases-typed g l = 2 * tree_size l.tree.now + 1
+
+abbrev pub decreases-typed_all : goal.decreases-typed_all
+decreases-typed_all g l = 2 * trees_size (trees l.members.now)
+
+abbrev pub invariant-typed_all-loop-tree : goal.invariant-typed_all-loop-tree
+invariant-typed_all-loop-tree g l =
+    (goal.iterator-typed_all-loop-tree).can_next l.tree-iterator × (goal.iterator-typed_all-loop-tree).is_finite l.tree-iterator
+    × (l.all.items ++ typed_all (g.C.Context.around l.context) (trees l.tree-iterator) ≡ typed_all (g.C.Context.around l.context) (trees l.members))
+    × (trees_size (trees l.tree-iterator) ≤ trees_size (trees l.members))
+
+abbrev pub decreases-pairs_typed : goal.decreases-pairs_typed
+decreases-pairs_typed g l = 2 * trees_size (trees l.pairs.now)
+
+abbrev pub invariant-pairs_typed-loop-pair : goal.invariant-pairs_typed-loop-pair
+invariant-pairs_typed-loop-pair g l =
+    (goal.iterator-pairs_typed-loop-pair).can_next l.pair-iterator × (goal.iterator-pairs_typed-loop-pair).is_finite l.pair-iterator
+    × (l.all.items ++ pairs_typed (g.C.Context.around l.context) (trees l.pair-iterator) ≡ pairs_typed (g.C.Context.around l.context) (trees l.pairs))
+    × (trees_size (trees l.pair-iterator) ≤ trees_size (trees l.pairs))
+
+abbrev pub decreases-call_typed : goal.decreases-call_typed
+decreases-call_typed g l = 2 * (tree_size l.callee.now + trees_size (trees l.arguments.now)) + 3

@@ -1,0 +1,5 @@
+pub mod Operands
+pub mod Literals
+pub mod Contexts
+pub mod Typing
+pub mod Rows

@@ -1,0 +1,136 @@
+-- Rows on which the typing of expressions is run: literals between operands, in rows, before `in`, and members of tuples.
+use Rattle.std.specs.Prelude.{ℕ, ◌≡◌, if◌then◌else◌, List, [], ◌∷◌, Option, Some, None, codes, refl}
+use Rattle.std.specs.Str.{bytes_eq}
+use Rattle.sp_base.specs.declared.places.Span.{Span}
+use Rattle.sp_words.specs.declared.operators.BinaryOp.{BinaryOp}
+use Rattle.sp_words.specs.declared.operators.BinaryOp.TheVariants as op_is
+use Rattle.sp_words.specs.declared.operators.UnaryOp.TheVariants as unary_is
+use Rattle.sp_numbers.specs.declared.width.Width.TheVariants.{W8, W16, W64}
+use Rattle.sp_ast.specs.Trees.{Tree, tree, in_row, node, more}
+use Rattle.sp_ast.specs.declared.forms.Form.{Form}
+use Rattle.sp_ast.specs.declared.forms.Form.TheVariants as form_is
+use Rattle.sp_ast.specs.declared.forms.ExprForm.{ExprForm}
+use Rattle.sp_ast.specs.declared.forms.ExprForm.TheVariants as expr_is
+use Rattle.sp_types.specs.Types.{Ty, word, made}
+use Rattle.sp_types.specs.Types as types
+use Rattle.sp_types.specs.declared.words.Word.TheVariants as word_is
+use Rattle.sp_types.specs.declared.words.Maker.TheVariants as maker_is
+use Rattle.sp_typed.specs.declared.words.LeafOp.{LeafOp}
+use Rattle.sp_typed.specs.declared.words.LeafOp.TheVariants as leaf_is
+use Rattle.sp_typed.specs.declared.words.OneOp.TheVariants as one_is
+use Rattle.sp_typed.specs.declared.words.TwoOp.TheVariants as two_is
+use Rattle.sp_typed.specs.Exprs.{Expr, type_of, leaf}
+use Rattle.sp_typing.specs.Contexts.{Around}
+use Rattle.sp_typing.specs.Operands.{unknown, boolean}
+use Rattle.sp_typing.specs.Literals.{seen}
+use Rattle.sp_typing.specs.Typing.{typed, leaf_at, one_at, two_at, name_of}
+
+abbrev here : Span
+here = record { from = 0; to = 0 }
+
+abbrev byte : Ty
+byte = word (word_is.Uint W8)
+
+abbrev short : Ty
+short = word (word_is.Uint W16)
+
+-- x is of type uint8, and s of type set<uint16>; t is a tuple of a Boolean and a text
+abbrev first_name : Tree → List ℕ
+first_name (node form span (more name ts)) = name_of name
+first_name _ = []
+
+abbrev named : List ℕ → Ty
+named x =
+    if bytes_eq x (codes "x") then byte else (if bytes_eq x (codes "s") then made maker_is.Set (types.more short types.none) else made maker_is.Tuple (types.more boolean (types.more (word word_is.String) types.none)))
+
+abbrev at_path : Span → Tree → Expr
+at_path span path = leaf_at span (named (first_name path)) (leaf_is.Local 0)
+
+abbrev number_op : LeafOp → Option ℕ
+number_op (leaf_is.Number n) = Some n
+number_op _ = None
+
+abbrev literal_item : Expr → Option ℕ
+literal_item (leaf h) = number_op h.op
+literal_item _ = None
+
+abbrev around : Around
+around = record {
+  path = at_path;
+  named = at_path;
+  itself = λ span. leaf_at span unknown leaf_is.Name;
+  current = λ span. leaf_at span unknown leaf_is.Name;
+  type_in = λ t. unknown;
+  written = λ t. record { span = here; unnamed = None; misplaced = None };
+  member = λ t x. None;
+  method = λ t x span ts. None;
+  target = λ op t n. None;
+  left_out = λ op span n. [];
+  result = λ n. unknown;
+  item = literal_item;
+}
+
+abbrev expr : ExprForm → List Tree → Tree
+expr form parts = tree (form_is.Expr form) here parts
+
+abbrev path : List ℕ → Tree
+path x = expr expr_is.Path (tree form_is.Path here (tree (form_is.Name x) here [] ∷ []) ∷ [])
+
+abbrev x : Tree
+x = path (codes "x")
+
+abbrev number : ℕ → Tree
+number n = expr (expr_is.Number n) []
+
+abbrev minus : Tree → Tree
+minus t = expr (expr_is.Unary unary_is.Negate) (t ∷ [])
+
+abbrev binary : BinaryOp → Tree → Tree → Tree
+binary op a b = expr (expr_is.Binary op) (a ∷ b ∷ [])
+
+abbrev local_x : Expr
+local_x = leaf_at here byte (leaf_is.Local 0)
+
+-- `x + 1`: the literal takes the type of x
+literal_behind : typed around (binary op_is.Add x (number 1)) ≡ two_at here byte (two_is.Binary op_is.Add) local_x (leaf_at here byte (leaf_is.Number 1))
+literal_behind = refl
+
+-- `1 << x`: so does one before it
+literal_before : type_of (typed around (binary op_is.ShiftLeft (number 1) x)) ≡ byte
+literal_before = refl
+
+-- `1 + 2`: two literals are unsigned, and `1 - - 2` signed
+two_literals : type_of (typed around (binary op_is.Add (number 1) (number 2))) ≡ word (word_is.Uint W64)
+two_literals = refl
+
+one_signed : type_of (typed around (binary op_is.Subtract (number 1) (minus (number 2)))) ≡ word (word_is.Int W64)
+one_signed = refl
+
+-- `x + 256` is unknown, for the literal is past its type; a comparison is Boolean all the same
+past : seen (typed around (binary op_is.Add x (number 256))) ≡ unknown
+past = refl
+
+past_compared : type_of (typed around (binary op_is.Less x (number 256))) ≡ boolean
+past_compared = refl
+
+-- `[1, x]` is a vector of bytes, and the literal is one
+row : type_of (typed around (expr expr_is.Vector (number 1 ∷ x ∷ []))) ≡ made maker_is.Vector (types.more byte types.none)
+row = refl
+
+-- `x in s`: the key is widened to the type of the keys
+key : typed around (binary op_is.In x (path (codes "s"))) ≡ two_at here boolean (two_is.Binary op_is.In) (one_at here short one_is.Widen local_x) (leaf_at here (named (codes "s")) (leaf_is.Local 0))
+key = refl
+
+-- `t[1]` is a text, and `t[2]` nothing
+item : type_of (typed around (expr expr_is.Index (path (codes "t") ∷ number 1 ∷ []))) ≡ word word_is.String
+item = refl
+
+no_item : type_of (typed around (expr expr_is.Index (path (codes "t") ∷ number 2 ∷ []))) ≡ unknown
+no_item = refl
+
+-- `x + True` is unknown, and `x ? 1 : x` of the type of x
+mismatch : type_of (typed around (binary op_is.Add x (expr expr_is.True []))) ≡ unknown
+mismatch = refl
+
+choice : type_of (typed around (expr expr_is.Choice (x ∷ number 1 ∷ x ∷ []))) ≡ byte
+choice = refl

@@ -1,0 +1,288 @@
+// The node of an alternative, over its typed parts.
+ghost use Rattle.std.specs.Prelude.{◌≡◌, IfOk};
+ghost use Rattle.sp_typing.specs.Contexts.{Around};
+ghost use Rattle.sp_typing.specs.Typing.{leaf_at, one_at, two_at, many_at, int_word, widened, to_target, alike, agreeing, both_written, or_else, unary_op, signed_type, unary_at, joined, binary_at, cast_type, choice_type, choice_at, member_at, member_of, set_op, set_member_at, set_member_of};
+
+use crate::context::{Context, Member};
+use crate::literals::{is_negative, literal_word, seen, taken};
+use crate::operators::{OperatorSort, is_integer, key_of, sort_of, unary_type};
+use sp_ast::{NameKind, Ref};
+use sp_base::{NoMemory, Span};
+use sp_numbers::Width;
+use sp_typed::{Expr, Leaf, LeafOp, Many, ManyOp, One, OneOp, Three, Two, TwoOp, Written};
+use sp_types::{Maker, Type, Word};
+use sp_words::{BinaryOp, IntWord, UnaryOp};
+use std::alloc::Global;
+
+pub(crate) fn leaf_at(span: Span, ty: Type, op: LeafOp) -> Expr
+    ensures { result ≡ leaf_at span ty op }
+{
+    Expr::leaf(Leaf { span, ty, op })
+}
+
+pub(crate) fn one_at(
+    alloc: Global,
+    span: Span,
+    ty: Type,
+    op: OneOp,
+    a: Expr,
+) -> Result<Expr, NoMemory>
+    ensures { IfOk result (λ e. e ≡ one_at span ty op a) }
+{
+    Expr::one(alloc, One { span, ty, op }, a)
+}
+
+pub(crate) fn two_at(
+    alloc: Global,
+    span: Span,
+    ty: Type,
+    op: TwoOp,
+    a: Expr,
+    b: Expr,
+) -> Result<Expr, NoMemory>
+    ensures { IfOk result (λ e. e ≡ two_at span ty op a b) }
+{
+    Expr::two(alloc, Two { span, ty, op }, a, b)
+}
+
+pub(crate) fn many_at(span: Span, ty: Type, op: ManyOp, parts: Vec<Expr>) -> Result<Expr, NoMemory>
+    ensures { IfOk result (λ e. e ≡ many_at span ty op parts.items) }
+{
+    Expr::many(Many { span, ty, op }, parts)
+}
+
+/// The type that is a word of integers.
+pub(crate) fn int_word(word: IntWord) -> Word
+    ensures { result ≡ int_word word }
+{
+    match word {
+        IntWord::Uint8 => Word::Uint(Width::W8),
+        IntWord::Uint16 => Word::Uint(Width::W16),
+        IntWord::Uint32 => Word::Uint(Width::W32),
+        IntWord::Uint64 => Word::Uint(Width::W64),
+        IntWord::Int8 => Word::Int(Width::W8),
+        IntWord::Int16 => Word::Int(Width::W16),
+        IntWord::Int32 => Word::Int(Width::W32),
+        IntWord::Int64 => Word::Int(Width::W64),
+    }
+}
+
+fn widened(alloc: Global, to: &Type, e: Expr) -> Result<Expr, NoMemory>
+    ensures { IfOk result (λ r. r ≡ widened to.now e) }
+{
+    let from = seen(&e)?;
+    if from.widens(to) && !from.same(to) {
+        one_at(alloc, e.span(), to.copy()?, OneOp::Widen, e)
+    } else {
+        Ok(e)
+    }
+}
+
+/// What goes to a target: a literal takes its type, and a value of a narrower type stands in a node that widens it.
+pub(crate) fn to_target(alloc: Global, to: &Type, e: Expr) -> Result<Expr, NoMemory>
+    ensures { IfOk result (λ r. r ≡ to_target to.now e) }
+{
+    widened(alloc, to, taken(to, e))
+}
+
+/// An operator between two typed operands.
+fn joined(alloc: Global, span: Span, op: BinaryOp, a: Expr, b: Expr) -> Result<Expr, NoMemory>
+    ensures { IfOk result (λ e. e ≡ joined span op a b) }
+{
+    let ty = sort_of(op).result(&seen(&a)?, &seen(&b)?)?;
+    two_at(alloc, span, ty, TwoOp::Binary(op), a, b)
+}
+
+/// Two literals of one type.
+fn settle_both(a: Expr, b: Expr) -> (Expr, Expr)
+    ensures { result ≡ alike a b }
+{
+    let word = literal_word(is_negative(&a) || is_negative(&b));
+    (a.settle(word), b.settle(word))
+}
+
+/// Two that have to agree: of a literal and what is none, the literal takes the other's type.
+fn make_agree(a: Expr, b: Expr) -> Result<(Expr, Expr), NoMemory>
+    ensures { IfOk result (λ p. p ≡ agreeing a b) }
+{
+    if a.is_literal() && b.is_literal() {
+        return Ok(settle_both(a, b));
+    }
+    let left = seen(&a)?;
+    let right = seen(&b)?;
+    Ok((taken(&right, a), taken(&left, b)))
+}
+
+pub(crate) fn binary_at(
+    alloc: Global,
+    span: Span,
+    op: BinaryOp,
+    a: Expr,
+    b: Expr,
+) -> Result<Expr, NoMemory>
+    ensures { IfOk result (λ e. e ≡ binary_at span op a b) }
+{
+    if let OperatorSort::Member = sort_of(op) {
+        let key = key_of(&seen(&b)?)?;
+        let a = to_target(alloc, &key, a)?;
+        return joined(alloc, span, op, a, b);
+    }
+    let (a, b) = make_agree(a, b)?;
+    joined(alloc, span, op, a, b)
+}
+
+fn choice_type(a: &Expr, b: &Expr) -> Result<Type, NoMemory>
+    ensures { IfOk result (λ t. t ≡ choice_type a.now b.now) }
+{
+    let left = seen(a)?;
+    if left.same(&seen(b)?) {
+        Ok(left)
+    } else {
+        Ok(Type::word(Word::Unknown))
+    }
+}
+
+pub(crate) fn choice_at(
+    alloc: Global,
+    span: Span,
+    c: Expr,
+    a: Expr,
+    b: Expr,
+) -> Result<Expr, NoMemory>
+    ensures { IfOk result (λ e. e ≡ choice_at span c a b) }
+{
+    let (a, b) = make_agree(a, b)?;
+    let ty = choice_type(&a, &b)?;
+    Expr::three(alloc, Three { span, ty }, c, a, b)
+}
+
+fn unary_op(op: UnaryOp) -> OneOp
+    ensures { result ≡ unary_op op }
+{
+    match op {
+        UnaryOp::Not => OneOp::Not,
+        UnaryOp::Negate => OneOp::Negate,
+        UnaryOp::Complement => OneOp::Complement,
+    }
+}
+
+fn signed_type(op: UnaryOp, e: &Expr) -> Result<Type, NoMemory>
+    ensures { IfOk result (λ t. t ≡ signed_type op e.now) }
+{
+    match op {
+        UnaryOp::Negate if e.is_number() => Ok(Type::word(Word::Int(Width::W64))),
+        _ => unary_type(op, &seen(e)?),
+    }
+}
+
+pub(crate) fn unary_at(alloc: Global, span: Span, op: UnaryOp, e: Expr) -> Result<Expr, NoMemory>
+    ensures { IfOk result (λ r. r ≡ unary_at span op e) }
+{
+    let ty = signed_type(op, &e)?;
+    one_at(alloc, span, ty, unary_op(op), e)
+}
+
+pub(crate) fn cast_type(to: Type) -> Type
+    ensures { result ≡ cast_type to }
+{
+    if is_integer(&to) {
+        to
+    } else {
+        Type::word(Word::Unknown)
+    }
+}
+
+fn member_at(
+    alloc: Global,
+    span: Span,
+    name: Span,
+    member: Option<Member>,
+    e: Expr,
+) -> Result<Expr, NoMemory>
+    ensures { IfOk result (λ r. r ≡ member_at span name member e) }
+{
+    match member {
+        Some(member) => one_at(alloc, span, member.ty, member.op, e),
+        None => one_at(
+            alloc,
+            span,
+            Type::word(Word::Unknown),
+            OneOp::NoMember(name),
+            e,
+        ),
+    }
+}
+
+pub(crate) fn member_of<C: Context>(
+    alloc: Global,
+    context: &C,
+    span: Span,
+    name: &Ref<'_, NameKind>,
+    e: Expr,
+) -> Result<Expr, NoMemory>
+    ensures { IfOk result (λ r. r ≡ member_of (C.around context.now) span name.now e) }
+{
+    let member = context.member(&seen(&e)?, name.text())?;
+    member_at(alloc, span, name.span(), member, e)
+}
+
+fn set_op(op: OneOp, name: Span) -> OneOp
+    ensures { result ≡ set_op op name }
+{
+    match op {
+        OneOp::Field(k) => OneOp::IsSet(k),
+        _ => OneOp::NoMember(name),
+    }
+}
+
+fn set_member_at(
+    alloc: Global,
+    span: Span,
+    name: Span,
+    member: Option<Member>,
+    e: Expr,
+) -> Result<Expr, NoMemory>
+    ensures { IfOk result (λ r. r ≡ set_member_at span name member e) }
+{
+    let op = match member {
+        Some(member) => set_op(member.op, name),
+        None => OneOp::NoMember(name),
+    };
+    one_at(alloc, span, Type::word(Word::Bool), op, e)
+}
+
+pub(crate) fn set_member_of<C: Context>(
+    alloc: Global,
+    context: &C,
+    span: Span,
+    name: &Ref<'_, NameKind>,
+    e: Expr,
+) -> Result<Expr, NoMemory>
+    ensures { IfOk result (λ r. r ≡ set_member_of (C.around context.now) span name.now e) }
+{
+    let member = context.member(&seen(&e)?, name.text())?;
+    set_member_at(alloc, span, name.span(), member, e)
+}
+
+fn first_of_two(a: Option<Span>, b: Option<Span>) -> Option<Span>
+    ensures { result ≡ or_else a b }
+{
+    match a {
+        Some(span) => Some(span),
+        None => b,
+    }
+}
+
+/// Two written types, one behind the other.
+pub(crate) fn both_written(a: Written, b: Written) -> Written
+    ensures { result ≡ both_written a b }
+{
+    Written {
+        span: Span {
+            from: a.span.from,
+            to: b.span.to,
+        },
+        unnamed: first_of_two(a.unnamed, b.unnamed),
+        misplaced: first_of_two(a.misplaced, b.misplaced),
+    }
+}

@@ -1,0 +1,208 @@
+// Several expressions: those that have to agree, and those that go to targets.
+ghost use Rattle.std.specs.Prelude.{◌≡◌, ◌∷◌, [], ◌++◌, map, length, IfOk, OnOk};
+ghost use Rattle.sp_types.specs.Types.{tys};
+ghost use Rattle.sp_typing.specs.Contexts.{Around};
+ghost use Rattle.sp_typing.specs.Literals.{seen, taken};
+ghost use Rattle.sp_typing.specs.Typing.{lead, maybe_taken, led, first_seen, row_at, lead_half, in_turn, map_of, map_at, tuple_at, to_maybe, each_to, made_of};
+
+use crate::context::Context;
+use crate::literals::{seen, taken};
+use crate::nodes::{many_at, to_target};
+use sp_base::{NoMemory, Span};
+use sp_typed::{Expr, ManyOp};
+use sp_types::{Maker, Type, Word};
+use std::alloc::Global;
+
+/// The type of the first that is no literal.
+fn lead(list: &[Expr]) -> Result<Option<Type>, NoMemory>
+    ensures { IfOk result (λ t. t ≡ lead list.now) }
+{
+    for e in list {
+        if !e.is_literal() {
+            return Ok(Some(seen(e)?));
+        }
+    }
+    Ok(None)
+}
+
+fn maybe_taken(to: &Option<Type>, e: Expr) -> Expr
+    ensures { result ≡ maybe_taken to.now e }
+{
+    match to {
+        Some(to) => taken(to, e),
+        None => e,
+    }
+}
+
+fn all_taken(alloc: Global, to: &Option<Type>, list: Vec<Expr>) -> Result<Vec<Expr>, NoMemory>
+    ensures { IfOk result (λ r. r.items ≡ map (maybe_taken to.now) list.items) }
+{
+    let mut all = Vec::with_capacity(alloc, list.len())?;
+    for e in list {
+        all.push(maybe_taken(to, e))?;
+    }
+    Ok(all)
+}
+
+/// Several that have to agree: literals take the type of the first that is none.
+pub(crate) fn led(alloc: Global, list: Vec<Expr>) -> Result<Vec<Expr>, NoMemory>
+    ensures { IfOk result (λ r. r.items ≡ led list.items) }
+{
+    let to = lead(&list)?;
+    all_taken(alloc, &to, list)
+}
+
+fn first_seen(list: &[Expr]) -> Result<Type, NoMemory>
+    ensures { IfOk result (λ t. t ≡ first_seen list.now) }
+{
+    match list.first() {
+        Some(e) => seen(e),
+        None => Ok(Type::word(Word::Unknown)),
+    }
+}
+
+/// A type made of one part, or of two.
+pub(crate) fn made_of_one(alloc: Global, maker: Maker, t: Type) -> Result<Type, NoMemory>
+    ensures { IfOk result (λ r. r ≡ made_of maker (t ∷ [])) }
+{
+    let mut parts = Vec::with_capacity(alloc, 1)?;
+    parts.push(t)?;
+    Type::made(alloc, maker, parts)
+}
+
+pub(crate) fn made_of_two(alloc: Global, maker: Maker, t: Type, u: Type) -> Result<Type, NoMemory>
+    ensures { IfOk result (λ r. r ≡ made_of maker (t ∷ u ∷ [])) }
+{
+    let mut parts = Vec::with_capacity(alloc, 2)?;
+    parts.push(t)?;
+    parts.push(u)?;
+    Type::made(alloc, maker, parts)
+}
+
+/// A vector or a set of elements.
+pub(crate) fn row_at(
+    alloc: Global,
+    span: Span,
+    maker: Maker,
+    op: ManyOp,
+    list: Vec<Expr>,
+) -> Result<Expr, NoMemory>
+    ensures { IfOk result (λ e. e ≡ row_at span maker op list.items) }
+{
+    let ty = made_of_one(alloc, maker, first_seen(&list)?)?;
+    many_at(span, ty, op, list)
+}
+
+/// The type of the first key, or of the first value, that is no literal.
+fn lead_half(values: bool, pairs: &[(Expr, Expr)]) -> Result<Option<Type>, NoMemory>
+    ensures { IfOk result (λ t. t ≡ lead_half values pairs.now) }
+{
+    for pair in pairs {
+        let e = if values { &pair.1 } else { &pair.0 };
+        if !e.is_literal() {
+            return Ok(Some(seen(e)?));
+        }
+    }
+    Ok(None)
+}
+
+/// Keys and values in turn, where literals take these types.
+fn in_turn(
+    alloc: Global,
+    key: &Option<Type>,
+    value: &Option<Type>,
+    pairs: Vec<(Expr, Expr)>,
+) -> Result<Vec<Expr>, NoMemory>
+    ensures { IfOk result (λ r. r.items ≡ in_turn key.now value.now pairs.items) }
+{
+    let mut all = Vec::new(alloc);
+    for (k, v) in pairs {
+        all.push(maybe_taken(key, k))?;
+        all.push(maybe_taken(value, v))?;
+    }
+    Ok(all)
+}
+
+fn map_of(alloc: Global, span: Span, parts: Vec<Expr>) -> Result<Expr, NoMemory>
+    ensures { IfOk result (λ e. e ≡ map_of span parts.items) }
+{
+    let value = match parts.split_first() {
+        Some((_, others)) => first_seen(others)?,
+        None => Type::word(Word::Unknown),
+    };
+    let ty = made_of_two(alloc, Maker::Map, first_seen(&parts)?, value)?;
+    many_at(span, ty, ManyOp::Map, parts)
+}
+
+/// A map of keys and their values.
+pub(crate) fn map_at(alloc: Global, span: Span, pairs: Vec<(Expr, Expr)>) -> Result<Expr, NoMemory>
+    ensures { IfOk result (λ e. e ≡ map_at span pairs.items) }
+{
+    let key = lead_half(false, &pairs)?;
+    let value = lead_half(true, &pairs)?;
+    let parts = in_turn(alloc, &key, &value, pairs)?;
+    map_of(alloc, span, parts)
+}
+
+/// The types that a node round expressions sees.
+pub(crate) fn all_seen(alloc: Global, list: &[Expr]) -> Result<Vec<Type>, NoMemory>
+    ensures { IfOk result (λ r. r.items ≡ map seen list.now) }
+{
+    let mut all = Vec::with_capacity(alloc, list.len())?;
+    for e in list {
+        all.push(seen(e)?)?;
+    }
+    Ok(all)
+}
+
+pub(crate) fn tuple_at(alloc: Global, span: Span, list: Vec<Expr>) -> Result<Expr, NoMemory>
+    ensures { IfOk result (λ e. e ≡ tuple_at span list.items) }
+{
+    let ty = Type::made(alloc, Maker::Tuple, all_seen(alloc, &list)?)?;
+    many_at(span, ty, ManyOp::Tuple, list)
+}
+
+fn to_maybe(alloc: Global, to: &Option<Type>, e: Expr) -> Result<Expr, NoMemory>
+    ensures { IfOk result (λ r. r ≡ to_maybe to.now e) }
+{
+    match to {
+        Some(to) => to_target(alloc, to, e),
+        None => Ok(e),
+    }
+}
+
+/// An argument of this number as it goes to its target.
+fn sent<C: Context>(
+    alloc: Global,
+    context: &C,
+    op: &ManyOp,
+    receiver: &Type,
+    number: usize,
+    e: Expr,
+) -> Result<Expr, NoMemory>
+    ensures { IfOk result (λ r. r ≡ to_maybe ((C.around context.now).target op.now receiver.now
+        number) e) }
+{
+    let to = context.target(op, receiver, number)?;
+    to_maybe(alloc, &to, e)
+}
+
+/// Appends arguments, each as it goes to its own target, where the first of them has the number 0.
+pub(crate) fn add_each<C: Context>(
+    alloc: Global,
+    context: &C,
+    op: &ManyOp,
+    receiver: &Type,
+    list: Vec<Expr>,
+    parts: &mut Vec<Expr>,
+) -> Result<(), NoMemory>
+    ensures { OnOk result (parts.new.items ≡ parts.old.items
+        ++ each_to ((C.around context.now).target op.now receiver.now) 0 list.items) }
+{
+    let start = parts.len();
+    for e in list {
+        let number = parts.len() - start;
+        parts.push(sent(alloc, context, op, receiver, number, e)?)?;
+    }
+    Ok(())
+}

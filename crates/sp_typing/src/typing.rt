@@ -1,0 +1,204 @@
+// The typed expression of a tree.
+ghost use Rattle.std.specs.Prelude.{◌≡◌, ◌∷◌, [], IfOk};
+ghost use Rattle.sp_ast.specs.Trees.{trees, tree, in_row};
+ghost use Rattle.sp_ast.specs.declared.forms.Form.TheVariants as form_is;
+ghost use Rattle.sp_ast.specs.declared.forms.ExprForm.TheVariants as expr_is;
+ghost use Rattle.sp_typing.specs.Contexts.{Around};
+ghost use Rattle.sp_typing.specs.Typing.{typed, typed_all, pairs_typed};
+
+use crate::calls::{call_at, indexed, method_at, new_at};
+use crate::context::Context;
+use crate::nodes::{
+    binary_at, both_written, cast_type, choice_at, int_word, leaf_at, member_of, one_at,
+    set_member_of, unary_at,
+};
+use crate::rows::{led, made_of_one, made_of_two, map_at, row_at, tuple_at};
+use sp_ast::{ExprKind, ExprView, Members, PairKind, Ref};
+use sp_base::{ByteList, NoMemory, Span, Text};
+use sp_numbers::Width;
+use sp_typed::{Expr, LeafOp, ManyOp, OneOp};
+use sp_types::{Maker, Type, Word};
+use std::alloc::Global;
+
+/// The typed expressions of trees.
+#[cycle(typed)]
+pub fn typed_all<C: Context>(
+    alloc: Global,
+    context: &C,
+    members: &Members<'_, ExprKind>,
+) -> Result<Vec<Expr>, NoMemory>
+    ensures { IfOk result (λ r. r.items ≡ typed_all (C.around context.now) (trees members.now)) }
+{
+    let mut all = Vec::new(alloc);
+    for tree in members.again() {
+        all.push(typed(alloc, context, &tree)?)?;
+    }
+    Ok(all)
+}
+
+/// The typed keys and values of pairs.
+#[cycle(typed)]
+fn pairs_typed<C: Context>(
+    alloc: Global,
+    context: &C,
+    pairs: &Members<'_, PairKind>,
+) -> Result<Vec<(Expr, Expr)>, NoMemory>
+    ensures { IfOk result (λ r. r.items ≡ pairs_typed (C.around context.now) (trees pairs.now)) }
+{
+    let mut all = Vec::new(alloc);
+    for pair in pairs.again() {
+        let pair = pair.view();
+        let key = typed(alloc, context, &pair.key)?;
+        let value = typed(alloc, context, &pair.value)?;
+        all.push((key, value))?;
+    }
+    Ok(all)
+}
+
+/// `self.f(a)` where the callee is a member, and any other call.
+#[cycle(typed)]
+fn call_typed<C: Context>(
+    alloc: Global,
+    context: &C,
+    span: Span,
+    callee: &Ref<'_, ExprKind>,
+    arguments: &Members<'_, ExprKind>,
+) -> Result<Expr, NoMemory>
+    ensures { IfOk result (λ e. e ≡ typed (C.around context.now)
+        (tree (form_is.Expr expr_is.Call) span (callee.now ∷ in_row arguments.now ∷ []))) }
+{
+    match callee.view() {
+        ExprView::Member(object, name) => {
+            let object = typed(alloc, context, &object)?;
+            let list = typed_all(alloc, context, arguments)?;
+            method_at(alloc, context, span, callee.span(), &name, object, list)
+        }
+        _ => {
+            let callee = typed(alloc, context, callee)?;
+            let list = typed_all(alloc, context, arguments)?;
+            call_at(alloc, context, span, callee, list)
+        }
+    }
+}
+
+/// The typed expression that a tree is, in what stands round it.
+#[cycle(typed)]
+pub fn typed<C: Context>(
+    alloc: Global,
+    context: &C,
+    tree: &Ref<'_, ExprKind>,
+) -> Result<Expr, NoMemory>
+    ensures { IfOk result (λ e. e ≡ typed (C.around context.now) tree.now) }
+{
+    let span = tree.span();
+    match tree.view() {
+        ExprView::Path(path) => context.path(alloc, span, &path),
+        ExprView::Itself => context.itself(span),
+        ExprView::Current => context.current(span),
+        ExprView::True => Ok(leaf_at(span, Type::word(Word::Bool), LeafOp::True)),
+        ExprView::False => Ok(leaf_at(span, Type::word(Word::Bool), LeafOp::False)),
+        ExprView::Number(n) => {
+            let ty = Type::word(Word::Uint(Width::W64));
+            Ok(leaf_at(span, ty, LeafOp::Number(n)))
+        }
+        ExprView::String(text) => {
+            let op = LeafOp::Text(Text::new(alloc, text)?);
+            Ok(leaf_at(span, Type::word(Word::String), op))
+        }
+        ExprView::Bytes(bytes) => {
+            let op = LeafOp::Bytes(ByteList::from_slice(alloc, bytes)?);
+            Ok(leaf_at(span, Type::word(Word::Bytes), op))
+        }
+        ExprView::Regex(text) => {
+            let op = LeafOp::Regex(Text::new(alloc, text)?);
+            Ok(leaf_at(span, Type::word(Word::Regex), op))
+        }
+        ExprView::Tuple(members) => tuple_at(alloc, span, typed_all(alloc, context, &members)?),
+        ExprView::Vector(members) => {
+            let list = led(alloc, typed_all(alloc, context, &members)?)?;
+            row_at(alloc, span, Maker::Vector, ManyOp::Vector, list)
+        }
+        ExprView::Set(members) => {
+            let list = led(alloc, typed_all(alloc, context, &members)?)?;
+            row_at(alloc, span, Maker::Set, ManyOp::Set, list)
+        }
+        ExprView::Map(pairs) => {
+            let pairs = pairs_typed(alloc, context, &pairs)?;
+            map_at(alloc, span, pairs)
+        }
+        ExprView::EmptyVector(element) => {
+            let ty = made_of_one(alloc, Maker::Vector, context.type_in(alloc, &element)?)?;
+            Ok(leaf_at(span, ty, LeafOp::Empty(context.written(&element))))
+        }
+        ExprView::EmptySet(element) => {
+            let ty = made_of_one(alloc, Maker::Set, context.type_in(alloc, &element)?)?;
+            Ok(leaf_at(span, ty, LeafOp::Empty(context.written(&element))))
+        }
+        ExprView::EmptyMap { key, value } => {
+            let key_type = context.type_in(alloc, &key)?;
+            let value_type = context.type_in(alloc, &value)?;
+            let ty = made_of_two(alloc, Maker::Map, key_type, value_type)?;
+            let written = both_written(context.written(&key), context.written(&value));
+            Ok(leaf_at(span, ty, LeafOp::Empty(written)))
+        }
+        ExprView::TypedNumber(word, number) => {
+            let ty = Type::word(int_word(word));
+            Ok(leaf_at(span, ty, LeafOp::TypedNumber(number.value())))
+        }
+        ExprView::Cast(to, operand) => {
+            let ty = cast_type(context.type_in(alloc, &to)?);
+            let written = context.written(&to);
+            let operand = typed(alloc, context, &operand)?;
+            one_at(alloc, span, ty, OneOp::Cast(written), operand)
+        }
+        ExprView::New(path, arguments) => {
+            let at = path.span();
+            let callee = context.named(alloc, at, &path)?;
+            let list = typed_all(alloc, context, &arguments)?;
+            new_at(alloc, context, span, at, callee, list)
+        }
+        ExprView::Size(operand) => {
+            let operand = typed(alloc, context, &operand)?;
+            one_at(
+                alloc,
+                span,
+                Type::word(Word::Uint(Width::W64)),
+                OneOp::Size,
+                operand,
+            )
+        }
+        ExprView::Choice {
+            condition,
+            if_true,
+            if_false,
+        } => {
+            let c = typed(alloc, context, &condition)?;
+            let a = typed(alloc, context, &if_true)?;
+            let b = typed(alloc, context, &if_false)?;
+            choice_at(alloc, span, c, a, b)
+        }
+        ExprView::Member(object, name) => {
+            let object = typed(alloc, context, &object)?;
+            member_of(alloc, context, span, &name, object)
+        }
+        ExprView::SetMember(object, name) => {
+            let object = typed(alloc, context, &object)?;
+            set_member_of(alloc, context, span, &name, object)
+        }
+        ExprView::Index { object, index } => {
+            let object = typed(alloc, context, &object)?;
+            let index = typed(alloc, context, &index)?;
+            indexed(alloc, context, span, object, index)
+        }
+        ExprView::Call(callee, arguments) => call_typed(alloc, context, span, &callee, &arguments),
+        ExprView::Unary(op, operand) => {
+            let operand = typed(alloc, context, &operand)?;
+            unary_at(alloc, span, op, operand)
+        }
+        ExprView::Binary(op, left, right) => {
+            let left = typed(alloc, context, &left)?;
+            let right = typed(alloc, context, &right)?;
+            binary_at(alloc, span, op, left, right)
+        }
+    }
+}
