@@ -357,3 +357,8 @@ abbrev mutual
   pairs_typed g none = []
   pairs_typed g (more (node form_is.Pair span (more k (more v none))) ts) = (typed g k, typed g v) ∷ pairs_typed g ts
   pairs_typed g (more t ts) = pairs_typed g ts
+
+-- whether a tree is a member of something, behind a dot: before arguments it is a method
+abbrev pub is_member : Tree → Bool
+is_member (node (form_is.Expr expr_is.Member) span ts) = true
+is_member _ = false

@@ -1,10 +1,10 @@
 // The typed expression of a tree.
-ghost use Rattle.std.specs.Prelude.{◌≡◌, ◌∷◌, [], IfOk};
-ghost use Rattle.sp_ast.specs.Trees.{trees, tree, in_row};
+ghost use Rattle.std.specs.Prelude.{◌≡◌, ◌∷◌, [], false, IfOk, IfSome, IfNone};
+ghost use Rattle.sp_ast.specs.Trees.{trees, tree, in_row, span_of};
 ghost use Rattle.sp_ast.specs.declared.forms.Form.TheVariants as form_is;
 ghost use Rattle.sp_ast.specs.declared.forms.ExprForm.TheVariants as expr_is;
 ghost use Rattle.sp_typing.specs.Contexts.{Around};
-ghost use Rattle.sp_typing.specs.Typing.{typed, typed_all, pairs_typed};
+ghost use Rattle.sp_typing.specs.Typing.{typed, typed_all, pairs_typed, is_member};
 
 use crate::calls::{call_at, indexed, method_at, new_at};
 use crate::context::Context;
@@ -13,7 +13,7 @@ use crate::nodes::{
     set_member_of, unary_at,
 };
 use crate::rows::{led, made_of_one, made_of_two, map_at, row_at, tuple_at};
-use sp_ast::{ExprKind, ExprView, Members, PairKind, Ref};
+use sp_ast::{ExprKind, ExprView, Members, NameKind, PairKind, Ref};
 use sp_base::{ByteList, NoMemory, Span, Text};
 use sp_numbers::Width;
 use sp_typed::{Expr, LeafOp, ManyOp, OneOp};
@@ -55,6 +55,18 @@ fn pairs_typed<C: Context>(
     Ok(all)
 }
 
+/// The object and the name, where an expression is a member of something.
+fn member_parts<'a>(e: &Ref<'a, ExprKind>) -> Option<(Ref<'a, ExprKind>, Ref<'a, NameKind>)>
+    ensures some { IfSome result (λ p. tree (form_is.Expr expr_is.Member) (span_of e.now)
+        (p.0 ∷ p.1 ∷ []) ≡ e.now) }
+    ensures none { IfNone result (is_member e.now ≡ false) }
+{
+    match e.view() {
+        ExprView::Member(object, name) => Some((object, name)),
+        _ => None,
+    }
+}
+
 /// `self.f(a)` where the callee is a member, and any other call.
 #[cycle(typed)]
 fn call_typed<C: Context>(
@@ -67,16 +79,16 @@ fn call_typed<C: Context>(
     ensures { IfOk result (λ e. e ≡ typed (C.around context.now)
         (tree (form_is.Expr expr_is.Call) span (callee.now ∷ in_row arguments.now ∷ []))) }
 {
-    match callee.view() {
-        ExprView::Member(object, name) => {
+    match member_parts(callee) {
+        Some((object, name)) => {
             let object = typed(alloc, context, &object)?;
             let list = typed_all(alloc, context, arguments)?;
             method_at(alloc, context, span, callee.span(), &name, object, list)
         }
-        _ => {
-            let callee = typed(alloc, context, callee)?;
+        None => {
+            let called = typed(alloc, context, callee)?;
             let list = typed_all(alloc, context, arguments)?;
-            call_at(alloc, context, span, callee, list)
+            call_at(alloc, context, span, called, list)
         }
     }
 }

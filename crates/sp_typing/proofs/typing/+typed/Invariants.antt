@@ -11,7 +11,7 @@ decreases-typed_all g l = 2 * trees_size (trees l.members.now)
 
 abbrev pub invariant-typed_all-loop-tree : goal.invariant-typed_all-loop-tree
 invariant-typed_all-loop-tree g l =
-    (goal.iterator-typed_all-loop-tree).can_next l.tree-iterator × (goal.iterator-typed_all-loop-tree).is_finite l.tree-iterator
+    (goal.iterator-typed_all-loop-tree g).can_next l.tree-iterator × (goal.iterator-typed_all-loop-tree g).is_finite l.tree-iterator
     × (l.all.items ++ typed_all (g.C.Context.around l.context) (trees l.tree-iterator) ≡ typed_all (g.C.Context.around l.context) (trees l.members))
     × (trees_size (trees l.tree-iterator) ≤ trees_size (trees l.members))
 
@@ -20,7 +20,7 @@ decreases-pairs_typed g l = 2 * trees_size (trees l.pairs.now)
 
 abbrev pub invariant-pairs_typed-loop-pair : goal.invariant-pairs_typed-loop-pair
 invariant-pairs_typed-loop-pair g l =
-    (goal.iterator-pairs_typed-loop-pair).can_next l.pair-iterator × (goal.iterator-pairs_typed-loop-pair).is_finite l.pair-iterator
+    (goal.iterator-pairs_typed-loop-pair g).can_next l.pair-iterator × (goal.iterator-pairs_typed-loop-pair g).is_finite l.pair-iterator
     × (l.all.items ++ pairs_typed (g.C.Context.around l.context) (trees l.pair-iterator) ≡ pairs_typed (g.C.Context.around l.context) (trees l.pairs))
     × (trees_size (trees l.pair-iterator) ≤ trees_size (trees l.pairs))
 
