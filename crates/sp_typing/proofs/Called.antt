@@ -1,6 +1,6 @@
 -- Calls, by what stands before the arguments.
 use Rattle.std.specs.Prelude.{Result, Ok, Err, IfOk}
-use Rattle.std.proofs.Common.{ℕ, ◌+◌, ◌≤◌, ◌≡◌, Bool, true, false, List, [], ◌∷◌, ◌++◌, append_assoc, refl, ap, sym, ◌∙◌, arith}
+use Rattle.std.proofs.Common.{ℕ, ◌+◌, ◌≤◌, ◌≡◌, true, false, List, [], ◌∷◌, ◌++◌, append_assoc, refl, ap, sym, ◌∙◌, arith}
 use Rattle.sp_base.specs.declared.places.Span.{Span}
 use Rattle.sp_ast.specs.Trees.{Tree, tree, in_row, trees, node, tree_size, trees_size}
 use Rattle.sp_ast.specs.declared.forms.Form.TheVariants as form_is

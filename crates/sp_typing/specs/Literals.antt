@@ -1,14 +1,13 @@
 -- Literals: what type they take, and whether it has their number.
-use Rattle.std.specs.Prelude.{ℕ, ◌-◌, ◌^◌, ◌==◌, Bool, true, false, not, ◌&&◌, nat_lt, nat_le, if◌then◌else◌, List, [], ◌∷◌, map, Option, Some, None}
+use Rattle.std.specs.Prelude.{ℕ, ◌-◌, ◌^◌, ◌==◌, Bool, true, false, not, ◌&&◌, nat_lt, nat_le, if◌then◌else◌}
 use Rattle.sp_numbers.specs.Numbers.{width_bits}
 use Rattle.sp_numbers.specs.declared.width.Width.TheVariants.{W64}
 use Rattle.sp_types.specs.declared.words.Word.{Word}
 use Rattle.sp_types.specs.declared.words.Word.TheVariants as word_is
-use Rattle.sp_types.specs.Types.{Ty, word, made, same, widens}
+use Rattle.sp_types.specs.Types.{Ty, word, made}
 use Rattle.sp_typed.specs.declared.words.LeafOp.{LeafOp}
 use Rattle.sp_typed.specs.declared.words.LeafOp.TheVariants as leaf_is
-use Rattle.sp_typed.specs.declared.words.OneOp.TheVariants as one_is
-use Rattle.sp_typed.specs.Exprs.{Expr, Exprs, leaf, one, two, three, many, type_of, span_of, is_number, is_literal, settled}
+use Rattle.sp_typed.specs.Exprs.{Expr, leaf, one, type_of, is_literal, settled}
 use Rattle.sp_typing.specs.Operands.{unknown}
 
 -- the types of a literal by itself: without and with a minus sign

@@ -1,14 +1,12 @@
 -- What types operators take, and of what type their results are.
 use Rattle.std.specs.Prelude.{Bool, true, false, ◌&&◌, ◌||◌, if◌then◌else◌}
-use Rattle.sp_numbers.specs.declared.width.Width.TheVariants.{W64}
 use Rattle.sp_words.specs.declared.operators.BinaryOp.{BinaryOp}
 use Rattle.sp_words.specs.declared.operators.BinaryOp.TheVariants as op_is
 use Rattle.sp_words.specs.declared.operators.UnaryOp.{UnaryOp}
 use Rattle.sp_words.specs.declared.operators.UnaryOp.TheVariants as unary_is
-use Rattle.sp_types.specs.declared.words.Word.{Word}
 use Rattle.sp_types.specs.declared.words.Word.TheVariants as word_is
 use Rattle.sp_types.specs.declared.words.Maker.TheVariants as maker_is
-use Rattle.sp_types.specs.Types.{Ty, Tys, word, made, none, more, same, is_known, is_plain, is_key, goes, wider}
+use Rattle.sp_types.specs.Types.{Ty, Tys, word, made, none, more, same, is_plain, is_key, goes, wider}
 use Rattle.sp_typing.specs.declared.operators.OperatorSort.{OperatorSort}
 use Rattle.sp_typing.specs.declared.operators.OperatorSort.TheVariants as takes
 

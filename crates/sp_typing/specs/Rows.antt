@@ -6,8 +6,7 @@ use Rattle.sp_words.specs.declared.operators.BinaryOp.{BinaryOp}
 use Rattle.sp_words.specs.declared.operators.BinaryOp.TheVariants as op_is
 use Rattle.sp_words.specs.declared.operators.UnaryOp.TheVariants as unary_is
 use Rattle.sp_numbers.specs.declared.width.Width.TheVariants.{W8, W16, W64}
-use Rattle.sp_ast.specs.Trees.{Tree, tree, in_row, node, more}
-use Rattle.sp_ast.specs.declared.forms.Form.{Form}
+use Rattle.sp_ast.specs.Trees.{Tree, tree, node, more}
 use Rattle.sp_ast.specs.declared.forms.Form.TheVariants as form_is
 use Rattle.sp_ast.specs.declared.forms.ExprForm.{ExprForm}
 use Rattle.sp_ast.specs.declared.forms.ExprForm.TheVariants as expr_is

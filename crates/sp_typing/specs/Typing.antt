@@ -1,5 +1,5 @@
 -- The typed expression that a tree is, in what stands round it.
-use Rattle.std.specs.Prelude.{ℕ, zero, suc, Bool, true, false, not, ◌&&◌, ◌||◌, if◌then◌else◌, List, [], ◌∷◌, ◌++◌, map, length, Option, Some, None, slice_get}
+use Rattle.std.specs.Prelude.{ℕ, zero, suc, Bool, true, false, not, ◌&&◌, ◌||◌, if◌then◌else◌, List, [], ◌∷◌, ◌++◌, map, length, Option, Some, None}
 use Rattle.sp_base.specs.declared.places.Span.{Span}
 use Rattle.sp_words.specs.declared.operators.BinaryOp.{BinaryOp}
 use Rattle.sp_words.specs.declared.operators.UnaryOp.{UnaryOp}
@@ -9,9 +9,7 @@ use Rattle.sp_words.specs.declared.words.IntWord.TheVariants as int
 use Rattle.sp_numbers.specs.declared.width.Width.TheVariants as width
 use Rattle.sp_ast.specs.Trees.{Tree, Trees, absent, row, node, none, more}
 use Rattle.sp_ast.specs.Trees as read
-use Rattle.sp_ast.specs.declared.forms.Form.{Form}
 use Rattle.sp_ast.specs.declared.forms.Form.TheVariants as form_is
-use Rattle.sp_ast.specs.declared.forms.ExprForm.{ExprForm}
 use Rattle.sp_ast.specs.declared.forms.ExprForm.TheVariants as expr_is
 use Rattle.sp_types.specs.declared.words.Word.{Word}
 use Rattle.sp_types.specs.declared.words.Word.TheVariants as word_is
@@ -30,7 +28,7 @@ use Rattle.sp_typed.specs.declared.words.ManyOp.TheVariants as many_is
 use Rattle.sp_typed.specs.declared.words.NewOf.{NewOf}
 use Rattle.sp_typed.specs.declared.words.NewOf.TheVariants as new_is
 use Rattle.sp_typed.specs.declared.words.Written.{Written}
-use Rattle.sp_typed.specs.Exprs.{Expr, Exprs, leaf, one, two, three, many, exprs, type_of, span_of, is_number, is_literal, settled}
+use Rattle.sp_typed.specs.Exprs.{Expr, leaf, one, two, three, many, exprs, span_of, is_number, is_literal, settled}
 use Rattle.sp_typing.specs.declared.operators.OperatorSort.{OperatorSort}
 use Rattle.sp_typing.specs.declared.operators.OperatorSort.TheVariants as sort_is
 use Rattle.sp_typing.specs.declared.calls.Callee.{Callee}
@@ -38,7 +36,7 @@ use Rattle.sp_typing.specs.declared.calls.Callee.TheVariants as callee_is
 use Rattle.sp_typing.specs.declared.context.Member.{Member}
 use Rattle.sp_typing.specs.declared.context.Callable.{Callable}
 use Rattle.sp_typing.specs.Contexts.{Around}
-use Rattle.sp_typing.specs.Operands.{unknown, boolean, is_integer, is_bytes, sort_of, result_type, unary_type, key_of, first_type}
+use Rattle.sp_typing.specs.Operands.{unknown, boolean, is_integer, sort_of, result_type, unary_type, key_of, first_type}
 use Rattle.sp_typing.specs.Literals.{taken, seen, is_negative, literal_word, unsigned_literal, signed_literal}
 
 -- nodes on a slice of the text, of a type

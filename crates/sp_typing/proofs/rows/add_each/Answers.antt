@@ -1,5 +1,4 @@
 use Rattle.std.proofs.Common.{◌-◌, arith}
-use Rattle.sp_typing.specs.Contexts.{Around}
 use Rattle.sp_typing.proofs.Lists.{each_step, each_count}
 use Rattle.sp_typing.proofs.rows.add_each.Goals as goal
 

@@ -1,5 +1,4 @@
 use Rattle.std.proofs.Common.{◌≡◌, ◌++◌}
-use Rattle.sp_typing.specs.Contexts.{Around}
 use Rattle.sp_typing.specs.Typing.{each_to}
 use Rattle.sp_typing.proofs.rows.add_each.Given as goal
 

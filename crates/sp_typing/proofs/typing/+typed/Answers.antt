@@ -1,7 +1,6 @@
 use Rattle.std.proofs.Common.{ap, ◌∙◌}
 use Rattle.sp_ast.specs.Trees.{trees, trees_size, span_of}
-use Rattle.sp_typing.specs.Contexts.{Around}
-use Rattle.sp_typing.specs.Typing.{typed, typed_all, pairs_typed, method_at, call_at}
+use Rattle.sp_typing.specs.Typing.{typed, pairs_typed, method_at, call_at}
 use Rattle.sp_typing.proofs.Called.{call, call_of_member, call_of_other, ok_is, pair_step, less_behind}
 use Rattle.sp_typing.proofs.typing.+typed.Goals as goal
 
