@@ -13,3 +13,4 @@ pub mod StmtViews
 pub mod UnitViews
 pub mod FieldViews
 pub mod DeclViews
+pub mod inside

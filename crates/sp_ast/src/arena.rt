@@ -50,7 +50,8 @@ pub struct Arena {
 impl Model for Arena {
     ghost use Rattle.std.specs.Prelude.{◌≤◌, List, [], length};
     ghost use Rattle.std.specs.Coded.{codes, coded_list};
-    ghost use Rattle.sp_ast.specs.Trees.{Tree as Data, coded_tree};
+    ghost use Rattle.sp_ast.specs.Trees.{Tree as Data};
+    ghost use Rattle.sp_ast.specs.inside.TreeCodes.{coded_tree};
 
     ghost Value = { List Data };
 

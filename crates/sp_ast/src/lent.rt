@@ -40,7 +40,8 @@ pub enum Level<'a> {
 
 impl<'a> Model for TreeRef<'a> {
     ghost use Rattle.std.specs.Coded.{codes};
-    ghost use Rattle.sp_ast.specs.Trees.{Tree as Data, coded_tree};
+    ghost use Rattle.sp_ast.specs.Trees.{Tree as Data};
+    ghost use Rattle.sp_ast.specs.inside.TreeCodes.{coded_tree};
     ghost use Rattle.sp_ast.specs.Places.{tree_at};
 
     ghost Value = { Data };
@@ -53,7 +54,8 @@ impl<'a> Model for TreeRef<'a> {
 impl<'a> Model for Parts<'a> {
     ghost use Rattle.std.specs.Prelude.{List};
     ghost use Rattle.std.specs.Coded.{codes, coded_list};
-    ghost use Rattle.sp_ast.specs.Trees.{Tree as Data, coded_tree};
+    ghost use Rattle.sp_ast.specs.Trees.{Tree as Data};
+    ghost use Rattle.sp_ast.specs.inside.TreeCodes.{coded_tree};
     ghost use Rattle.sp_ast.specs.Places.{trees_at};
 
     ghost Value = { List Data };

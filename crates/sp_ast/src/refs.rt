@@ -29,7 +29,8 @@ pub struct Members<'a, K: Kind> {
 impl<'a, K: Kind> Model for Ref<'a, K> {
     ghost use Rattle.std.specs.Prelude.{◌≡◌, true};
     ghost use Rattle.std.specs.Coded.{codes};
-    ghost use Rattle.sp_ast.specs.Trees.{Tree as Data, coded_tree};
+    ghost use Rattle.sp_ast.specs.Trees.{Tree as Data};
+    ghost use Rattle.sp_ast.specs.inside.TreeCodes.{coded_tree};
     ghost use Rattle.sp_ast.specs.Groups.{is_of};
 
     ghost Value = { Data };
@@ -44,7 +45,8 @@ impl<'a, K: Kind> Model for Ref<'a, K> {
 impl<'a, K: Kind> Model for Members<'a, K> {
     ghost use Rattle.std.specs.Prelude.{◌≡◌, List, true};
     ghost use Rattle.std.specs.Coded.{codes, coded_list};
-    ghost use Rattle.sp_ast.specs.Trees.{Tree as Data, coded_tree, trees};
+    ghost use Rattle.sp_ast.specs.Trees.{Tree as Data, trees};
+    ghost use Rattle.sp_ast.specs.inside.TreeCodes.{coded_tree};
     ghost use Rattle.sp_ast.specs.Groups.{are_of};
 
     ghost Value = { List Data };

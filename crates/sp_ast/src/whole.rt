@@ -13,7 +13,8 @@ pub struct BoundedTree {
 
 impl Model for BoundedTree {
     ghost use Rattle.std.specs.Coded.{codes};
-    ghost use Rattle.sp_ast.specs.Trees.{Tree as Data, coded_tree};
+    ghost use Rattle.sp_ast.specs.Trees.{Tree as Data};
+    ghost use Rattle.sp_ast.specs.inside.TreeCodes.{coded_tree};
     ghost use Rattle.sp_ast.specs.Places.{tree_at};
 
     ghost Value = { Data };
@@ -121,7 +122,8 @@ pub type Module = Whole<ModuleKind>;
 impl<K: Kind> Model for Whole<K> {
     ghost use Rattle.std.specs.Prelude.{◌≡◌, true};
     ghost use Rattle.std.specs.Coded.{codes};
-    ghost use Rattle.sp_ast.specs.Trees.{Tree as Data, coded_tree};
+    ghost use Rattle.sp_ast.specs.Trees.{Tree as Data};
+    ghost use Rattle.sp_ast.specs.inside.TreeCodes.{coded_tree};
     ghost use Rattle.sp_ast.specs.Groups.{is_of};
 
     ghost Value = { Data };

@@ -31,7 +31,7 @@ pub struct Builder<'a> {
 impl<'a> Model for Builder<'a> {
     ghost use Rattle.std.specs.Prelude.{◌≤◌, length};
     ghost use Rattle.std.specs.Coded.{codes};
-    ghost use Rattle.sp_ast.specs.Trees.{coded_tree};
+    ghost use Rattle.sp_ast.specs.inside.TreeCodes.{coded_tree};
     ghost use Rattle.sp_build.specs.Progress.{Progress, while_found, coded_progress};
 
     ghost Value = { Progress };

@@ -32,7 +32,8 @@ impl Wanted {
 /// Whether a tree that is wanted stands under the last trees, so many.
 fn is_wanted(stack: &TreeStack, count: usize, wanted: Wanted) -> bool
     requires { AreTrees count stack.now }
-    ensures under { IsUnder result (passes wanted) (drop count stack.now) (drop (suc count) stack.now) }
+    ensures under { IsUnder result (passes wanted) (drop count stack.now)
+        (drop (suc count) stack.now) }
     ensures fits { result ≡ true → count < 2 ^ 63 }
 {
     match stack.tree_under(count) {
@@ -124,7 +125,8 @@ pub(crate) fn parts(stack: &TreeStack, slots: &[Slot]) -> Option<usize>
 
 /// How many of the last trees are neither left out nor rows.
 pub(crate) fn nodes(stack: &TreeStack) -> usize
-    ensures found { popped_all stack.now ≡ left (last_trees result stack.now) (drop result stack.now) }
+    ensures found { popped_all stack.now
+        ≡ left (last_trees result stack.now) (drop result stack.now) }
     ensures last { AreTrees result stack.now }
 {
     run_under(stack, 0, Wanted::Nodes)

@@ -16,7 +16,8 @@ use sp_runs::derivation_is_one;
 /// module, a type a type, a statement a statement and an expression an expression. So the rules of the actions find what
 /// they want at each place, whatever the text is; and each tree has the parts that its alternative asks for.
 pub fn every_phrase_is_built()
-    ensures { (start : Start) (text : List ℕ) (tokens : List Token) (m : ℕ) (actions : List ActionAt)
+    ensures { (start : Start) (text : List ℕ) (tokens : List Token) (m : ℕ)
+        (actions : List ActionAt)
         → IsPhrase start tokens m actions → (t : Tree) × (is_of (group_of start) t ≡ true)
         × IsBuilt text tokens actions t × (is_formed t ≡ true) }
 {}

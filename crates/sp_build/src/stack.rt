@@ -34,7 +34,7 @@ pub(crate) struct TreeStack {
 impl Model for TreeStack {
     ghost use Rattle.std.specs.Prelude.{List, reverse};
     ghost use Rattle.std.specs.Coded.{codes, coded_list};
-    ghost use Rattle.sp_ast.specs.Trees.{coded_tree};
+    ghost use Rattle.sp_ast.specs.inside.TreeCodes.{coded_tree};
     ghost use Rattle.sp_build.specs.Items.{Item, coded_item};
 
     ghost Value = { List Item };
@@ -127,7 +127,8 @@ impl TreeStack {
     /// The tree under the last trees, so many.
     pub(crate) fn tree_under(&self, count: usize) -> Option<TreeRef<'_>>
         requires { AreTrees count self.now }
-        ensures some { IfSome result (λ t. drop count self.now ≡ built t ∷ drop (suc count) self.now) }
+        ensures some { IfSome result (λ t. drop count self.now
+            ≡ built t ∷ drop (suc count) self.now) }
         ensures fits { IfSome result (λ t. count < 2 ^ 63) }
         ensures none { IfNone result (IsFloor (drop count self.now)) }
     {

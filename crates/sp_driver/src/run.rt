@@ -47,7 +47,8 @@ fn step<O: Out>(
     ensures stands { (s : List ℕ) → StandsFor session.old s
         → OnOk result (StandsFor session.new (s ++ piece.now)) }
     ensures fed { (s : List ℕ) → StandsFor session.old s → OnOk result (IsFed session.new) }
-    ensures received { OnOk result (received session.new ≡ received session.old + length piece.now) }
+    ensures received { OnOk result (received session.new
+        ≡ received session.old + length piece.now) }
     ensures held { (s : List ℕ) → StandsFor session.old s
         → OnOk result (O.held out.new ≡ appended (O.held out.old)
         (lines_of flow_name (drop (length (told_by session.old s))

@@ -19,9 +19,11 @@ ghost use Rattle.sp_grammar.specs.Written.{Part, part_number};
 /// begins the arguments. Pieces that only the table has are left out.
 pub fn table_reads_the_grammar()
     ensures derived { (p : Part) → is_piece p ≡ false → (kinds : List ℕ) (actions : List ActionAt)
-        → Derives language (part_number p) kinds actions → IsRead own (part_number p) kinds actions }
+        → Derives language (part_number p) kinds actions
+        → IsRead own (part_number p) kinds actions }
     ensures read { (p : Part) → is_piece p ≡ false → (kinds : List ℕ) (actions : List ActionAt)
-        → IsRead own (part_number p) kinds actions → Derives language (part_number p) kinds actions }
+        → IsRead own (part_number p) kinds actions
+        → Derives language (part_number p) kinds actions }
 {}
 
 /// The grammar in its own words is unambiguous: kinds of tokens are read as a module, a type, an expression or a statement

@@ -21,13 +21,18 @@ impl Model for FailingCalls {
 
     ghost Value = { Calls };
 
-    ghost view = { λ calls. record { next = calls.next; fails = calls.fails.items; faults = calls.faults } };
+    ghost view = { λ calls. record {
+      next = calls.next;
+      fails = calls.fails.items;
+      faults = calls.faults;
+    } };
 }
 
 impl FailingCalls {
     /// No call yet. `fails` lists the numbers of those that will fail.
     pub fn new(alloc: Global, fails: &[u64]) -> Result<FailingCalls, NoMemory>
-        ensures { IfOk result (λ calls. calls ≡ record { next = 0; fails = fails.now; faults = 0 }) }
+        ensures { IfOk result (λ calls. calls
+            ≡ record { next = 0; fails = fails.now; faults = 0 }) }
     {
         Ok(FailingCalls {
             next: 0,

@@ -74,7 +74,8 @@ fn front_of_file<R: Files>(
 
 /// The first `LONGEST` bytes that the reader has left, or all where it has no more.
 fn front_of<R: Read + Drop>(alloc: Global, reader: R) -> Result<ByteList, ModulesFault>
-    ensures { IfOk result (λ front. IfSome (R.remaining reader) (λ left. front ≡ take 1048577 left)) }
+    ensures { IfOk result (λ front. IfSome (R.remaining reader) (λ left.
+        front ≡ take 1048577 left)) }
 {
     let mut bytes = Vec::new(alloc);
     let mut front = reader.take(LONGEST);

@@ -84,7 +84,10 @@ impl<R: Read> Model for StdSource<R> {
 
     ghost Value = { ReaderState };
 
-    ghost view = { λ s. record { left = reader_remaining (λ r. R.remaining r.inner) s.reader; faults = s.faults } };
+    ghost view = { λ s. record {
+      left = reader_remaining (λ r. R.remaining r.inner) s.reader;
+      faults = s.faults;
+    } };
 }
 
 impl<R: Read + Drop> StdSource<R> {
@@ -132,7 +135,11 @@ impl<F: Read> Model for FileSource<F> {
 
     ghost Value = { FileState };
 
-    ghost view = { λ s. record { is_open = is_some s.reader; left = option_and_then (reader_remaining (λ r. F.remaining r.inner)) s.reader; faults = s.faults } };
+    ghost view = { λ s. record {
+      is_open = is_some s.reader;
+      left = option_and_then (reader_remaining (λ r. F.remaining r.inner)) s.reader;
+      faults = s.faults;
+    } };
 }
 
 impl<F: Read + Drop> FileSource<F> {

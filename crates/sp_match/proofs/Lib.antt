@@ -13,3 +13,5 @@ pub mod Tabling
 pub mod Stepping
 pub mod Lists
 pub mod Rows
+pub mod Jumping
+pub mod Nested

@@ -123,7 +123,7 @@ up_to_step r n then entry begin all set first net is begin_is c =
     (λ w x. fewer r n x.0 w x.2 x.3)
     (chain_or (followed r (repeat 0 (Some n) r)) then entry begin all set first net is begin_is c)
 
-times_join : (A : List ℕ → Type 0) (m n : ℕ) (u v : List ℕ) → Times m A u → Times n A v → Times (m + n) A (u ++ v)
+pub times_join : (A : List ℕ → Type 0) (m n : ℕ) (u v : List ℕ) → Times m A u → Times n A v → Times (m + n) A (u ++ v)
 times_join A zero n u v x y = let e : n ≡ 0 + n = omega arith in rw x (subst (λ k. Times k A v) e y)
 times_join A (suc m) n u v x y =
     let e : suc (m + n) ≡ suc m + n = omega arith in

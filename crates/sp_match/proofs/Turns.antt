@@ -1,17 +1,17 @@
 -- One turn of each loop of a run, and the empty word.
-use Rattle.std.proofs.Common.{◌≡◌, ℕ, zero, suc, ◌+◌, ◌*◌, ◌/◌, ◌<◌, ◌≤◌, ◌++◌, ◌==◌, ◌||◌, ◌⊎◌, Bool, true, false, List, [], ◌∷◌, length, get_or, refl, ap, sym, subst, ◌∙◌, inl, inr, arith, fold, eqb-true, eq-eqb}
+use Rattle.std.proofs.Common.{◌≡◌, ℕ, zero, suc, ◌<◌, ◌≤◌, ◌++◌, ◌==◌, Bool, true, false, List, [], ◌∷◌, length, get_or, refl, ap, sym, subst, ◌∙◌, inl, inr, arith, fold, eqb-true, eq-eqb}
 use Rattle.std.specs.Global.{Vec}
 use Rattle.sp_regex.specs.Trees.{Syntax, empty, never, either, sequence, alternatives}
 use Rattle.sp_regex.specs.Language.{InL, Times}
 use Rattle.sp_match.specs.declared.spot.Spot.{Spot}
 use Rattle.sp_match.specs.declared.spot.Spot.TheVariants as spot
 use Rattle.sp_match.specs.Sets.{class_has}
-use Rattle.sp_match.specs.Nets.{at, moves, jumps, is_jump, through, Orderly}
+use Rattle.sp_match.specs.Nets.{at, moves, jumps, is_jump, Orderly}
 use Rattle.sp_match.specs.Bits.{holds, row, led, IsStep}
 use Rattle.sp_match.specs.Tables.{reads_byte, next_of, AreNexts, AreClasses, AreReaders}
 use Rattle.sp_match.specs.Parts.{InAll}
 use Rattle.sp_match.specs.Running.{Closing, IsClosed, IsNext}
-use Rattle.sp_match.proofs.Compiling.{order, before_or_not, either_true, left_true, right_true, both_true, and_true, not_both}
+use Rattle.sp_match.proofs.Compiling.{both_true, and_true}
 use Rattle.sp_match.proofs.Running.{within_jumps}
 use Rattle.sp_match.proofs.Steps.{in_order_forth}
 
@@ -39,65 +39,12 @@ jump_is (spot.Byte bytes next) q j = absurd (let k : false ≡ true = j in cc)
 jump_is (spot.Goal token literal) q j = absurd (let k : false ≡ true = j in cc)
 jump_is spot.Nothing q j = absurd (let k : false ≡ true = j in cc)
 
--- a spot that is not in the set, or jumps nowhere
-pub closing_skip : (net : List Spot) (initial set : ℕ → Bool) (j : ℕ) → ((q : ℕ) → set j ≡ true → jumps (at net j) q ≡ true → ⊥) → Closing net initial set (j + 1) → Closing net initial set j
-closing_skip net initial set j still c = record {
-  keeps = c.keeps;
-  done = λ p q le h k. elim (order p j) [
-    | inl less ↦ absurd (omega arith)
-    | inr ge ↦ elim ge [
-      | inl e ↦ absurd (still q (subst (λ n. set n ≡ true) e h) (subst (λ n. jumps (at net n) q ≡ true) e k))
-      | inr gt ↦ c.done p q (omega arith) h k
-    ]
-  ];
-  came = c.came;
-  alive = c.alive;
-}
-
-pub closing_turn : (net : List Spot) (initial set new : ℕ → Bool) (j : ℕ) → Orderly net → set j ≡ true → ((q : ℕ) → new q ≡ (set q || jumps (at net j) q)) → Closing net initial set (j + 1) → Closing net initial new j
-closing_turn net initial set new j o live jumped c =
-    let cases : (q : ℕ) → new q ≡ true → (set q ≡ true) ⊎ (jumps (at net j) q ≡ true) = λ q h. either_true (set q) (jumps (at net j) q) (sym (jumped q) ∙ h) in
-    let old : (q : ℕ) → set q ≡ true → new q ≡ true = λ q h. jumped q ∙ left_true (set q) (jumps (at net j) q) h in
-    record {
-      keeps = λ q h. old q (c.keeps q h);
-      done = λ p q le h k. elim (order p j) [
-        | inl less ↦ absurd (omega arith)
-        | inr ge ↦ elim ge [
-          | inl e ↦ jumped q ∙ right_true (set q) (jumps (at net j) q) (subst (λ n. jumps (at net n) q ≡ true) e k)
-          | inr gt ↦ elim (cases p h) [
-            | inl hp ↦ old q (c.done p q (omega arith) hp k)
-            | inr two ↦ (let less = o.earlier j p two (jump_is (at net p) q k) in absurd (omega arith))
-          ]
-        ]
-      ];
-      came = λ q h g w r. elim (cases q h) [
-        | inl hq ↦ c.came q hq g w r
-        | inr two ↦ c.came j live g w (through two r)
-      ];
-      alive = λ lively first q h. elim (cases q h) [
-        | inl hq ↦ c.alive lively first q hq
-        | inr two ↦ lively j q (inr two)
-      ];
-    }
-
 pub closing_begin : (net : List Spot) (set : ℕ → Bool) (n : ℕ) → length net ≤ n → Closing net set set n
 closing_begin net set n room = record {
   keeps = λ q h. h;
   done = λ p q le h k. let lt = within_jumps net p q k in absurd (omega arith);
   came = λ q h g w r. (q, h, r);
   alive = λ lively first. first;
-}
-
--- a word without a spot that jumps
-pub closing_word : (net : List Spot) (initial set : ℕ → Bool) (word : ℕ) → ((p : ℕ) → p / 64 ≡ word → set p ≡ true → is_jump (at net p) ≡ false) → Closing net initial set ((word + 1) * 64) → Closing net initial set (word * 64)
-closing_word net initial set word none c = record {
-  keeps = c.keeps;
-  done = λ p q le h k. elim (before_or_not p ((word + 1) * 64)) [
-    | inl lt ↦ absurd (not_both (jump_is (at net p) q k) (none p (omega arith) h))
-    | inr ge ↦ c.done p q ge h k
-  ];
-  came = c.came;
-  alive = c.alive;
 }
 
 pub closed_done : (net : List Spot) (initial set : ℕ → Bool) (i : ℕ) → i ≡ 0 → Closing net initial set i → IsClosed net initial set

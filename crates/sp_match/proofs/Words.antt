@@ -150,3 +150,12 @@ put_turn f old new i on is step done rest p lt = elim (order p i) [
 
 pub put_rest : (old new : ℕ → Bool) (i : ℕ) (on : Bool) → ((p : ℕ) → new p ≡ (old p || (on && (p == i)))) → ((p : ℕ) → i ≤ p → old p ≡ false) → (p : ℕ) → i + 1 ≤ p → new p ≡ false
 put_rest old new i on step rest p le = step p ∙ sym (or_false (old p) (on && (p == i)) (and_false on (p == i) (not_equal p i (omega arith)))) ∙ rest p (omega arith)
+
+-- a set of which one word has more bits
+pub merged_word : (old new : List ℕ) (word spots : ℕ) → get_or new word 0 ≡ bit_or (get_or old word 0) spots → ((k : ℕ) → k ≢ word → get_or new k 0 ≡ get_or old k 0) → (p : ℕ) → holds new p ≡ (holds old p || ((p / 64 == word) && (bit_at spots (p % 64) == 1)))
+merged_word old new word spots here others p = elim (true_or_false (p / 64 == word)) [
+  | inl e ↦ (let is = eqb-true (p / 64) word e in let i = p % 64 in let x = get_or old word 0 in
+      ap (λ z. bit_at (get_or new z 0) i == 1) is ∙ ap (λ z. bit_at z i == 1) here ∙ ap (λ z. z == 1) (bit_at_or x spots i) ∙ max_is_one (bit_at x i) (bit_at spots i) (bit_at-lt x i) (bit_at-lt spots i)
+      ∙ ap (λ z. (bit_at (get_or old z 0) i == 1) || (bit_at spots i == 1)) (sym is) ∙ ap (λ z. holds old p || (z && (bit_at spots i == 1))) (sym e))
+  | inr e ↦ ap (λ z. bit_at z (p % 64) == 1) (others (p / 64) (λ same. not_both (eq-eqb (p / 64) word same) e)) ∙ or_false (holds old p) ((p / 64 == word) && (bit_at spots (p % 64) == 1)) (ap (λ z. z && (bit_at spots (p % 64) == 1)) e)
+]

@@ -1,4 +1,5 @@
 pub mod Bits
+pub mod Jumps
 pub mod Matching
 pub mod Nets
 pub mod Parts

@@ -7,9 +7,11 @@ use Rattle.sp_match.specs.declared.spot.Spot.TheVariants as spot
 use Rattle.sp_match.specs.declared.machine.Goal.{Goal}
 use Rattle.sp_match.specs.declared.machine.Machine.{Machine}
 use Rattle.sp_match.specs.declared.table.Acceptance.{Acceptance}
+use Rattle.sp_match.specs.declared.word_jumps.WordJump.{WordJump}
 use Rattle.sp_match.specs.Sets.{class_has}
 use Rattle.sp_match.specs.Bits.{holds, row, led}
-use Rattle.sp_match.specs.Nets.{at, is_byte, is_jump, is_goal, goal_token, goal_literal, Orderly}
+use Rattle.sp_match.specs.Nets.{at, is_byte, is_goal, goal_token, goal_literal, Orderly}
+use Rattle.sp_match.specs.Jumps.{AreJumps}
 use Rattle.sp_match.specs.Running.{is_ahead, IsNext, IsWinner}
 
 -- whether a spot reads a byte
@@ -65,7 +67,7 @@ best_of goals live zero = None
 best_of goals live (suc j) = preferred (goal_at goals j) (live ((goal_at goals j).spot)) (best_of goals live j)
 
 -- The automaton by bits.
-pub record IsMachine (net : List Spot) (words : ℕ) (of firsts : List ℕ) (read : List (Vec ℕ)) (some led_to jump : List ℕ) (found : List Goal) : Type 0 where
+pub record IsMachine (net : List Spot) (words : ℕ) (of firsts : List ℕ) (read : List (Vec ℕ)) (some led_to : List ℕ) (jump : List (Vec WordJump)) (found : List Goal) : Type 0 where
   pub orderly : Orderly net
   pub room : length net < 64 * words
   pub classes : AreClasses net of firsts 256
@@ -73,7 +75,7 @@ pub record IsMachine (net : List Spot) (words : ℕ) (of firsts : List ℕ) (rea
   pub bytes : (p : ℕ) → holds some p ≡ is_byte (at net p)
   pub nexts : AreNexts net led_to
   pub within : (p : ℕ) → led led_to p ≤ length net
-  pub jumps : (p : ℕ) → holds jump p ≡ is_jump (at net p)
+  pub jumps : AreJumps net jump
   pub goals : AreGoals net found (length net)
 
 -- a live spot reads a byte
@@ -96,7 +98,7 @@ acceptance_at acceptances s = get_or acceptances s (record { won = None; reads_o
 
 -- the machine is that of the automaton
 abbrev pub IsMachineOf : List Spot → Machine → Type 0
-IsMachineOf net m = (m.net.items ≡ net) × IsMachine net m.words m.classes.of.items m.classes.firsts.items m.readers.items m.bytes.items m.nexts.items m.jumps.items m.goals.items
+IsMachineOf net m = IsMachine net m.words m.classes.of.items m.classes.firsts.items m.readers.items m.bytes.items m.nexts.items m.jumps.items m.goals.items
 
 -- Each state has its acceptance.
 pub record IsStates (net : List Spot) (words : ℕ) (sets : List (Vec ℕ)) (acceptances : List Acceptance) : Type 0 where

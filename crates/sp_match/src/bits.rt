@@ -1,5 +1,5 @@
 // Sets of spots by bits: the spot p is the bit p % 64 of the word p / 64. Those behind the end are in no set.
-ghost use Rattle.std.specs.Prelude.{◌≡◌, ◌≢◌, ℕ, ◌*◌, ◌<◌, ◌≤◌, ◌==◌, ◌||◌, ◌&&◌, true, false, length, IfOk};
+ghost use Rattle.std.specs.Prelude.{◌≡◌, ◌≢◌, ℕ, ◌*◌, ◌/◌, ◌%◌, ◌<◌, ◌≤◌, ◌==◌, ◌||◌, ◌&&◌, true, false, length, IfOk};
 ghost use Rattle.std.proofs.Common.{get_or};
 ghost use Rattle.std.specs.Int.{bit_at};
 ghost use Rattle.sp_match.specs.Bits.{holds};
@@ -28,7 +28,7 @@ pub fn word_of(set: &Vec<u64>, number: usize) -> u64
 }
 
 /// The word with a bit.
-fn with(word: u64, bit: usize) -> u64
+pub fn with(word: u64, bit: usize) -> u64
     requires { bit < 64 }
     ensures set { bit_at result bit ≡ 1 }
     ensures others { (i : ℕ) → i ≢ bit → bit_at result i ≡ bit_at word i }
@@ -69,19 +69,32 @@ pub fn put_if(set: &mut Vec<u64>, spot: usize, is_in: bool)
     }
 }
 
-/// Whether a spot is in the set.
+/// Whether a word has a bit.
 #[tactic(auto, using(std::proofs::lemmas::Nat::Bits::shr_and_one))]
+pub fn has_bit(word: u64, bit: u32) -> bool
+    requires { bit < 64 }
+    ensures { result ≡ (bit_at word bit == 1) }
+{
+    (word >> bit) & 1 == 1
+}
+
+/// Whether a spot is in the set.
 pub fn contains(set: &Vec<u64>, spot: usize) -> bool
     ensures { result ≡ holds set.now.items spot }
 {
-    (word_of(set, spot / 64) >> (spot % 64)) & 1 == 1
+    has_bit(word_of(set, spot / 64), (spot % 64) as u32)
 }
 
-/// Whether a spot is in both sets.
-pub fn both_contain(set: &Vec<u64>, other: &Vec<u64>, spot: usize) -> bool
-    ensures { result ≡ (holds set.now.items spot && holds other.now.items spot) }
+/// Adds spots of one word.
+pub fn merge_word(set: &mut Vec<u64>, word: usize, spots: u64)
+    ensures spots { word < length set.old.items → (p : ℕ) → holds set.new.items p
+        ≡ (holds set.old.items p || ((p / 64 == word) && (bit_at spots (p % 64) == 1))) }
+    ensures past { length set.old.items ≤ word → set.new.items ≡ set.old.items }
+    ensures len { length set.new.items ≡ length set.old.items }
 {
-    contains(set, spot) && contains(other, spot)
+    if word < set.len() {
+        set[word] = set[word] | spots;
+    }
 }
 
 /// Empties a set.

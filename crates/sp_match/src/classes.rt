@@ -34,7 +34,8 @@ pub fn one_byte(alloc: Global, byte: u8) -> Result<Vec<bool>, NoMemory>
 
 /// All bytes: those in none of no ranges.
 pub fn all_bytes(alloc: Global) -> Result<Vec<bool>, NoMemory>
-    ensures { IfOk result (λ set. (p : ℕ) → class_has set.items p ≡ (nat_lt p 256 && belongs true [] p)) }
+    ensures { IfOk result (λ set. (p : ℕ) → class_has set.items p
+        ≡ (nat_lt p 256 && belongs true [] p)) }
 {
     bytes_of_class(alloc, true, &[])
 }

@@ -10,6 +10,7 @@ ghost use Rattle.sp_match.specs.Parts.{Below, IsCompiled, IsChain, OneByte, Many
 
 use crate::classes::{all_bytes, bytes_of_class, has_byte, one_byte};
 use crate::empties::repetition_has;
+use crate::rounds::rounds_of;
 use crate::sets::{contains, copy, is_empty, join, join_others, put, single};
 use crate::spot::Spot;
 use sp_base::NoMemory;
@@ -334,11 +335,12 @@ fn many(
     ensures { IfOk result (λ entry. IsCompiled (Many may_miss (InL part.now))
         (then ∷ []) entry.items net.old.items net.new.items) }
 {
+    let rounds = rounds_of(part, may_miss);
     let spot = net.len();
     net.push(Spot::Nothing)?;
-    let entry = compile(alloc, net, part, spot)?;
+    let entry = compile(alloc, net, rounds.part, spot)?;
     let to = round(alloc, &entry, spot, then)?;
-    let begin = begins(alloc, entry, &to, spot, may_miss)?;
+    let begin = begins(alloc, entry, &to, spot, rounds.may_miss)?;
     set_jump(net, spot, to);
     Ok(begin)
 }

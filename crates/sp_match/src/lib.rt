@@ -10,12 +10,14 @@ mod index;
 mod laws;
 mod machine;
 mod matcher;
+mod rounds;
 mod run;
 mod sets;
 mod spot;
 mod table;
 mod token_set;
 mod verdict;
+mod word_jumps;
 
 pub use laws::{one_verdict, steady_verdict};
 pub use matcher::Matcher;

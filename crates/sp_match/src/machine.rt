@@ -1,5 +1,5 @@
 // The automaton by bits: what it reads by a class of bytes, and where it is then. A step costs a look at each word of
-// a set, at each live spot that reads the byte, and at each spot to which one of those jumps.
+// a set, at each live spot that reads the byte, and at each jump of a word in which a spot is live.
 ghost use Rattle.std.specs.Prelude.{◌≡◌, ℕ, ◌+◌, ◌*◌, ◌<◌, ◌≤◌, ◌==◌, ◌||◌, List, length, true, false, IfOk, OnOk};
 ghost use Rattle.std.proofs.Common.{get_or};
 ghost use Rattle.std.specs.Int.{bit_at};
@@ -7,7 +7,7 @@ ghost use Rattle.sp_match.specs.declared.spot.Spot.{Spot as NetSpot};
 ghost use Rattle.sp_match.specs.Sets.{has};
 ghost use Rattle.sp_match.specs.Parts.{Below};
 ghost use Rattle.sp_match.specs.Bits.{holds, row, led, LeadsWithin, IsStep, IsStepTo, IsWordStep};
-ghost use Rattle.sp_match.specs.Nets.{at, is_byte, is_jump, Orderly};
+ghost use Rattle.sp_match.specs.Nets.{at, is_byte, Orderly};
 ghost use Rattle.sp_match.specs.Running.{is_ahead, IsClosed, IsNext};
 ghost use Rattle.sp_match.specs.Tables.{reads_byte as byte_is_read, AreReaders, next_of, AreNexts, AreGoals, IsMachineOf, goal_found, preferred, best_of};
 
@@ -15,6 +15,7 @@ use crate::bits::{clear, contains, lowest, meets, none, put_if, without, word_of
 use crate::byte_classes::{ByteClasses, byte_classes, reads_byte};
 use crate::run::{add_all, close};
 use crate::spot::Spot;
+use crate::word_jumps::{WordJump, all_jumps};
 use sp_base::NoMemory;
 use std::alloc::Global;
 
@@ -37,10 +38,9 @@ pub struct Machine {
     /// The spots that read a byte.
     pub(crate) bytes: Vec<u64>,
     /// For each spot the one to which it leads by a byte.
-    pub(crate) nexts: Vec<usize>,
-    /// The spots that jump.
-    pub(crate) jumps: Vec<u64>,
-    pub(crate) net: Vec<Spot>,
+    pub(crate) nexts: Vec<u32>,
+    /// For each word the jumps of its spots.
+    pub(crate) jumps: Vec<Vec<WordJump>>,
     pub(crate) goals: Vec<Goal>,
 }
 
@@ -93,44 +93,32 @@ fn byte_spots(alloc: Global, net: &[Spot], words: usize) -> Result<Vec<u64>, NoM
     Ok(set)
 }
 
-/// Whether a spot jumps.
-fn is_jumper(spot: &Spot) -> bool
-    ensures { result ≡ is_jump spot.now }
-{
-    matches!(spot, Spot::Jump(_))
-}
-
-/// The spots that jump.
-fn jump_spots(alloc: Global, net: &[Spot], words: usize) -> Result<Vec<u64>, NoMemory>
-    requires { length net.now ≤ 64 * words }
-    ensures { IfOk result (λ set. (p : ℕ) → holds set.items p ≡ is_jump (at net.now p)) }
-{
-    let mut set = none(alloc, words)?;
-    for i in 0..net.len() {
-        put_if(&mut set, i, is_jumper(&net[i]));
-    }
-    Ok(set)
-}
-
 /// The spot to which a spot of an automaton of so many spots leads by a byte; 0 where there is none.
-fn next_spot(spot: &Spot, spots: usize) -> usize
+fn next_spot(spot: &Spot, spots: u32) -> u32
     ensures next { next_of spot.now < spots → result ≡ next_of spot.now }
     ensures within { result ≤ spots }
 {
     match spot {
-        Spot::Byte { next, .. } => { if *next < spots { *next } else { 0 } }
+        Spot::Byte { next, .. } => {
+            if *next < spots as usize {
+                *next as u32
+            } else {
+                0
+            }
+        }
         _ => 0,
     }
 }
 
 /// For each spot the one to which it leads by a byte.
-fn all_nexts(alloc: Global, net: &[Spot]) -> Result<Vec<usize>, NoMemory>
+fn all_nexts(alloc: Global, net: &[Spot]) -> Result<Vec<u32>, NoMemory>
     ensures nexts { IfOk result (λ nexts. AreNexts net.now nexts.items) }
     ensures within { IfOk result (λ nexts. (p : ℕ) → led nexts.items p ≤ length net.now) }
 {
-    let mut nexts = Vec::new(alloc);
+    let spots = u32::try_from(net.len()).map_err(|_| NoMemory)?;
+    let mut nexts = Vec::with_capacity(alloc, net.len())?;
     for i in 0..net.len() {
-        nexts.push(next_spot(&net[i], net.len()))?;
+        nexts.push(next_spot(&net[i], spots))?;
     }
     Ok(nexts)
 }
@@ -173,14 +161,18 @@ fn all_goals(alloc: Global, net: &[Spot]) -> Result<Vec<Goal>, NoMemory>
 }
 
 /// The spot to which one leads; behind the end it is 0.
-fn next_at(nexts: &Vec<usize>, spot: usize) -> usize
+fn next_at(nexts: &Vec<u32>, spot: usize) -> usize
     ensures { result ≡ led nexts.now.items spot }
 {
-    if spot < nexts.len() { nexts[spot] } else { 0 }
+    if spot < nexts.len() {
+        nexts[spot] as usize
+    } else {
+        0
+    }
 }
 
 /// Adds the spot to which one leads.
-fn step_spot(nexts: &Vec<usize>, word: usize, bit: u32, next: &mut Vec<u64>)
+fn step_spot(nexts: &Vec<u32>, word: usize, bit: u32, next: &mut Vec<u64>)
     requires { bit < 64 }
     ensures spots { LeadsWithin nexts.now.items (length next.old.items) → (q : ℕ)
         → holds next.new.items q
@@ -196,7 +188,7 @@ fn step_spot(nexts: &Vec<usize>, word: usize, bit: u32, next: &mut Vec<u64>)
 }
 
 /// Adds the spots to which those of one word lead.
-fn step_word(nexts: &Vec<usize>, word: usize, spots: u64, next: &mut Vec<u64>)
+fn step_word(nexts: &Vec<u32>, word: usize, spots: u64, next: &mut Vec<u64>)
     ensures step { LeadsWithin nexts.now.items (length next.old.items)
         → IsWordStep nexts.now.items word spots (holds next.old.items) (holds next.new.items) }
     ensures len { length next.new.items ≡ length next.old.items }
@@ -210,7 +202,7 @@ fn step_word(nexts: &Vec<usize>, word: usize, spots: u64, next: &mut Vec<u64>)
 }
 
 /// The spots to which the live ones lead that read the byte.
-fn step_by(live: &Vec<u64>, readers: &Vec<u64>, nexts: &Vec<usize>, next: &mut Vec<u64>)
+fn step_by(live: &Vec<u64>, readers: &Vec<u64>, nexts: &Vec<u32>, next: &mut Vec<u64>)
     ensures step { LeadsWithin nexts.now.items (length next.old.items)
         → IsStep (holds live.now.items) (holds readers.now.items) nexts.now.items
         (holds next.new.items) }
@@ -265,16 +257,16 @@ fn best_goal(goals: &Vec<Goal>, live: &Vec<u64>) -> Option<(u32, bool)>
 
 impl Machine {
     /// The machine of an automaton.
-    pub fn of_net(alloc: Global, net: Vec<Spot>) -> Result<Machine, NoMemory>
-        ensures { IfOk result (λ m. Orderly net.items → IsMachineOf net.items m) }
+    pub fn of_net(alloc: Global, net: &[Spot]) -> Result<Machine, NoMemory>
+        ensures { IfOk result (λ m. Orderly net.now → IsMachineOf net.now m) }
     {
         let words = net.len() / 64 + 1;
-        let classes = byte_classes(alloc, &net)?;
-        let readers = all_readers(alloc, &net, &classes.firsts, words)?;
-        let bytes = byte_spots(alloc, &net, words)?;
-        let jumps = jump_spots(alloc, &net, words)?;
-        let nexts = all_nexts(alloc, &net)?;
-        let goals = all_goals(alloc, &net)?;
+        let classes = byte_classes(alloc, net)?;
+        let readers = all_readers(alloc, net, &classes.firsts, words)?;
+        let bytes = byte_spots(alloc, net, words)?;
+        let jumps = all_jumps(alloc, net)?;
+        let nexts = all_nexts(alloc, net)?;
+        let goals = all_goals(alloc, net)?;
         Ok(Machine {
             words,
             classes,
@@ -282,20 +274,20 @@ impl Machine {
             bytes,
             nexts,
             jumps,
-            net,
             goals,
         })
     }
 
     /// The set of these spots, and of all to which they jump.
     pub fn start(&self, alloc: Global, spots: &[usize]) -> Result<Vec<u64>, NoMemory>
-        ensures closed { (net : List NetSpot) → IsMachineOf net self.now → Below spots.now (length net)
+        ensures closed { (net : List NetSpot) → IsMachineOf net self.now
+            → Below spots.now (length net)
             → IfOk result (λ set. IsClosed net (has spots.now) (holds set.items)) }
         ensures len { IfOk result (λ set. length set.items ≡ self.now.words) }
     {
         let mut set = none(alloc, self.words)?;
         add_all(&mut set, spots);
-        close(&self.net, &self.jumps, &mut set);
+        close(&self.jumps, &mut set);
         Ok(set)
     }
 
@@ -334,7 +326,7 @@ impl Machine {
         ensures len { length next.new.items ≡ length next.old.items }
     {
         self.step_class(live, class, next);
-        close(&self.net, &self.jumps, next);
+        close(&self.jumps, next);
     }
 
     /// The best live goal: the number of its member, and whether that is a literal.

@@ -46,7 +46,8 @@ pub fn put(set: &mut Vec<usize>, spot: usize) -> Result<(), NoMemory>
 
 /// Adds the spots of another set.
 pub fn join(set: &mut Vec<usize>, more: &[usize]) -> Result<(), NoMemory>
-    ensures { OnOk result ((p : ℕ) → has set.new.items p ≡ (has set.old.items p || has more.now p)) }
+    ensures { OnOk result ((p : ℕ) → has set.new.items p
+        ≡ (has set.old.items p || has more.now p)) }
 {
     for i in 0..more.len() {
         put(set, more[i])?;

@@ -74,7 +74,8 @@ impl States {
         ensures states { (net : List Spot) → IsMachineOf net machine.now
             → length set.items ≡ machine.now.words
             → IsStates net machine.now.words self.old.sets.items self.old.acceptances.items
-            → OnOk result (IsStates net machine.now.words self.new.sets.items self.new.acceptances.items
+            → OnOk result (IsStates net machine.now.words
+            self.new.sets.items self.new.acceptances.items
             × AreKept self.old.sets.items self.new.sets.items
             × (length self.new.sets.items ≡ length self.old.sets.items + 1)
             × (row self.new.sets.items (length self.old.sets.items) ≡ set.items)) }
@@ -267,7 +268,7 @@ impl Table {
 /// For how many states there is room.
 fn room_of(machine: &Machine) -> u32 {
     let classes = machine.classes.firsts.len();
-    let most = machine.net.len().saturating_mul(4).saturating_add(256);
+    let most = machine.nexts.len().saturating_mul(4).saturating_add(256);
     if classes == 0 || machine.words == 0 {
         return 1;
     }

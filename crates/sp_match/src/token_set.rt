@@ -113,8 +113,8 @@ fn add_token(
 }
 
 /// The set whose automaton begins at these spots.
-fn set_of_net(alloc: Global, net: Vec<Spot>, start: &[usize]) -> Result<TokenSet, NoMemory>
-    ensures { (tokens : List Syntax) → IsNetOf tokens net.items start.now
+fn set_of_net(alloc: Global, net: &[Spot], start: &[usize]) -> Result<TokenSet, NoMemory>
+    ensures { (tokens : List Syntax) → IsNetOf tokens net.now start.now
         → IfOk result (λ set. IsSetOf set tokens) }
 {
     let machine = Machine::of_net(alloc, net)?;
@@ -134,7 +134,7 @@ fn build_net(alloc: Global, tokens: &[Regex]) -> Result<TokenSet, NoMemory>
     for i in 0..tokens.len() {
         add_token(alloc, &mut net, &mut start, &tokens[i], i as u32)?;
     }
-    let set = set_of_net(alloc, net, &start)?;
+    let set = set_of_net(alloc, &net, &start)?;
     Ok(set)
 }
 

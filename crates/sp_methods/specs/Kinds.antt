@@ -5,11 +5,12 @@ use Rattle.sp_numbers.specs.declared.width.Width.{Width}
 use Rattle.sp_value.specs.Val.{Val, void, bool, uint, int, bytes, str, enum, bits, tuple, vector, set, map, unit, place, vals_of, entries_of}
 
 mutual
-  -- an integer's kind has no width, since no operator and no method asks for one; an enum and a unit have the number of their
-  -- type, and a bitfield has also how many named ranges there are
+  -- an integer's kind has no width, since no operator and no method asks for one; `Only` has one unsigned number, so that the
+  -- member of a tuple at it has one kind; an enum and a unit have the number of their type, and a bitfield has also how many named
+  -- ranges there are
   pub data Kind : Type 0 where
     Void Bools Unsigned Signed Bytes Text Iterator : Kind
-    EnumOf UnitOf : ℕ → Kind
+    Only EnumOf UnitOf : ℕ → Kind
     BitsOf : ℕ → ℕ → Kind
     TupleOf : Kinds → Kind
     VectorOf SetOf : Kind → Kind
@@ -22,6 +23,11 @@ mutual
 abbrev pub kinds_of : List Kind → Kinds
 kinds_of [] = no_kinds
 kinds_of (k ∷ ks) = kind_and k (kinds_of ks)
+
+-- an instance of a unit, among instances of these units; a local that has had no value yet is void
+pub data IsUnit (units : List ℕ) (u : ℕ) (v : Val) : Type 0 where
+  nowhere : v ≡ void → IsUnit units u v
+  somewhere : (n : ℕ) → v ≡ unit n → slice_get units n ≡ Some u → IsUnit units u v
 
 -- over the number of its unit for each instance
 module _ (units : List ℕ) where
@@ -36,7 +42,8 @@ module _ (units : List ℕ) where
     Has Text v = (b : List ℕ) × (v ≡ str b)
     Has Iterator v = (n : ℕ) × (v ≡ place n)
     Has (EnumOf k) v = (n : ℕ) × (v ≡ enum k n)
-    Has (UnitOf u) v = (n : ℕ) × (v ≡ unit n) × (slice_get units n ≡ Some u)
+    Has (UnitOf u) v = IsUnit units u v
+    Has (Only k) v = (w : Width) × (v ≡ uint w k)
     Has (BitsOf k count) v = (ns : List ℕ) × (v ≡ bits k ns) × (length ns ≡ count)
     Has (TupleOf ks) v = (vs : List Val) × (v ≡ tuple (vals_of vs)) × HasEach ks vs
     Has (VectorOf k) v = (vs : List Val) × (v ≡ vector (vals_of vs)) × AllByRecursion (Has k) vs

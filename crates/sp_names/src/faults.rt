@@ -309,7 +309,8 @@ impl<'a> Names<'a> {
         least: &mut Option<Fault>,
     ) -> Result<(), NoMemory>
         ensures { OnOk result (least.new
-            ≡ checked least.old (faults_among self.now (told known.now) owner (trees parts.entry))) }
+            ≡ checked least.old
+            (faults_among self.now (told known.now) owner (trees parts.entry))) }
     {
         for tree in parts {
             self.note_tree(alloc, known, owner, &tree, least)?;

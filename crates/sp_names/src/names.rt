@@ -34,7 +34,8 @@ pub struct Names<'a> {
 impl<'a> Model for Names<'a> {
     ghost use Rattle.std.specs.Prelude.{List};
     ghost use Rattle.std.specs.Coded.{codes, coded_list};
-    ghost use Rattle.sp_ast.specs.Trees.{Tree as Data, coded_tree};
+    ghost use Rattle.sp_ast.specs.Trees.{Tree as Data};
+    ghost use Rattle.sp_ast.specs.inside.TreeCodes.{coded_tree};
     ghost use Rattle.sp_names.specs.Tables.{AreTables};
 
     ghost Value = { List Data };
@@ -43,7 +44,8 @@ impl<'a> Model for Names<'a> {
 
     ghost view = { λ n. n.modules.now };
 
-    ghost invariant = { λ n. AreTables n.modules.now n.rows.items n.numbers.items n.sorted n.names.items n.by_name n.labels.items n.bits.items n.places.items };
+    ghost invariant = { λ n. AreTables n.modules.now n.rows.items n.numbers.items n.sorted
+        n.names.items n.by_name n.labels.items n.bits.items n.places.items };
 }
 
 /// The place of a byte order, a bit order, a charset, and a strategy among those of the library.

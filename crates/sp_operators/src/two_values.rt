@@ -33,7 +33,8 @@ fn with_text(a: &Value, more: &str) -> Result<Value, NoMemory>
 
 /// The answer of a call that joins two values.
 fn joined(found: Result<Value, NoMemory>) -> Result<Value, ValueFault>
-    ensures { MatchResult found (λ value. result ≡ Ok value) (λ _. result ≡ Err ValueFault.NoMemory) }
+    ensures { MatchResult found (λ value. result ≡ Ok value)
+        (λ _. result ≡ Err ValueFault.NoMemory) }
 {
     match found {
         Ok(value) => Ok(value),

@@ -93,7 +93,8 @@ fn put_part(
     layout: PartLayout,
     tree: &TreeRef<'_>,
 ) -> Result<(), NoMemory>
-    ensures { OnOk result (writer.new ≡ write (part form.now layout (part_of tree.now)) writer.old) }
+    ensures { OnOk result (writer.new
+        ≡ write (part form.now layout (part_of tree.now)) writer.old) }
 {
     match layout {
         PartLayout::One(place) => put_at(

@@ -60,7 +60,8 @@ impl Model for Ranges {
 
     ghost view = { λ r. r.items.items };
 
-    ghost invariant = { λ r. (k : ℕ) → k < 256 → slice_index_or r.covered k false ≡ is_covered r.items.items k };
+    ghost invariant = { λ r. (k : ℕ) → k < 256 → slice_index_or r.covered k false
+        ≡ is_covered r.items.items k };
 }
 
 impl Ranges {

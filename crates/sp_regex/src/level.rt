@@ -19,7 +19,7 @@ impl Model for Level {
     ghost use Rattle.sp_regex.specs.Trees.{sequence, alternatives};
     ghost use Rattle.sp_regex.specs.Levels.{Opened, opened};
     ghost use Rattle.std.specs.Coded.{codes};
-    ghost use Rattle.sp_regex.specs.Trees.{coded_syntax};
+    ghost use Rattle.sp_regex.specs.inside.SyntaxCodes.{coded_syntax};
 
     ghost Value = { Opened };
 
@@ -40,7 +40,8 @@ impl Level {
 
     /// One piece more.
     pub fn push(&mut self, piece: Regex) -> Result<(), NoMemory>
-        ensures { OnOk result (self.new ≡ opened self.old.earlier (followed self.old.pieces piece)) }
+        ensures { OnOk result (self.new
+            ≡ opened self.old.earlier (followed self.old.pieces piece)) }
     {
         self.pieces.push(piece)?;
         Ok(())

@@ -51,7 +51,7 @@ impl Model for Reader {
     ghost use Rattle.std.specs.Prelude.{reverse};
     ghost use Rattle.sp_regex.specs.Machine.{State, state};
     ghost use Rattle.std.specs.Coded.{codes};
-    ghost use Rattle.sp_regex.specs.Trees.{coded_syntax};
+    ghost use Rattle.sp_regex.specs.inside.SyntaxCodes.{coded_syntax};
 
     ghost Value = { State };
 

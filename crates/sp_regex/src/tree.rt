@@ -55,7 +55,8 @@ pub(crate) struct Class {
 }
 
 impl Model for Regex {
-    ghost use Rattle.sp_regex.specs.Trees.{Syntax, coded_syntax, syntax_size};
+    ghost use Rattle.sp_regex.specs.Trees.{Syntax, syntax_size};
+    ghost use Rattle.sp_regex.specs.inside.SyntaxCodes.{coded_syntax};
 
     ghost Value = { Syntax };
 

@@ -18,5 +18,6 @@ pub fn least_of_checked()
 /// theirs is broken.
 pub fn least_of_groups()
     ensures { (k : ℕ) (cs : List (Bool × Fault))
-        → IsLeast (λ f. Among cs (true, f) × (rule_group f.rule ≤ k)) (of_groups k (checked None cs)) }
+        → IsLeast (λ f. Among cs (true, f) × (rule_group f.rule ≤ k))
+        (of_groups k (checked None cs)) }
 {}

@@ -53,12 +53,15 @@ pub trait Questions {
     ghost fair: { (q : Self) → IsFair (tries q) };
 
     // Where there is no question, nothing is answered; and no question waits for one that there isn't.
-    ghost outside: { (q : Self) (f : ℕ → Option Self.Answer) (i : ℕ) → amount q ≤ i → f i ≡ None → (j : ℕ) × (tries q f i ≡ Waits j) };
+    ghost outside: { (q : Self) (f : ℕ → Option Self.Answer) (i : ℕ) → amount q ≤ i
+        → f i ≡ None → (j : ℕ) × (tries q f i ≡ Waits j) };
 
-    ghost inside: { (q : Self) (f : ℕ → Option Self.Answer) (i j : ℕ) → i < amount q → tries q f i ≡ Waits j → j < amount q };
+    ghost inside: { (q : Self) (f : ℕ → Option Self.Answer) (i j : ℕ) → i < amount q
+        → tries q f i ≡ Waits j → j < amount q };
 
     // A cursor begins at 0, and stays right where more is known.
     ghost at_first: { (q : Self) (f : ℕ → Option Self.Answer) (i : ℕ) → ready q f i 0 };
 
-    ghost later: { (q : Self) (f g : ℕ → Option Self.Answer) (i m : ℕ) → Within f g → ready q f i m → ready q g i m };
+    ghost later: { (q : Self) (f g : ℕ → Option Self.Answer) (i m : ℕ) → Within f g
+        → ready q f i m → ready q g i m };
 }

@@ -4,7 +4,6 @@ pub mod Heights
 pub mod ExprViews
 pub mod ExprLevels
 pub mod Stmts
-pub mod StmtCodes
 pub mod StmtViews
 pub mod StmtNodes
 pub mod inside

@@ -1,3 +1,4 @@
 pub mod ExprCodes
 pub mod ExprFalls
 pub mod StmtFalls
+pub mod StmtCodes

@@ -62,7 +62,9 @@ impl Model for Expr {
 
     ghost Value = { Data };
 
-    ghost coded = { coded_expr (Prim.hlevel (codes, type_row.the_row.coded)) (Prim.hlevel (codes, type_row.the_row.coded)) (Prim.hlevel (codes, type_row.the_row.coded)) (Prim.hlevel (codes, type_row.the_row.coded)) (Prim.hlevel (codes, type_row.the_row.coded)) };
+    ghost coded = { coded_expr (Prim.hlevel (codes, type_row.the_row.coded))
+        (Prim.hlevel (codes, type_row.the_row.coded)) (Prim.hlevel (codes, type_row.the_row.coded))
+        (Prim.hlevel (codes, type_row.the_row.coded)) (Prim.hlevel (codes, type_row.the_row.coded)) };
 
     ghost use Rattle.sp_typed.specs.ExprViews.{expr_of};
     ghost use Rattle.sp_typed.specs.Heights.{height, most_levels};

@@ -42,11 +42,13 @@ impl Model for Stmt {
     ghost use Rattle.sp_types.specs.contracts.types.Type as type_row;
     ghost use Rattle.sp_typed.specs.contracts.exprs.Expr as expr_row;
     ghost use Rattle.sp_typed.specs.Stmts.{Stmt as Data};
-    ghost use Rattle.sp_typed.specs.StmtCodes.{stmt_size, coded_stmt};
+    ghost use Rattle.sp_typed.specs.inside.StmtCodes.{stmt_size, coded_stmt};
 
     ghost Value = { Data };
 
-    ghost coded = { coded_stmt (Prim.hlevel (codes, type_row.the_row.coded)) (Prim.hlevel (codes, type_row.the_row.coded)) (Prim.hlevel codes) (Prim.hlevel codes) (Prim.hlevel (codes, type_row.the_row.coded)) expr_row.the_row.coded };
+    ghost coded = { coded_stmt (Prim.hlevel (codes, type_row.the_row.coded))
+        (Prim.hlevel (codes, type_row.the_row.coded)) (Prim.hlevel codes) (Prim.hlevel codes)
+        (Prim.hlevel (codes, type_row.the_row.coded)) expr_row.the_row.coded };
 
     ghost use Rattle.sp_typed.specs.StmtViews.{stmt_of};
     ghost use Rattle.sp_typed.specs.Heights.{stmt_height, most_levels};

@@ -65,7 +65,9 @@ impl Model for Part {
 
     ghost Value = { Data };
 
-    ghost coded = { coded_part (Prim.hlevel (codes, type_row.the_row.coded, expr_row.the_row.coded, spec_row.the_row.coded)) (Prim.hlevel (codes, expr_row.the_row.coded)) (Prim.hlevel codes) expr_row.the_row.coded };
+    ghost coded = { coded_part
+        (Prim.hlevel (codes, type_row.the_row.coded, expr_row.the_row.coded, spec_row.the_row.coded))
+        (Prim.hlevel (codes, expr_row.the_row.coded)) (Prim.hlevel codes) expr_row.the_row.coded };
 
     ghost use Rattle.sp_typed_units.specs.PartViews.{part_of};
 

@@ -77,7 +77,8 @@ impl Model for Spec {
 
     ghost Value = { Data };
 
-    ghost coded = { coded_spec (Prim.hlevel (codes, type_row.the_row.coded)) (Prim.hlevel codes) (Prim.hlevel codes) expr_row.the_row.coded (Prim.hlevel (codes, expr_row.the_row.coded)) };
+    ghost coded = { coded_spec (Prim.hlevel (codes, type_row.the_row.coded)) (Prim.hlevel codes)
+        (Prim.hlevel codes) expr_row.the_row.coded (Prim.hlevel (codes, expr_row.the_row.coded)) };
 
     ghost use Rattle.sp_typed_units.specs.SpecViews.{spec_of};
     ghost use Rattle.sp_typed_units.specs.SpecHeights.{spec_height};

@@ -27,6 +27,13 @@ impl<T: Drop> Row<T> {
         }
     }
 
+    /// The items of a vector, moved.
+    pub fn from_vec(items: Vec<T>) -> Row<T>
+        ensures { result ≡ items.items }
+    {
+        Row { items }
+    }
+
     /// One more at the end, or no change.
     pub fn push(&mut self, item: T) -> Result<(), NoMemory>
         ensures ok { OnOk result (self.new ≡ self.old ++ item ∷ []) }

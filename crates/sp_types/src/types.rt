@@ -57,7 +57,8 @@ impl Model for Type {
 
     ghost view = { λ t. ty_of t.node };
 
-    ghost invariant = { λ t. (t.size ≡ written (ty_of t.node)) × (t.size ≤ most_written) × (t.whole ≡ is_known (ty_of t.node)) × (t.simple ≡ is_plain (ty_of t.node)) };
+    ghost invariant = { λ t. (t.size ≡ written (ty_of t.node)) × (t.size ≤ most_written)
+        × (t.whole ≡ is_known (ty_of t.node)) × (t.simple ≡ is_plain (ty_of t.node)) };
 
     ghost size = { ty_size };
 

@@ -216,7 +216,8 @@ fn method_of<C: Context>(
     object: Expr,
     list: Vec<Expr>,
 ) -> Result<Expr, NoMemory>
-    ensures { IfOk result (λ e. e ≡ method_found (C.around context.now) span method object list.items) }
+    ensures { IfOk result (λ e. e
+        ≡ method_found (C.around context.now) span method object list.items) }
 {
     let receiver = seen(&object)?;
     let given = list.len();

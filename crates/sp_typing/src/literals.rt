@@ -49,7 +49,7 @@ fn can_take(to: Word, negative: bool, n: u64) -> bool
 }
 
 /// A literal with the type of its place, where it can take that.
-pub(crate) fn taken(to: &Type, e: Expr) -> Expr
+pub fn taken(to: &Type, e: Expr) -> Expr
     ensures { result ≡ taken to.now e }
 {
     match to.level() {

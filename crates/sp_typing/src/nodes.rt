@@ -79,7 +79,7 @@ fn widened(alloc: Global, to: &Type, e: Expr) -> Result<Expr, NoMemory>
 }
 
 /// What goes to a target: a literal takes its type, and a value of a narrower type stands in a node that widens it.
-pub(crate) fn to_target(alloc: Global, to: &Type, e: Expr) -> Result<Expr, NoMemory>
+pub fn to_target(alloc: Global, to: &Type, e: Expr) -> Result<Expr, NoMemory>
     ensures { IfOk result (λ r. r ≡ to_target to.now e) }
 {
     widened(alloc, to, taken(to, e))

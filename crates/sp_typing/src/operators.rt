@@ -178,7 +178,7 @@ fn has_keys(t: &Type) -> bool
 }
 
 /// The first of some types.
-pub(crate) fn first_type(parts: &[Type]) -> Result<Type, NoMemory>
+pub fn first_type(parts: &[Type]) -> Result<Type, NoMemory>
     ensures { IfOk result (λ t. t ≡ first_type (tys parts.now)) }
 {
     match parts.first() {

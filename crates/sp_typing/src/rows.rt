@@ -162,7 +162,8 @@ pub(crate) fn tuple_at(alloc: Global, span: Span, list: Vec<Expr>) -> Result<Exp
     many_at(span, ty, ManyOp::Tuple, list)
 }
 
-fn to_maybe(alloc: Global, to: &Option<Type>, e: Expr) -> Result<Expr, NoMemory>
+/// What goes to a target, if there is one.
+pub fn to_maybe(alloc: Global, to: &Option<Type>, e: Expr) -> Result<Expr, NoMemory>
     ensures { IfOk result (λ r. r ≡ to_maybe to.now e) }
 {
     match to {

@@ -16,7 +16,8 @@ fn append_to(list: &mut Rc<Vec<u8>>, more: &[u8]) -> Result<(), NoMemory>
 }
 
 fn append_text_to(text: &mut Rc<String>, more: &str) -> Result<(), NoMemory>
-    ensures ok { OnOk result (string_bytes text.new.value ≡ string_bytes text.old.value ++ more.now) }
+    ensures ok { OnOk result (string_bytes text.new.value
+        ≡ string_bytes text.old.value ++ more.now) }
     ensures err { OnErr result (string_bytes text.new.value ≡ string_bytes text.old.value) }
 {
     let own = Rc::make_mut(text)?;

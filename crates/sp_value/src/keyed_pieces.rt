@@ -77,9 +77,11 @@ fn halve<T: Keyed>(pieces: &mut Vec<Rc<Vec<T>>>, c: usize)
 /// The first piece.
 fn put_first<T: Keyed>(pieces: &mut Vec<Rc<Vec<T>>>, item: T) -> Result<bool, NoMemory>
     requires { length pieces.old.items ≡ 0 }
-    ensures ok { OnOk result (all_in pieces.new.items ≡ with_key T.key item (all_in pieces.old.items)) }
+    ensures ok { OnOk result (all_in pieces.new.items
+        ≡ with_key T.key item (all_in pieces.old.items)) }
     ensures grows { IfOk result (λ new. length (all_in pieces.new.items) ≡
-        (if new then suc (length (all_in pieces.old.items)) else length (all_in pieces.old.items))) }
+        (if new then suc (length (all_in pieces.old.items))
+        else length (all_in pieces.old.items))) }
     ensures err { OnErr result (all_in pieces.new.items ≡ all_in pieces.old.items) }
     ensures none_empty { NoneEmpty pieces.new.items }
 {
@@ -94,9 +96,11 @@ fn put_in_piece<T: Keyed>(pieces: &mut Vec<Rc<Vec<T>>>, c: usize, item: T) -> Re
     requires pieces { ArePieces T.key pieces.old.items }
     requires within { c < length pieces.old.items }
     requires place { IsIn T.key (T.key item) pieces.old.items c }
-    ensures ok { OnOk result (all_in pieces.new.items ≡ with_key T.key item (all_in pieces.old.items)) }
+    ensures ok { OnOk result (all_in pieces.new.items
+        ≡ with_key T.key item (all_in pieces.old.items)) }
     ensures grows { IfOk result (λ new. length (all_in pieces.new.items) ≡
-        (if new then suc (length (all_in pieces.old.items)) else length (all_in pieces.old.items))) }
+        (if new then suc (length (all_in pieces.old.items))
+        else length (all_in pieces.old.items))) }
     ensures err { OnErr result (all_in pieces.new.items ≡ all_in pieces.old.items) }
     ensures none_empty { NoneEmpty pieces.new.items }
     ensures pieces { length pieces.new.items ≡ length pieces.old.items }
@@ -107,9 +111,11 @@ fn put_in_piece<T: Keyed>(pieces: &mut Vec<Rc<Vec<T>>>, c: usize, item: T) -> Re
 /// Puts an item in, in place of what has its key, and answers whether its key is new.
 pub(crate) fn put_item<T: Keyed>(pieces: &mut Vec<Rc<Vec<T>>>, item: T) -> Result<bool, NoMemory>
     requires { ArePieces T.key pieces.old.items }
-    ensures ok { OnOk result (all_in pieces.new.items ≡ with_key T.key item (all_in pieces.old.items)) }
+    ensures ok { OnOk result (all_in pieces.new.items
+        ≡ with_key T.key item (all_in pieces.old.items)) }
     ensures grows { IfOk result (λ new. length (all_in pieces.new.items) ≡
-        (if new then suc (length (all_in pieces.old.items)) else length (all_in pieces.old.items))) }
+        (if new then suc (length (all_in pieces.old.items))
+        else length (all_in pieces.old.items))) }
     ensures err { OnErr result (all_in pieces.new.items ≡ all_in pieces.old.items) }
     ensures none_empty { NoneEmpty pieces.new.items }
 {
@@ -130,9 +136,11 @@ fn take_in_piece<T: Keyed>(
     requires pieces { ArePieces T.key pieces.old.items }
     requires within { c < length pieces.old.items }
     requires place { IsIn T.key key.now pieces.old.items c }
-    ensures ok { OnOk result (all_in pieces.new.items ≡ without T.key key.now (all_in pieces.old.items)) }
+    ensures ok { OnOk result (all_in pieces.new.items
+        ≡ without T.key key.now (all_in pieces.old.items)) }
     ensures shrinks { IfOk result (λ took. length (all_in pieces.old.items) ≡
-        (if took then suc (length (all_in pieces.new.items)) else length (all_in pieces.new.items))) }
+        (if took then suc (length (all_in pieces.new.items))
+        else length (all_in pieces.new.items))) }
     ensures err { OnErr result (all_in pieces.new.items ≡ all_in pieces.old.items) }
     ensures none_empty { NoneEmptyBut c pieces.new.items }
     ensures pieces { length pieces.new.items ≡ length pieces.old.items }
@@ -146,9 +154,11 @@ pub(crate) fn take_key<T: Keyed>(
     key: &Value,
 ) -> Result<bool, NoMemory>
     requires { ArePieces T.key pieces.old.items }
-    ensures ok { OnOk result (all_in pieces.new.items ≡ without T.key key.now (all_in pieces.old.items)) }
+    ensures ok { OnOk result (all_in pieces.new.items
+        ≡ without T.key key.now (all_in pieces.old.items)) }
     ensures shrinks { IfOk result (λ took. length (all_in pieces.old.items) ≡
-        (if took then suc (length (all_in pieces.new.items)) else length (all_in pieces.new.items))) }
+        (if took then suc (length (all_in pieces.new.items))
+        else length (all_in pieces.new.items))) }
     ensures err { OnErr result (all_in pieces.new.items ≡ all_in pieces.old.items) }
     ensures none_empty { NoneEmpty pieces.new.items }
 {

@@ -83,7 +83,8 @@ fn swap_in_map(
     ensures err { OnErr result (all_in pieces.new.value.items ≡ all_in pieces.old.value.items) }
     ensures kept { OnErr result (x.new ≡ x.old) }
     ensures pieces { ArePieces entry_key pieces.new.value.items }
-    ensures length { length (all_in pieces.new.value.items) ≡ length (all_in pieces.old.value.items) }
+    ensures length { length (all_in pieces.new.value.items)
+        ≡ length (all_in pieces.old.value.items) }
 {
     own_pieces(pieces)?;
     match Rc::get_mut(pieces) {

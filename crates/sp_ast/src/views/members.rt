@@ -132,10 +132,12 @@ where
     F: Member<'a>,
     G: Member<'a>,
     requires { fill (slot_is.Part A.sort ∷ slot_is.Part B.sort ∷ slot_is.Part C.sort
-        ∷ slot_is.Part D.sort ∷ slot_is.Part E.sort ∷ slot_is.Part F.sort ∷ slot_is.Part G.sort ∷ [])
+        ∷ slot_is.Part D.sort ∷ slot_is.Part E.sort ∷ slot_is.Part F.sort
+        ∷ slot_is.Part G.sort ∷ [])
         (trees parts.now) ≡ true }
     ensures { parts.now ≡ A.stands result.0.0 ∷ B.stands result.0.1 ∷ C.stands result.0.2
-        ∷ D.stands result.1.0 ∷ E.stands result.1.1 ∷ F.stands result.1.2 ∷ G.stands result.1.3 ∷ [] }
+        ∷ D.stands result.1.0 ∷ E.stands result.1.1 ∷ F.stands result.1.2
+        ∷ G.stands result.1.3 ∷ [] }
 {
     let (a, behind_a) = first(parts);
     let (b, behind_b) = first(&behind_a);

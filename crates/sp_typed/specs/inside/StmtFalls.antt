@@ -5,7 +5,7 @@ use Rattle.std.specs.declared.vec.Vec.{Vec}
 use denote.Param.Weighed.{most}
 use Rattle.sp_typed.specs.Exprs.{Expr}
 use Rattle.sp_typed.specs.Stmts.{Stmt, stmts, branch_row, case_row}
-use Rattle.sp_typed.specs.StmtCodes.{stmt_size, stmts_size, branches_size, cases_size}
+use Rattle.sp_typed.specs.inside.StmtCodes.{stmt_size, stmts_size, branches_size, cases_size}
 use Rattle.sp_typed.specs.StmtViews.{stmt_of}
 use Rattle.sp_typed.specs.declared.stmts.StmtNode.{StmtNode}
 use Rattle.sp_typed.specs.declared.stmts.StmtNode.TheVariants as node_is

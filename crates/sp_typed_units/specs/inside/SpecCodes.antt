@@ -5,7 +5,7 @@ use base.Stored.{Gv, gnil, gnum, gcons}
 use Rattle.std.proofs.Common.{ap}
 use Rattle.sp_base.specs.declared.places.Span.{Span}
 use Rattle.sp_typed.specs.Exprs.{Expr}
-use Rattle.sp_typed.specs.StmtCodes.{row_code, row_inj}
+use Rattle.sp_typed.specs.inside.StmtCodes.{row_code, row_inj}
 use Rattle.sp_typed_units.specs.declared.attributes.Attribute.{Attribute}
 use Rattle.sp_typed_units.specs.declared.readings.Reading.{Reading}
 use Rattle.sp_typed_units.specs.declared.readings.UnitOf.{UnitOf}

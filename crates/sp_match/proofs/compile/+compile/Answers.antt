@@ -2,10 +2,10 @@ use Rattle.std.proofs.Common.{rules, ◌≡◌, ℕ, ◌-◌, ◌==◌, ◌||◌
 use Rattle.sp_regex.specs.Trees.{repeat, followed}
 use Rattle.sp_regex.specs.Language.{InL}
 use Rattle.sp_match.specs.Sets.{has}
-use Rattle.sp_match.specs.Parts.{IsCompiled, IsChain, in_row, copies}
+use Rattle.sp_match.specs.Parts.{IsCompiled, IsChain, Many, in_row, copies}
 use Rattle.sp_match.proofs.Compiling.{only, only_one, only_same}
 use Rattle.sp_match.proofs.Lists.{or_swap}
-use Rattle.sp_match.proofs.Growing.{chain_front, chain_dead}
+use Rattle.sp_match.proofs.Growing.{chain_front, chain_dead, is_same}
 use Rattle.sp_match.proofs.Steps.{in_order_step, in_order_done, in_order_size, one_of_step, one_of_size, copies_more, up_to_begin, up_to_step, bounded_done, many_syntax, many_chain, unbounded_done, IsMany, many_done}
 use Rattle.sp_match.proofs.compile.+compile.Goals as goal
 
@@ -106,7 +106,7 @@ pub many-returns : goal.many-returns
 many-returns t c =
     let spot : c.len-spot.result ≡ length c.args.net.now.items = search rules in
     let then = c.args.then in
-    let m : IsMany (InL c.args.part.now) (then ∷ []) (c.len-spot.result ∷ []) c.in_ok-entry.entry.items c.in_ok-to.to c.len-spot.result c.args.net.now.items c.push.new.self.items c.compile.new.net.items c.set_jump.new.net.items = record {
+    let m : IsMany (InL (c.rounds_of-rounds.result.part.now)) (then ∷ []) (c.len-spot.result ∷ []) c.in_ok-entry.entry.items c.in_ok-to.to c.len-spot.result c.args.net.now.items c.push.new.self.items c.compile.new.net.items c.set_jump.new.net.items = record {
       begins = spot;
       pushed = c.in_ok-push.ensures.items;
       body = c.in_ok-entry.ensures;
@@ -116,4 +116,5 @@ many-returns t c =
       back_is = only c.len-spot.result;
       to_is = λ p. c.in_ok-to.ensures p ∙ or_swap (has (then ∷ []) p) _;
     } in
-    many_done m c.args.may_miss c.in_ok-begin.begin.items c.in_ok-begin.ensures.wide c.in_ok-begin.ensures.narrow
+    is_same (Many (c.rounds_of-rounds.result.may_miss) (InL (c.rounds_of-rounds.result.part.now))) (Many c.args.may_miss (InL c.args.part.now)) (then ∷ []) c.in_ok-begin.begin.items c.args.net.now.items c.set_jump.new.net.items c.rounds_of-rounds.ensures.back c.rounds_of-rounds.ensures.forth
+    (many_done m (c.rounds_of-rounds.result.may_miss) c.in_ok-begin.begin.items c.in_ok-begin.ensures.wide c.in_ok-begin.ensures.narrow)

@@ -1,4 +1,4 @@
-use Rattle.std.proofs.Common.{◌≡◌, ◌<◌, ◌≤◌, ◌+◌, ◌∷◌, [], length, length-append, ap, sym, subst, ◌∙◌, inl, inr, arith}
+use Rattle.std.proofs.Common.{rules, ◌≡◌, ◌<◌, ◌≤◌, ◌+◌, ◌∷◌, [], length, length-append, ap, sym, subst, ◌∙◌, inl, inr, arith}
 use Rattle.std.proofs.lemmas.List.{get_or_past}
 use Rattle.sp_match.specs.Bits.{led}
 use Rattle.sp_match.specs.Nets.{at}
@@ -12,6 +12,7 @@ use Rattle.sp_match.proofs.machine.all_nexts.Goals as goal
 pub loop-i-preserved : goal.loop-i-preserved
 loop-i-preserved c =
     let v = c.loop-i.invariant in
+    let spots : c.in_ok-spots.spots ≡ length c.args.net.now = search rules in
     let net = c.args.net.now in
     let old = c.loop-i.nexts.items in
     let x = c.next_spot.result in
@@ -24,13 +25,13 @@ loop-i-preserved c =
         | inl less ↦ next_kept old x p (omega arith) ∙ v.done p less small
         | inr ge ↦ elim ge [
           | inl e ↦ (let same : at net p ≡ c.index-net-i.result = ap (at net) e ∙ here in
-              ap (led _) (e ∙ sym long) ∙ next_new old x ∙ c.next_spot.ensures.next (subst (λ z. next_of z < length net) same small) ∙ ap next_of (sym same))
+              ap (led _) (e ∙ sym long) ∙ next_new old x ∙ c.next_spot.ensures.next (subst (λ n. next_of c.index-net-i.result < n) (sym spots) (subst (λ z. next_of z < length net) same small)) ∙ ap next_of (sym same))
           | inr gt ↦ absurd (omega arith)
         ]
       ];
       within = λ p. subst (λ z. led z p ≤ length net) (sym items) (elim (next_more old x p) [
         | inl e ↦ (let k = v.within p in omega (arith, e))
-        | inr e ↦ (let k = c.next_spot.ensures.within in let same = e.1 in omega arith)
+        | inr e ↦ (let k = c.next_spot.ensures.within in let same = e.1 in omega (arith, spots))
       ]);
       len = ap length items ∙ more ∙ ap (λ n. n + 1) long;
     }

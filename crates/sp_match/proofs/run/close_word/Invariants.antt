@@ -1,15 +1,18 @@
-use Rattle.std.proofs.Common.{◌≡◌, ◌<◌, ◌≤◌, ◌*◌, ◌+◌, ℕ, Bool, length}
+use Rattle.std.proofs.Common.{◌≡◌, ◌<◌, ◌≤◌, ◌*◌, ◌+◌, ℕ, Bool, List, length}
+use Rattle.sp_match.specs.declared.spot.Spot.{Spot}
 use Rattle.sp_match.specs.Bits.{holds}
-use Rattle.sp_match.specs.Nets.{at, is_jump, Orderly}
+use Rattle.sp_match.specs.Nets.{Orderly}
+use Rattle.sp_match.specs.Jumps.{AreWordJumps}
 use Rattle.sp_match.specs.Running.{Closing}
+use Rattle.sp_match.proofs.Jumping.{WordClosing}
 use Rattle.sp_match.proofs.run.close_word.Given as goal
 
-abbrev pub invariant-loop-bit : goal.invariant-loop-bit
-invariant-loop-bit l = record {
-  closing : (initial : ℕ → Bool) → Orderly l.net → length l.net < 64 * length l.initial.set.items → ((p : ℕ) → holds l.jumping.items p ≡ is_jump (at l.net p)) → Closing l.net initial (holds l.initial.set.items) ((l.word + 1) * 64) → Closing l.net initial (holds l.set.items) (l.word * 64 + l.bit);
+abbrev pub invariant-loop-i : goal.invariant-loop-i
+invariant-loop-i l = record {
+  closing : (net : List Spot) (initial : ℕ → Bool) → Orderly net → length net < 64 * length l.initial.set.items → AreWordJumps net l.word l.jumps.items → Closing net initial (holds l.initial.set.items) ((l.word + 1) * 64) → WordClosing net initial (holds l.set.items) l.word l.jumps.items l.i;
   len : length l.set.items ≡ length l.initial.set.items;
-  within : l.bit ≤ 64;
+  within : l.i ≤ length l.jumps.items;
 }
 
-abbrev pub decreases-loop-bit : goal.decreases-loop-bit
-decreases-loop-bit l = l.bit
+abbrev pub decreases-loop-i : goal.decreases-loop-i
+decreases-loop-i l = l.i

@@ -6,7 +6,7 @@ use Rattle.sp_match.proofs.table.acceptance_of.Goals as goal
 
 pub returns : goal.returns
 returns c = λ net m. record {
-  wins = subst (IsWinner net (holds c.args.set.now.items)) (sym c.winner.ensures) (is_winner net c.args.machine.now.goals.items (holds c.args.set.now.items) m.1.goals);
-  reads = λ e. let x = c.reads_on.ensures.some e in (x.0, x.1, sym (m.1.bytes x.0) ∙ x.2);
-  ends = λ e p h. sym (m.1.bytes p) ∙ c.reads_on.ensures.none e p h;
+  wins = subst (IsWinner net (holds c.args.set.now.items)) (sym c.winner.ensures) (is_winner net c.args.machine.now.goals.items (holds c.args.set.now.items) m.goals);
+  reads = λ e. let x = c.reads_on.ensures.some e in (x.0, x.1, sym (m.bytes x.0) ∙ x.2);
+  ends = λ e p h. sym (m.bytes p) ∙ c.reads_on.ensures.none e p h;
 }

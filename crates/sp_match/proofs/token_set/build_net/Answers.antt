@@ -19,4 +19,4 @@ returns c =
     let all : take c.loop-i.i c.args.tokens.now ≡ c.args.tokens.now = take_all _ _ (omega arith) in
     let b : Begins c.args.tokens.now c.loop-i.net.items c.loop-i.start.items = subst (λ z. Begins z c.loop-i.net.items c.loop-i.start.items) all c.loop-i.invariant in
     let is : IsNetOf c.args.tokens.now c.loop-i.net.items c.loop-i.start.items = record { begins = b; none_empty = c.requires.none_empty } in
-    c.in_ok-set.ensures c.args.tokens.now (subst (IsNetOf c.args.tokens.now c.loop-i.net.items) (sym c.deref.ensures.value) is)
+    c.in_ok-set.ensures c.args.tokens.now (subst (λ z. IsNetOf c.args.tokens.now z c.deref-2.result.now) (sym c.deref.ensures.value) (subst (IsNetOf c.args.tokens.now c.loop-i.net.items) (sym c.deref-2.ensures.value) is))

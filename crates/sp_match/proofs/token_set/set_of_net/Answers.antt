@@ -6,7 +6,7 @@ use Rattle.sp_match.proofs.token_set.set_of_net.Goals as goal
 
 pub returns : goal.returns
 returns c = λ tokens is.
-    let net = c.args.net.items in
+    let net = c.args.net.now in
     let m = c.in_ok-machine.ensures is.begins.orderly in
     let e = c.in_ok-table.ensures net m c.in_ok-first.ensures.len in
     record {

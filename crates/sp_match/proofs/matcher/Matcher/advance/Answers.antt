@@ -13,7 +13,7 @@ returns-in-Some-clause-moved c = λ tokens w h.
     let t = c.in-Some.state in
     let a = c.after.ensures t c.in-Some.is in
     let byte : c.args.byte < 256 = (let r = c.ranges.byte in omega (arith, r)) in
-    let x = table_next h.set.net set.machine.words set.machine.classes.of.items set.machine.classes.firsts.items sets set.table.states.acceptances.items set.table.moves.items a.0 t c.class-class.result c.args.byte h.set.machine.1.classes h.set.table byte c.class-class.ensures a.2 in
+    let x = table_next h.set.net set.machine.words set.machine.classes.of.items set.machine.classes.firsts.items sets set.table.states.acceptances.items set.table.moves.items a.0 t c.class-class.result c.args.byte h.set.machine.classes h.set.table byte c.class-class.ensures a.2 in
     let stands = subst (λ z. Stands tokens h.set.net w (holds (live_of sets z c.args.self.now.live.items))) a.1 h.stands in
     let long = h.set.table.states.accepts_long in
     let within = x.0 in

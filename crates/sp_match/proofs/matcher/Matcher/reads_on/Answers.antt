@@ -24,9 +24,9 @@ pub returns-in-None-clause-some : goal.returns-in-None-clause-some
 returns-in-None-clause-some c = λ e tokens w h.
     let sets = c.args.self.now.set.now.table.states.sets.items in
     let x = c.reads_on-in-None.ensures.some e in
-    subst (λ z. SomeReads h.set.net (holds (live_of sets z c.args.self.now.live.items))) (sym c.in-None.is) (x.0, x.1, sym (h.set.machine.1.bytes x.0) ∙ x.2)
+    subst (λ z. SomeReads h.set.net (holds (live_of sets z c.args.self.now.live.items))) (sym c.in-None.is) (x.0, x.1, sym (h.set.machine.bytes x.0) ∙ x.2)
 
 pub returns-in-None-clause-none : goal.returns-in-None-clause-none
 returns-in-None-clause-none c = λ e tokens w h.
     let sets = c.args.self.now.set.now.table.states.sets.items in
-    subst (λ z. NoneReads h.set.net (holds (live_of sets z c.args.self.now.live.items))) (sym c.in-None.is) (λ p k. sym (h.set.machine.1.bytes p) ∙ c.reads_on-in-None.ensures.none e p k)
+    subst (λ z. NoneReads h.set.net (holds (live_of sets z c.args.self.now.live.items))) (sym c.in-None.is) (λ p k. sym (h.set.machine.bytes p) ∙ c.reads_on-in-None.ensures.none e p k)

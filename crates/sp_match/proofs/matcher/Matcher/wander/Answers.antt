@@ -26,6 +26,6 @@ returns-clause-moved c = λ tokens w b h small class none.
           (subst (λ z. Stands tokens h.set.net (w ++ b ∷ []) (holds z)) (sym x) (stands_next tokens h.set.net h.set.start (holds c.args.self.now.live.items) (holds c.step.new.next.items) w b h.set.is_net stands next));
       wins = subst (λ z. IsWinner h.set.net (holds (live_of set.table.states.sets.items z c.swap.new.x.items)) c.winner.result) (sym none)
           (subst (λ z. IsWinner h.set.net (holds z) c.winner.result) (sym x)
-          (subst (IsWinner h.set.net (holds c.step.new.next.items)) (sym won) (is_winner h.set.net set.machine.goals.items (holds c.step.new.next.items) m.1.goals)));
+          (subst (IsWinner h.set.net (holds c.step.new.next.items)) (sym won) (is_winner h.set.net set.machine.goals.items (holds c.step.new.next.items) m.goals)));
       best = h.best;
     }

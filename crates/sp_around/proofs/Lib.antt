@@ -1,0 +1,4 @@
+pub mod Joining
+pub mod Paths
+pub mod Steps
+pub mod Told

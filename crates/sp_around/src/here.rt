@@ -1,0 +1,257 @@
+// What stands round the expressions of a module.
+ghost use Rattle.std.specs.Prelude.{◌≡◌, ◌++◌, ℕ, Option, Some, slice_get, IfOk, OnOk};
+ghost use Rattle.sp_types.specs.Types.{Ty};
+ghost use Rattle.sp_typed.specs.Exprs.{Expr as Data};
+ghost use Rattle.sp_typed.specs.declared.words.LeafOp.TheVariants as leaf_is;
+ghost use Rattle.sp_names.specs.Declarations.{sort_at};
+ghost use Rattle.sp_typing.specs.Operands.{unknown};
+ghost use Rattle.sp_typing.specs.Typing.{leaf_at};
+ghost use Rattle.sp_solver.specs.Told.{told};
+ghost use Rattle.sp_around.specs.Arounds.{stored_by, type_leaf, declared_at, path_at, member_of, new_takes, target_of, left_out_by};
+
+use crate::methods::{fill_method, method_of, method_takes, sink_method_takes, unit_method_takes};
+use crate::tables::Tables;
+use crate::written::{name_span, written_in};
+use sp_ast::{PathKind, Ref, TypeKind};
+use sp_base::{NoMemory, Span};
+use sp_names::{DeclSort, Meaning};
+use sp_typed::{Expr, Leaf, LeafOp, ManyOp, NewOf, Standing, Written};
+use sp_types::{Level, Type, Word};
+use sp_typing::{Callable, Context, Member};
+use std::alloc::Global;
+
+/// What tells the types of constants, and the numbers of constant expressions.
+pub trait Constants {
+    ghost constant_type: { Self → ℕ → Ty };
+
+    ghost number: { Self → Data → Option ℕ };
+
+    /// The type of the constant of a number; `Unknown` while it isn't known.
+    fn constant_type(&self, constant: u32) -> Result<Type, NoMemory>
+        ensures { IfOk result (λ t. t ≡ constant_type self.now constant) };
+
+    /// The number that an expression is, where it is constant and has one.
+    fn number(&self, alloc: Global, e: &Expr) -> Result<Option<u32>, NoMemory>
+        ensures { IfOk result (λ n. n ≡ number self.now e.now) };
+}
+
+/// What stands round the expressions of a module, where no body, unit or hook adds anything.
+#[derive(Drop)]
+pub struct Here<'a, K> {
+    pub tables: &'a Tables<'a>,
+    /// The types of what is stored in the members of all units, in one row.
+    pub stored: &'a [Option<Type>],
+    pub constants: &'a K,
+    /// The number of the module.
+    pub owner: u32,
+}
+
+fn leaf_at(span: Span, ty: Type, op: LeafOp) -> Expr
+    ensures { result ≡ leaf_at span ty op }
+{
+    Expr::leaf(Leaf { span, ty, op })
+}
+
+/// What is no value.
+fn word_at(span: Span, op: LeafOp) -> Expr
+    ensures { result ≡ leaf_at span unknown op }
+{
+    leaf_at(span, Type::word(Word::Unknown), op)
+}
+
+fn found_leaf(found: &Type) -> LeafOp
+    ensures { result ≡ type_leaf (Some found.now) }
+{
+    match found.level() {
+        Level::Word(Word::Decoder) => LeafOp::Decoder,
+        Level::Word(word) => LeafOp::TypeName(word),
+        Level::Made(..) => LeafOp::TypeName(Word::Unknown),
+    }
+}
+
+/// The name of a declaration of a type.
+fn type_leaf(known: &[Option<Type>], declaration: u32) -> LeafOp
+    ensures { result ≡ type_leaf (told known.now declaration) }
+{
+    match known.get(declaration as usize) {
+        Some(Some(found)) => found_leaf(found),
+        _ => LeafOp::TypeName(Word::Unknown),
+    }
+}
+
+fn constant_at<K: Constants>(constants: &K, span: Span, number: u32) -> Result<Expr, NoMemory>
+    ensures { IfOk result (λ e. e ≡ leaf_at span (K.constant_type constants.now number)
+        (leaf_is.Constant number)) }
+{
+    let ty = constants.constant_type(number)?;
+    Ok(leaf_at(span, ty, LeafOp::Constant(number)))
+}
+
+/// The path to a declaration.
+fn declared_at<K: Constants>(
+    tables: &Tables<'_>,
+    constants: &K,
+    span: Span,
+    declaration: u32,
+) -> Result<Expr, NoMemory>
+    ensures { IfOk result (λ e. e ≡ declared_at tables.now.0 (told tables.now.1)
+        (K.constant_type constants.now) span declaration (sort_at tables.now.0 declaration)) }
+{
+    let names = tables.names();
+    match names.sort(declaration) {
+        DeclSort::Constant => constant_at(constants, span, names.number(declaration)),
+        DeclSort::Function => Ok(word_at(span, LeafOp::Function(names.number(declaration)))),
+        _ => Ok(word_at(span, type_leaf(tables.known(), declaration))),
+    }
+}
+
+fn path_at<K: Constants>(
+    tables: &Tables<'_>,
+    constants: &K,
+    owner: u32,
+    span: Span,
+    path: &Ref<'_, PathKind>,
+) -> Result<Expr, NoMemory>
+    ensures { IfOk result (λ e. e ≡ path_at tables.now.0 (told tables.now.1)
+        (K.constant_type constants.now) owner span path.now) }
+{
+    match tables.names().means(tables.known(), owner, path) {
+        Meaning::Declaration(declaration) => declared_at(tables, constants, span, declaration),
+        Meaning::LibraryEnum(number) => { Ok(word_at(span, LeafOp::TypeName(Word::Enum(number)))) }
+        Meaning::Label { owner, label } => Ok(leaf_at(
+            span,
+            Type::word(Word::Enum(owner)),
+            LeafOp::Label(owner, label),
+        )),
+        Meaning::Decoder => Ok(word_at(span, LeafOp::Decoder)),
+        Meaning::Nothing(place) => Ok(word_at(span, LeafOp::Nothing(name_span(path, place)))),
+    }
+}
+
+fn member_of(
+    tables: &Tables<'_>,
+    stored: &[Option<Type>],
+    of: &Type,
+    name: &str,
+) -> Result<Option<Member>, NoMemory>
+    ensures { IfOk result (λ m. m ≡ member_of tables.now.0
+        (stored_by tables.now.0 (told stored.now)) of.now name.now) }
+{
+    match of.level() {
+        Level::Word(Word::Unit(number)) => tables.unit_member(stored, number, name),
+        Level::Word(Word::Bitfield(number)) => tables.bit_member(number, name),
+        _ => Ok(None),
+    }
+}
+
+fn new_target(tables: &Tables<'_>, of: NewOf, number: usize) -> Result<Option<Type>, NoMemory>
+    ensures { IfOk result (λ t. t ≡ slice_get (new_takes tables.now.0 (told tables.now.1) of)
+        number) }
+{
+    match of {
+        NewOf::Unit(unit) => tables.unit_takes(unit, number),
+        NewOf::Decoder => Ok(None),
+    }
+}
+
+fn target_of(
+    tables: &Tables<'_>,
+    op: &ManyOp,
+    receiver: &Type,
+    number: usize,
+) -> Result<Option<Type>, NoMemory>
+    ensures { IfOk result (λ t. t ≡ target_of tables.now.0 (told tables.now.1) op.now
+        receiver.now number) }
+{
+    match *op {
+        ManyOp::Call(function) => tables.function_takes(function, number),
+        ManyOp::New(of, _) => new_target(tables, of, number),
+        ManyOp::Method(method, _) => method_takes(method, receiver, number),
+        ManyOp::OfUnit(method, _) => Ok(unit_method_takes(method, number)),
+        ManyOp::OfSink(method) => Ok(sink_method_takes(method, number)),
+        _ => Ok(None),
+    }
+}
+
+fn fill_by(op: &ManyOp, span: Span, given: usize, parts: &mut Vec<Expr>) -> Result<(), NoMemory>
+    ensures { OnOk result (parts.new.items ≡ parts.old.items ++ left_out_by op.now span given) }
+{
+    match *op {
+        ManyOp::Method(method, _) => fill_method(method, span, given, parts),
+        _ => Ok(()),
+    }
+}
+
+impl<'a, K: Constants> Context for Here<'a, K> {
+    ghost use Rattle.sp_around.specs.Holds.{around_here};
+
+    ghost around = { around_here K.constant_type K.number };
+
+    fn path(&self, alloc: Global, span: Span, path: &Ref<'_, PathKind>) -> Result<Expr, NoMemory> {
+        path_at(self.tables, self.constants, self.owner, span, path)
+    }
+
+    fn named(&self, alloc: Global, span: Span, path: &Ref<'_, PathKind>) -> Result<Expr, NoMemory> {
+        path_at(self.tables, self.constants, self.owner, span, path)
+    }
+
+    fn itself(&self, span: Span) -> Result<Expr, NoMemory> {
+        Ok(word_at(span, LeafOp::Itself(Standing::Unmeant)))
+    }
+
+    fn current(&self, span: Span) -> Result<Expr, NoMemory> {
+        Ok(word_at(span, LeafOp::Current(Standing::Unmeant)))
+    }
+
+    fn type_in(&self, alloc: Global, tree: &Ref<'_, TypeKind>) -> Result<Type, NoMemory> {
+        self.tables
+            .names()
+            .type_in(alloc, self.tables.known(), self.owner, tree)
+    }
+
+    fn written(&self, tree: &Ref<'_, TypeKind>) -> Written {
+        written_in(self.tables.names(), self.tables.known(), self.owner, tree)
+    }
+
+    fn member(&self, of: &Type, name: &str) -> Result<Option<Member>, NoMemory> {
+        member_of(self.tables, self.stored, of, name)
+    }
+
+    fn method(
+        &self,
+        alloc: Global,
+        of: &Type,
+        name: &str,
+        span: Span,
+        arguments: &[Type],
+    ) -> Result<Option<Callable>, NoMemory> {
+        method_of(alloc, of, name, span, arguments)
+    }
+
+    fn target(
+        &self,
+        op: &ManyOp,
+        receiver: &Type,
+        number: usize,
+    ) -> Result<Option<Type>, NoMemory> {
+        target_of(self.tables, op, receiver, number)
+    }
+
+    fn fill(
+        &self,
+        op: &ManyOp,
+        span: Span,
+        given: usize,
+        parts: &mut Vec<Expr>,
+    ) -> Result<(), NoMemory> {
+        fill_by(op, span, given, parts)
+    }
+
+    fn result(&self, function: u32) -> Result<Type, NoMemory> {
+        self.tables.function_gives(function)
+    }
+
+    fn item(&self, alloc: Global, index: &Expr) -> Result<Option<u32>, NoMemory> {
+        self.constants.number(alloc, index)
+    }
+}

@@ -1,0 +1,14 @@
+//! What stands round the expressions of a module: paths, types, members, methods and calls, by the names of a list of modules.
+#![tactic(auto)]
+
+mod here;
+mod members;
+mod methods;
+mod names;
+mod tables;
+mod written;
+
+pub use here::{Constants, Here};
+pub use methods::{fill_method, method_of, method_takes, sink_method_takes, unit_method_takes};
+pub use tables::Tables;
+pub use written::{Place, misplaced_in, name_span, unnamed_in, written_in};

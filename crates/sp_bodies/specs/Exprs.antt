@@ -1,0 +1,233 @@
+-- What expressions mean: how each ends, what it tells, and the state behind it.
+use Rattle.std.specs.Prelude.{ℕ, ◌+◌, ◌-◌, Bool, true, false, ◌&&◌, List, [], ◌∷◌, reverse, Option, Some, None, is_some, Result as Answer, Ok, Err, slice_get}
+use Rattle.sp_base.specs.declared.kinds.PKind.{PKind}
+use Rattle.sp_numbers.specs.declared.width.Width.TheVariants.{W64}
+use Rattle.sp_words.specs.declared.operators.BinaryOp.{BinaryOp}
+use Rattle.sp_words.specs.declared.operators.BinaryOp.TheVariants as op_is
+use Rattle.sp_words.specs.declared.operators.UnaryOp.TheVariants as unary_is
+use Rattle.sp_words.specs.declared.methods.Method.{Method}
+use Rattle.sp_words.specs.declared.methods.Method.TheVariants.{PopBack}
+use Rattle.sp_words.specs.Methods.{changes}
+use Rattle.sp_value.specs.Val.{Val, void, bool, uint, bytes, str, tuple, vector, unit, vals_of}
+use Rattle.sp_operators.specs.Operators.{unary, binary, cast}
+use Rattle.sp_operators.specs.declared.plain_type.PlainType.TheVariants as plain
+use Rattle.sp_methods.specs.Methods.{method}
+use Rattle.sp_types.specs.Types.{Ty}
+use Rattle.sp_typed.specs.declared.heads.One.{One}
+use Rattle.sp_typed.specs.declared.words.LeafOp.{LeafOp}
+use Rattle.sp_typed.specs.declared.words.LeafOp.TheVariants as leaf_is
+use Rattle.sp_typed.specs.declared.words.OneOp.{OneOp}
+use Rattle.sp_typed.specs.declared.words.OneOp.TheVariants as one_is
+use Rattle.sp_typed.specs.declared.words.TwoOp.{TwoOp}
+use Rattle.sp_typed.specs.declared.words.TwoOp.TheVariants as two_is
+use Rattle.sp_typed.specs.declared.words.ManyOp.{ManyOp}
+use Rattle.sp_typed.specs.declared.words.ManyOp.TheVariants as many_is
+use Rattle.sp_typed.specs.declared.words.UnitMethod.TheVariants as unit_method
+use Rattle.sp_typed.specs.Exprs.{Expr, Exprs, leaf, one, two, three, many, none, more}
+use Rattle.sp_running.specs.States.{State, Gives, Fine, Unfinished, Result, ends, got, done, chosen, truth_of, fails, answer, local_of, set_local, member_of, value_or_unset, put_member, start_of}
+use Rattle.sp_running.specs.Values.{item_at, with_at, size_value, set_of, map_of}
+use Rattle.sp_running.specs.Types.{number_value, plain_type, zero_value}
+use Rattle.sp_bodies.specs.Globals.{Globals, Layout, label_value, parameter_in}
+
+-- a value, where there is one
+abbrev pub known : {A : Type 0} → Option A → (A → State → Result) → State → Result
+known (Some x) go st = go x st
+known None go st = ends Unfinished st
+
+-- a method that gives one value
+abbrev pub given : Answer (List Val) PKind → State → Result
+given (Ok (v ∷ [])) st = ends (Gives v) st
+given (Ok vs) st = ends Unfinished st
+given (Err kind) st = fails kind st
+
+-- a method that gives its receiver's new value, which is put where the receiver was, and maybe a result
+abbrev pub taken : (Val → State → Result) → Answer (List Val) PKind → State → Result
+taken put (Ok (v ∷ [])) st = done (ends (Gives void)) (put v st)
+taken put (Ok (v ∷ r ∷ [])) st = done (ends (Gives r)) (put v st)
+taken put (Ok vs) st = ends Unfinished st
+taken put (Err kind) st = fails kind st
+
+-- a literal with a minus sign
+abbrev pub negative : OneOp → LeafOp → Ty → Option Val
+negative one_is.Negate (leaf_is.Number n) t = Some (number_value t true n)
+negative o l t = None
+
+abbrev pub negative_literal : One → Expr → Option Val
+negative_literal h (leaf i) = negative h.op i.op h.ty
+negative_literal h a = None
+
+abbrev pub unless_literal : Option Val → (State → Result) → State → Result
+unless_literal (Some v) go st = ends (Gives v) st
+unless_literal None go st = go st
+
+-- a range of a bitfield, as an integer of its type
+abbrev pub range_value : Ty → Answer Val PKind → Answer Val PKind
+range_value t (Ok v) = cast v (plain_type t)
+range_value t (Err kind) = Err kind
+
+-- what is made of the value of a part
+abbrev pub one_means : OneOp → Ty → Val → State → Result
+one_means one_is.Negate t v st = answer (unary unary_is.Negate v) st
+one_means one_is.Not t v st = answer (unary unary_is.Not v) st
+one_means one_is.Complement t v st = answer (unary unary_is.Complement v) st
+one_means one_is.Size t v st = ends (Gives (size_value v)) st
+one_means (one_is.Cast w) t v st = answer (cast v (plain_type t)) st
+one_means one_is.Widen t v st = answer (cast v (plain_type t)) st
+one_means (one_is.Field m) t v st = value_or_unset (member_of st v m) st
+one_means (one_is.Variable m) t v st = value_or_unset (member_of st v m) st
+one_means (one_is.Bit r) t v st = answer (range_value t (item_at v (uint W64 r))) st
+one_means (one_is.IsSet m) t v st = ends (Gives (bool (is_some (member_of st v m)))) st
+one_means o t v st = ends Unfinished st
+
+-- what is made of two parts; `&&` and `||` evaluate only what they need
+abbrev pub binary_means : BinaryOp → (State → Result) → (State → Result) → State → Result
+binary_means op_is.And a b st = got (λ x st. chosen (truth_of x) b (ends (Gives (bool false))) st) (a st)
+binary_means op_is.Or a b st = got (λ x st. chosen (truth_of x) (ends (Gives (bool true))) b st) (a st)
+binary_means o a b st = got (λ x st. got (λ y st. answer (binary o x y) st) (b st)) (a st)
+
+abbrev pub two_means : TwoOp → (State → Result) → (State → Result) → State → Result
+two_means (two_is.Binary o) a b st = binary_means o a b st
+two_means two_is.Index a b st = got (λ x st. got (λ y st. answer (item_at x y) st) (b st)) (a st)
+two_means (two_is.Item n) a b st = got (λ x st. answer (item_at x (uint W64 n)) st) (a st)
+
+-- `E(n)`
+abbrev pub converted : ℕ → List Val → State → Result
+converted k (v ∷ []) st = answer (cast v (plain.Enum k)) st
+converted k vs st = ends Unfinished st
+
+-- how far the place is behind the start of a unit
+abbrev pub offset_from : List Val → State → Result
+offset_from (u ∷ []) st = ends (Gives (uint W64 (st.now.place - start_of st u))) st
+offset_from vs st = ends Unfinished st
+
+abbrev pub itself : LeafOp → Bool
+itself (leaf_is.Itself s) = true
+itself l = false
+
+abbrev pub is_self : Exprs → Bool
+is_self (more (leaf h) none) = itself h.op
+is_self es = false
+
+-- the local in which the offset of the field at hand stands, where it is asked of `self`
+abbrev pub offset_local : Layout → Bool → Option ℕ
+offset_local layout true = layout.offset
+offset_local layout false = None
+
+abbrev pub offset_means : Option ℕ → (State → Result) → State → Result
+offset_means (Some l) go st = ends (Gives (local_of st l)) st
+offset_means None go st = go st
+
+-- the member that a place names, and whether it is an item of a container
+abbrev pub member_named : OneOp → Option ℕ
+member_named (one_is.Field m) = Some m
+member_named (one_is.Variable m) = Some m
+member_named o = None
+
+abbrev pub is_item : TwoOp → Bool
+is_item two_is.Index = true
+is_item o = false
+
+abbrev pub local_named : LeafOp → Option ℕ
+local_named (leaf_is.Local s) = Some s
+local_named o = None
+
+-- The owner of a member that is changed: where it has a slot it is evaluated once and kept there, and else, being `self` or a
+-- local, it is evaluated where it is needed.
+abbrev pub keep_owner : Option ℕ → (State → Result) → (State → Result) → State → Result
+keep_owner (Some l) a go st = got (λ u st. go (set_local l u st)) (a st)
+keep_owner None a go st = go st
+
+abbrev pub owner_means : Option ℕ → (State → Result) → State → Result
+owner_means (Some l) a st = ends (Gives (local_of st l)) st
+owner_means None a st = a st
+
+-- a slot among the locals
+abbrev pub slot_local : Layout → Option ℕ → Option ℕ
+slot_local layout (Some s) = Some (layout.first + s)
+slot_local layout None = None
+
+abbrev pub slot_of_receiver : ManyOp → Option ℕ
+slot_of_receiver (many_is.Method m slot) = slot
+slot_of_receiver o = None
+
+abbrev pub called_method : ManyOp → Option Method
+called_method (many_is.Method m slot) = Some m
+called_method o = None
+
+-- A method whose result would stand on the container of its receiver claims nothing yet.
+abbrev pub gives_result : Method → Bool
+gives_result PopBack = true
+gives_result m = false
+
+abbrev pub is_item_place : Expr → Bool
+is_item_place (two h a b) = true
+is_item_place e = false
+
+-- What is made of a place's value: `go` has it, and what puts another one there.
+abbrev pub Changes : Type 0
+Changes = Val → (Val → State → Result) → State → Result
+
+module _ (globals : Globals) (call : ℕ → List Val → State → Result) (layout : Layout) where
+  abbrev pub leaf_means : LeafOp → Ty → State → Result
+  leaf_means leaf_is.True t st = ends (Gives (bool true)) st
+  leaf_means leaf_is.False t st = ends (Gives (bool false)) st
+  leaf_means (leaf_is.Number n) t st = ends (Gives (number_value t false n)) st
+  leaf_means (leaf_is.TypedNumber n) t st = ends (Gives (number_value t false n)) st
+  leaf_means (leaf_is.Text x) t st = ends (Gives (str x)) st
+  leaf_means (leaf_is.Bytes b) t st = ends (Gives (bytes b)) st
+  leaf_means (leaf_is.Empty w) t st = ends (Gives (zero_value globals.ranges t)) st
+  leaf_means (leaf_is.Itself s) t st = ends (Gives (unit st.self)) st
+  leaf_means (leaf_is.Current s) t st = ends (Gives (local_of st layout.current)) st
+  leaf_means (leaf_is.Local l) t st = ends (Gives (local_of st (layout.first + l))) st
+  leaf_means (leaf_is.Parameter n s) t st = ends (Gives (parameter_in layout n st)) st
+  leaf_means (leaf_is.Constant c) t st = known (slice_get globals.constants c) (λ o st. known o (λ v st. ends (Gives v) st) st) st
+  leaf_means (leaf_is.Label k l) t st = ends (Gives (label_value globals k l)) st
+  leaf_means l t st = ends Unfinished st
+
+  -- what is made of any number of parts: `all` evaluates them in turn and hands them on, the last first; `change` is the call of a
+  -- method that changes its receiver
+  abbrev pub many_means : ManyOp → Option ℕ → ((List Val → State → Result) → State → Result) → (State → Result) → State → Result
+  many_means many_is.Tuple o all change st = all (λ vs st. ends (Gives (tuple (vals_of (reverse vs)))) st) st
+  many_means many_is.Vector o all change st = all (λ vs st. ends (Gives (vector (vals_of (reverse vs)))) st) st
+  many_means many_is.Set o all change st = all (λ vs st. ends (Gives (set_of (reverse vs))) st) st
+  many_means many_is.Map o all change st = all (λ vs st. ends (Gives (map_of (reverse vs))) st) st
+  many_means (many_is.Call f) o all change st = all (call f) st
+  many_means (many_is.Convert k) o all change st = all (converted k) st
+  many_means (many_is.Method m slot) o all change st = chosen (changes m) change (all (λ vs st. given (method m vs) st)) st
+  many_means (many_is.OfUnit unit_method.Offset at) o all change st = offset_means o (all offset_from) st
+  many_means op o all change st = ends Unfinished st
+
+  abbrev mutual
+    pub expr_means : Expr → State → Result
+    expr_means (leaf h) st = leaf_means h.op h.ty st
+    expr_means (one h a) st = unless_literal (negative_literal h a) (λ st. got (λ v st. one_means h.op h.ty v st) (expr_means a st)) st
+    expr_means (two h a b) st = two_means h.op (expr_means a) (expr_means b) st
+    expr_means (three h c a b) st = got (λ x st. chosen (truth_of x) (expr_means a) (expr_means b) st) (expr_means c st)
+    expr_means (many h es) st = many_means h.op (offset_local layout (is_self es)) (all_got es []) (receiver_means h.op es) st
+
+    -- values in turn, and what is done with them, the last first
+    pub all_got : Exprs → List Val → (List Val → State → Result) → State → Result
+    all_got none vs go st = go vs st
+    all_got (more e es) vs go st = got (λ v st. all_got es (v ∷ vs) go st) (expr_means e st)
+
+    -- a method that changes its receiver: the receiver is read, then its arguments, and what the method makes of it is put there
+    pub receiver_means : ManyOp → Exprs → State → Result
+    receiver_means op none st = ends Unfinished st
+    receiver_means op (more r es) st =
+        known (called_method op) (λ m st. chosen (gives_result m && is_item_place r) (ends Unfinished) (place_means (slot_local layout (slot_of_receiver op)) r
+        (λ x put st. all_got es (x ∷ []) (λ vs st. taken put (method m vs) st) st)) st) st
+
+    -- A place: a local, a member of a unit, or an item of a place, whose container is read before its key, and is put back with the
+    -- changed item.
+    pub place_means : Option ℕ → Expr → Changes → State → Result
+    place_means owner (leaf h) go st =
+        known (local_named h.op) (λ s st. go (local_of st (layout.first + s)) (λ v st. ends Fine (set_local (layout.first + s) v st)) st) st
+    place_means owner (one h a) go st =
+        known (member_named h.op) (λ m st. keep_owner owner (expr_means a) (λ st.
+        got (λ u st. got (λ x st. go x (λ v st. got (λ u st. put_member u m v st) (owner_means owner (expr_means a) st)) st)
+        (value_or_unset (member_of st u m) st)) (owner_means owner (expr_means a) st)) st) st
+    place_means owner (two h a b) go st =
+        chosen (is_item h.op) (place_means owner a (λ c put st. got (λ k st.
+        got (λ x st. go x (λ y st. got put (answer (with_at c k y) st)) st) (answer (item_at c k) st)) (expr_means b st)))
+        (ends Unfinished) st
+    place_means owner e go st = ends Unfinished st

@@ -1,0 +1,5 @@
+pub mod Globals
+pub mod Exprs
+pub mod Places
+pub mod Stmts
+pub mod Calls

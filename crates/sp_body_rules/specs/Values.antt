@@ -1,0 +1,101 @@
+-- What is no value, what type is asked of an expression, and whether a value goes to a target.
+use Rattle.std.specs.Prelude.{ℕ, Bool, true, false, not, ◌&&◌, ◌||◌, List, [], ◌∷◌, ◌++◌, Option, Some, None}
+use Rattle.sp_base.specs.declared.places.Span.{Span}
+use Rattle.sp_rules.specs.declared.rule.Rule.{Rule}
+use Rattle.sp_rules.specs.declared.rule.Rule.TheVariants as rule_is
+use Rattle.sp_rules.specs.declared.fault.Fault.{Fault}
+use Rattle.sp_types.specs.Types.{Ty, word, made, is_known, goes}
+use Rattle.sp_types.specs.declared.words.Word.TheVariants as word_is
+use Rattle.sp_types.specs.declared.words.Maker.TheVariants as maker_is
+use Rattle.sp_typed.specs.Exprs.{Expr, leaf, one, two, three, many, type_of, span_of, is_literal}
+use Rattle.sp_typed.specs.declared.words.LeafOp.{LeafOp}
+use Rattle.sp_typed.specs.declared.words.LeafOp.TheVariants as leaf_is
+use Rattle.sp_typed.specs.declared.words.TwoOp.{TwoOp}
+use Rattle.sp_typed.specs.declared.words.TwoOp.TheVariants as two_is
+use Rattle.sp_typed.specs.declared.words.Written.{Written}
+use Rattle.sp_typing.specs.Operands.{is_boolean}
+use Rattle.sp_typing.specs.Literals.{is_over}
+
+-- the fault of a rule in a module, on a slice of its text
+abbrev pub at : ℕ → Rule → Span → Fault
+at m rule span = record { rule = rule; «module» = m; span = span }
+
+-- Types of what is no value: what a function without a result gives, a regular expression, and what a `connect` starts.
+abbrev pub is_valueless : Ty → Bool
+is_valueless (word word_is.Void) = true
+is_valueless (word word_is.Regex) = true
+is_valueless (word word_is.New) = true
+is_valueless _ = false
+
+abbrev pub is_void : Ty → Bool
+is_void (word word_is.Void) = true
+is_void _ = false
+
+abbrev pub is_new : Ty → Bool
+is_new (word word_is.New) = true
+is_new _ = false
+
+abbrev pub is_set : Ty → Bool
+is_set (made maker_is.Set ts) = true
+is_set _ = false
+
+-- names of functions, types and modules
+abbrev pub names_no_value : LeafOp → Bool
+names_no_value (leaf_is.Function n) = true
+names_no_value (leaf_is.TypeName w) = true
+names_no_value leaf_is.Decoder = true
+names_no_value leaf_is.Module = true
+names_no_value _ = false
+
+-- a key of a set between brackets, which stands behind `add` and `delete` alone
+abbrev pub is_set_key : TwoOp → Ty → Bool
+is_set_key two_is.Index t = is_set t
+is_set_key _ t = false
+
+-- whether an expression has no value
+abbrev pub is_no_value : Expr → Bool
+is_no_value (leaf h) = names_no_value h.op || is_valueless h.ty
+is_no_value (one h a) = is_valueless h.ty
+is_no_value (two h a b) = is_set_key h.op (type_of a) || is_valueless h.ty
+is_no_value (three h a b c) = is_valueless h.ty
+is_no_value (many h es) = is_valueless h.ty
+
+-- Whether the type of an expression is known. What breaks a rule has none, and so has a number past its type.
+abbrev pub knows : Expr → Bool
+knows e = is_known (type_of e) && not (is_over e)
+
+-- a literal past the type of its place
+abbrev pub is_past : Expr → Bool
+is_past e = is_literal e && is_over e
+
+-- Whether a value goes to a target of a type: of a value of unknown type nothing is asked.
+abbrev pub value_goes : Ty → Expr → Bool
+value_goes t e = not (is_past e) && (is_over e || goes (type_of e) t)
+
+-- an expression that stands as a value
+abbrev pub value_tests : ℕ → Expr → List (Bool × Fault)
+value_tests m e = (is_no_value e, at m rule_is.TypeMismatch (span_of e)) ∷ ((is_past e, at m rule_is.LiteralRange (span_of e)) ∷ [])
+
+-- a value whose type is known, and is not right
+abbrev pub wrong : ℕ → Bool → Expr → Bool × Fault
+wrong m right e = (knows e && not right, at m rule_is.TypeMismatch (span_of e))
+
+-- a value of which something is asked
+abbrev pub right_tests : ℕ → Bool → Expr → List (Bool × Fault)
+right_tests m right e = value_tests m e ++ (wrong m right e ∷ [])
+
+abbrev pub condition_tests : ℕ → Expr → List (Bool × Fault)
+condition_tests m e = right_tests m (is_boolean (type_of e)) e
+
+-- A value that goes to a target of a type. A literal past that type doesn't go there, and breaks no other rule.
+abbrev pub target_tests : ℕ → Ty → Expr → List (Bool × Fault)
+target_tests m t e =
+    (is_no_value e, at m rule_is.TypeMismatch (span_of e)) ∷ ((is_known t && not (value_goes t e), at m rule_is.NotAssignable (span_of e)) ∷ ((not (is_known t) && is_past e, at m rule_is.LiteralRange (span_of e)) ∷ []))
+
+-- what can't stand in a type that is written
+abbrev pub misplaced_at : ℕ → Option Span → List (Bool × Fault)
+misplaced_at m None = []
+misplaced_at m (Some span) = (true, at m rule_is.TypeMismatch span) ∷ []
+
+abbrev pub written_tests : ℕ → Written → List (Bool × Fault)
+written_tests m w = misplaced_at m w.misplaced

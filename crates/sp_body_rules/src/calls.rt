@@ -1,0 +1,202 @@
+// The rules at calls.
+ghost use Rattle.std.specs.Prelude.{◌≡◌, IfOk, OnOk};
+ghost use Rattle.sp_rules.specs.Least.{better, checked};
+ghost use Rattle.sp_typed.specs.Exprs.{exprs};
+ghost use Rattle.sp_body_rules.specs.Known.{Known};
+ghost use Rattle.sp_body_rules.specs.Values.{at};
+ghost use Rattle.sp_body_rules.specs.ExprTests.{argument_goes, argument_fits, arguments_fit, connects, argument_tests, call_tests, changes_leaf, changes_one, is_element, is_tuple, may_change, is_of_self, itself_leaf, is_itself, receiver_tests, method_tests, uncalled_tests};
+
+use crate::facts::Facts;
+use crate::rows::note_values;
+use crate::values::{is_new, is_no_value, is_past, is_valueless, knows, note_at, note_value};
+use sp_base::{NoMemory, Span};
+use sp_rules::{Fault, Rule};
+use sp_typed::{Expr, ExprLevel, LeafOp, ManyOp, OneOp, SinkMethod, TwoOp, UnitMethod};
+use sp_types::{Level, Maker, Type};
+use sp_typing::{is_over, seen};
+
+fn argument_goes(to: &Type, e: &Expr) -> bool
+    ensures { result ≡ argument_goes to.now e.now }
+{
+    !is_past(e) && (is_over(e) || is_valueless(e.ty()) || e.ty().goes(to))
+}
+
+fn argument_fits(to: Option<Type>, e: &Expr) -> bool
+    ensures { result ≡ argument_fits to e.now }
+{
+    match to {
+        Some(to) => argument_goes(&to, e),
+        None => false,
+    }
+}
+
+fn arguments_fit<F: Facts>(
+    facts: &F,
+    op: &ManyOp,
+    receiver: &Type,
+    arguments: &[Expr],
+) -> Result<bool, NoMemory>
+    ensures { IfOk result (λ fit. fit
+        ≡ arguments_fit ((F.known facts.now).target op.now receiver.now) 0 (exprs arguments.now)) }
+{
+    for i in 0..arguments.len() {
+        if !argument_fits(facts.target(op, receiver, i)?, &arguments[i]) {
+            return Ok(false);
+        }
+    }
+    Ok(facts.target(op, receiver, arguments.len())?.is_none())
+}
+
+fn connects(op: &ManyOp) -> bool
+    ensures { result ≡ connects op.now }
+{
+    matches!(
+        op,
+        ManyOp::OfUnit(UnitMethod::ConnectFilter, _) | ManyOp::OfSink(SinkMethod::Connect)
+    )
+}
+
+fn note_arguments(owner: u32, starts: bool, arguments: &[Expr], least: &mut Option<Fault>)
+    ensures { least.new ≡ checked least.old (argument_tests owner starts (exprs arguments.now)) }
+{
+    for e in arguments {
+        let test = is_no_value(e) && !(starts && is_new(e.ty()));
+        note_at(test, owner, Rule::TypeMismatch, e.span(), least);
+    }
+}
+
+/// Notes what is wrong with a call: with the number and the types of its arguments, on the slice on which what is called
+/// stands, and with arguments that are no values.
+pub(crate) fn note_call<F: Facts>(
+    facts: &F,
+    owner: u32,
+    op: &ManyOp,
+    span: Span,
+    receiver: &Type,
+    arguments: &[Expr],
+    least: &mut Option<Fault>,
+) -> Result<(), NoMemory>
+    ensures { OnOk result (least.new ≡ checked least.old
+        (call_tests (F.known facts.now) owner op.now span receiver.now (exprs arguments.now))) }
+{
+    let fit = arguments_fit(facts, op, receiver, arguments)?;
+    note_at(!fit, owner, Rule::WrongArguments, span, least);
+    note_arguments(owner, connects(op), arguments, least);
+    Ok(())
+}
+
+fn changes_leaf<F: Facts>(facts: &F, op: &LeafOp) -> bool
+    ensures { result ≡ changes_leaf (F.known facts.now) op.now }
+{
+    match op {
+        LeafOp::Local(slot) => !facts.fixed(*slot),
+        LeafOp::Nothing(_) => true,
+        _ => false,
+    }
+}
+
+fn changes_one(op: &OneOp) -> bool
+    ensures { result ≡ changes_one op.now }
+{
+    matches!(
+        op,
+        OneOp::Field(_) | OneOp::Variable(_) | OneOp::NoMember(_)
+    )
+}
+
+fn is_tuple(t: &Type) -> bool
+    ensures { result ≡ is_tuple t.now }
+{
+    matches!(t.level(), Level::Made(Maker::Tuple, _))
+}
+
+fn is_element(op: &TwoOp, t: &Type) -> bool
+    ensures { result ≡ is_element op.now t.now }
+{
+    match op {
+        TwoOp::Index => !is_tuple(t),
+        _ => false,
+    }
+}
+
+/// Whether what an expression names may be changed.
+pub(crate) fn may_change<F: Facts>(facts: &F, e: &Expr) -> bool
+    ensures { result ≡ may_change (F.known facts.now) e.now }
+{
+    match e.level() {
+        ExprLevel::Leaf(head) => changes_leaf(facts, &head.op),
+        ExprLevel::One(head, _) => changes_one(&head.op),
+        ExprLevel::Two(head, a, _) => is_element(&head.op, a.ty()) && may_change(facts, a),
+        ExprLevel::Three(..) | ExprLevel::Many(..) => false,
+    }
+}
+
+fn is_of_self(method: UnitMethod) -> bool
+    ensures { result ≡ is_of_self method }
+{
+    matches!(
+        method,
+        UnitMethod::Offset | UnitMethod::Input | UnitMethod::SetInput | UnitMethod::Backtrack
+    )
+}
+
+fn is_itself(e: &Expr) -> bool
+    ensures { result ≡ is_itself e.now }
+{
+    match e.level() {
+        ExprLevel::Leaf(head) => matches!(&head.op, LeafOp::Itself(_)),
+        _ => false,
+    }
+}
+
+fn note_receiver<F: Facts>(facts: &F, owner: u32, op: &ManyOp, e: &Expr, least: &mut Option<Fault>)
+    ensures { least.new
+        ≡ checked least.old (receiver_tests (F.known facts.now) owner op.now e.now) }
+{
+    match op {
+        ManyOp::Method(method, _) => {
+            let fixed = method.changes() && !may_change(facts, e);
+            note_at(fixed, owner, Rule::NotAssignable, e.span(), least);
+        }
+        ManyOp::OfUnit(method, name) => {
+            let other = is_of_self(*method) && !is_itself(e);
+            note_at(other, owner, Rule::SelfOutside, *name, least);
+        }
+        _ => {}
+    }
+}
+
+/// Notes what is wrong with a call of a method.
+#[tactic(auto, using(crate::proofs::Swept::checked_more))]
+pub(crate) fn note_method<F: Facts>(
+    facts: &F,
+    owner: u32,
+    op: &ManyOp,
+    span: Span,
+    parts: &[Expr],
+    least: &mut Option<Fault>,
+) -> Result<(), NoMemory>
+    ensures { OnOk result (least.new ≡ checked least.old
+        (method_tests (F.known facts.now) owner op.now span (exprs parts.now))) }
+{
+    match parts.split_first() {
+        Some((e, arguments)) => {
+            let receiver = seen(e)?;
+            note_value(owner, e, least);
+            note_receiver(facts, owner, op, e, least);
+            note_call(facts, owner, op, span, &receiver, arguments, least)
+        }
+        None => Ok(()),
+    }
+}
+
+/// Notes arguments behind what can't be called.
+pub(crate) fn note_uncalled(owner: u32, parts: &[Expr], least: &mut Option<Fault>)
+    ensures { least.new ≡ checked least.old (uncalled_tests owner (exprs parts.now)) }
+{
+    if let Some((e, arguments)) = parts.split_first() {
+        let callable = is_no_value(e) || knows(e);
+        note_at(callable, owner, Rule::TypeMismatch, e.span(), least);
+        note_values(owner, arguments, least);
+    }
+}

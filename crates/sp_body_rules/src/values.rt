@@ -1,0 +1,163 @@
+// What is no value, what type is asked of an expression, and whether a value goes to a target.
+ghost use Rattle.std.specs.Prelude.{◌≡◌, if◌then◌else◌};
+ghost use Rattle.sp_rules.specs.Least.{better, checked};
+ghost use Rattle.sp_body_rules.specs.Values.{at, is_valueless, is_void, is_new, is_set, names_no_value, is_set_key, is_no_value, knows, is_past, value_goes, value_tests, wrong, right_tests, condition_tests, target_tests, misplaced_at, written_tests};
+
+use crate::types::is_boolean;
+use sp_base::Span;
+use sp_rules::{Fault, Rule, note_if};
+use sp_typed::{Expr, ExprLevel, LeafOp, TwoOp, Written};
+use sp_types::{Level, Maker, Type, Word};
+use sp_typing::is_over;
+
+/// Notes a rule that is broken where the test holds, on a slice of the text of a module.
+pub(crate) fn note_at(test: bool, owner: u32, rule: Rule, span: Span, least: &mut Option<Fault>)
+    ensures { least.new ≡ (if test then better least.old (at owner rule span) else least.old) }
+{
+    let fault = Fault {
+        rule,
+        module: owner,
+        span,
+    };
+    note_if(test, least, fault);
+}
+
+pub(crate) fn is_valueless(t: &Type) -> bool
+    ensures { result ≡ is_valueless t.now }
+{
+    matches!(t.level(), Level::Word(Word::Void | Word::Regex | Word::New))
+}
+
+pub(crate) fn is_void(t: &Type) -> bool
+    ensures { result ≡ is_void t.now }
+{
+    matches!(t.level(), Level::Word(Word::Void))
+}
+
+pub(crate) fn is_new(t: &Type) -> bool
+    ensures { result ≡ is_new t.now }
+{
+    matches!(t.level(), Level::Word(Word::New))
+}
+
+pub(crate) fn is_set(t: &Type) -> bool
+    ensures { result ≡ is_set t.now }
+{
+    matches!(t.level(), Level::Made(Maker::Set, _))
+}
+
+fn names_no_value(op: &LeafOp) -> bool
+    ensures { result ≡ names_no_value op.now }
+{
+    matches!(
+        op,
+        LeafOp::Function(_) | LeafOp::TypeName(_) | LeafOp::Decoder | LeafOp::Module
+    )
+}
+
+fn is_set_key(op: &TwoOp, t: &Type) -> bool
+    ensures { result ≡ is_set_key op.now t.now }
+{
+    match op {
+        TwoOp::Index => is_set(t),
+        _ => false,
+    }
+}
+
+/// Whether an expression has no value.
+pub(crate) fn is_no_value(e: &Expr) -> bool
+    ensures { result ≡ is_no_value e.now }
+{
+    match e.level() {
+        ExprLevel::Leaf(head) => names_no_value(&head.op) || is_valueless(&head.ty),
+        ExprLevel::One(head, _) => is_valueless(&head.ty),
+        ExprLevel::Two(head, a, _) => is_set_key(&head.op, a.ty()) || is_valueless(&head.ty),
+        ExprLevel::Three(head, ..) => is_valueless(&head.ty),
+        ExprLevel::Many(head, _) => is_valueless(&head.ty),
+    }
+}
+
+/// Whether the type of an expression is known.
+pub(crate) fn knows(e: &Expr) -> bool
+    ensures { result ≡ knows e.now }
+{
+    e.ty().is_known() && !is_over(e)
+}
+
+/// Whether it is a literal past the type of its place.
+pub(crate) fn is_past(e: &Expr) -> bool
+    ensures { result ≡ is_past e.now }
+{
+    e.is_literal() && is_over(e)
+}
+
+/// Whether a value goes to a target of a type.
+pub(crate) fn value_goes(to: &Type, e: &Expr) -> bool
+    ensures { result ≡ value_goes to.now e.now }
+{
+    !is_past(e) && (is_over(e) || e.ty().goes(to))
+}
+
+/// Notes what is wrong with an expression that stands as a value: that it has none, or that it is a literal past its type.
+pub fn note_value(owner: u32, e: &Expr, least: &mut Option<Fault>)
+    ensures { least.new ≡ checked least.old (value_tests owner e.now) }
+{
+    note_at(is_no_value(e), owner, Rule::TypeMismatch, e.span(), least);
+    note_at(is_past(e), owner, Rule::LiteralRange, e.span(), least);
+}
+
+/// Notes a value whose type is known, and is not right.
+pub(crate) fn note_wrong(right: bool, owner: u32, e: &Expr, least: &mut Option<Fault>)
+    ensures { least.new
+        ≡ (if (wrong owner right e.now).0 then better least.old
+        (wrong owner right e.now).1 else least.old) }
+{
+    note_at(
+        knows(e) && !right,
+        owner,
+        Rule::TypeMismatch,
+        e.span(),
+        least,
+    );
+}
+
+/// Notes what is wrong with a value of which something is asked.
+pub(crate) fn note_right(right: bool, owner: u32, e: &Expr, least: &mut Option<Fault>)
+    ensures { least.new ≡ checked least.old (right_tests owner right e.now) }
+{
+    note_value(owner, e, least);
+    note_wrong(right, owner, e, least);
+}
+
+/// Notes what is wrong with a condition.
+pub fn note_condition(owner: u32, e: &Expr, least: &mut Option<Fault>)
+    ensures { least.new ≡ checked least.old (condition_tests owner e.now) }
+{
+    note_right(is_boolean(e.ty()), owner, e, least);
+}
+
+/// Notes what is wrong with a value that goes to a target of this type.
+pub fn note_target(owner: u32, to: &Type, e: &Expr, least: &mut Option<Fault>)
+    ensures { least.new ≡ checked least.old (target_tests owner to.now e.now) }
+{
+    let known = to.is_known();
+    let stays = known && !value_goes(to, e);
+    note_at(is_no_value(e), owner, Rule::TypeMismatch, e.span(), least);
+    note_at(stays, owner, Rule::NotAssignable, e.span(), least);
+    note_at(
+        !known && is_past(e),
+        owner,
+        Rule::LiteralRange,
+        e.span(),
+        least,
+    );
+}
+
+/// Notes what can't stand in a type that is written.
+pub(crate) fn note_written(owner: u32, written: &Written, least: &mut Option<Fault>)
+    ensures { least.new ≡ checked least.old (written_tests owner written.now) }
+{
+    if let Some(span) = written.misplaced {
+        note_at(true, owner, Rule::TypeMismatch, span, least);
+    }
+}

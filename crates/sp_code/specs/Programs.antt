@@ -1,0 +1,130 @@
+-- A program as plain data, and its shapes.
+use Rattle.std.specs.Prelude.{ℕ, List, [], ◌∷◌, ◌++◌, length, slice_get, unwrap_or}
+use Rattle.std.proofs.Common.{Global}
+use Rattle.std.specs.declared.vec.Vec.{Vec}
+use Rattle.sp_base.specs.declared.places.Limits.{Limits}
+use Rattle.sp_methods.specs.Kinds.{Kind, Void, Bools, Unsigned, Signed, Bytes, Text, Iterator, Only, EnumOf, UnitOf, BitsOf, TupleOf, VectorOf, SetOf, MapOf, kinds_of}
+use Rattle.sp_running.specs.Scopes.{Called}
+use Rattle.sp_running.specs.Telling.{Names}
+use Rattle.sp_code.specs.declared.program.BodyOf.{BodyOf}
+use Rattle.sp_code.specs.declared.program.BodyOf.TheVariants as body_of
+use Rattle.sp_code.specs.declared.program.BodyCode.{BodyCode}
+use Rattle.sp_code.specs.declared.program.UnitCode.{UnitCode}
+use Rattle.sp_code.specs.declared.program.KindRow.{KindRow}
+use Rattle.sp_code.specs.declared.program.KindRow.TheVariants as row_is
+use Rattle.sp_code.specs.declared.program.OpenRow.{OpenRow}
+use Rattle.sp_code.specs.declared.program.OpenRow.TheVariants as open_is
+use Rattle.sp_code.specs.declared.program.RoundRow.{RoundRow}
+use Rattle.sp_code.specs.declared.program.RoundRow.TheVariants as round_is
+use Rattle.sp_code.specs.declared.program.ShapeRow.{ShapeRow}
+use Rattle.sp_code.specs.declared.program.Labels.{Labels}
+use Rattle.sp_code.specs.declared.program.Ranges.{Ranges}
+use Rattle.sp_code.specs.declared.program.Program.{Program}
+use Rattle.sp_code.specs.Machine as machine
+use Rattle.sp_code.specs.Machine.{Plain}
+use Rattle.sp_code.specs.Shapes.{Shape, Shapes, BodyKinds, Opens, AView, ATry, Round, OfUnit, OfFunction, OfHook}
+use Rattle.sp_code.specs.Shapes as shapes_are
+
+abbrev pub called_as : BodyOf → Called
+called_as body_of.Function = Called.Function
+called_as (body_of.Hook name told each) = Called.Hook each
+
+abbrev pub name_of : BodyOf → List ℕ
+name_of body_of.Function = []
+name_of (body_of.Hook name told each) = name
+
+abbrev pub told_of : BodyOf → ℕ
+told_of body_of.Function = 0
+told_of (body_of.Hook name told each) = told
+
+abbrev pub bodies_of : List BodyCode → List machine.Body
+bodies_of [] = []
+bodies_of (b ∷ bs) = (record { start = b.start; called = called_as b.of; takes = b.takes; fresh = b.fresh; name = name_of b.of; told = told_of b.of }) ∷ bodies_of bs
+
+abbrev pub units_of : List UnitCode → List machine.UnitCode
+units_of [] = []
+units_of (u ∷ us) = (record { start = u.start; keeps = u.keeps; takes = u.takes; members = length u.members.items; fresh = u.fresh }) ∷ units_of us
+
+abbrev pub member_names : List UnitCode → List (List (List ℕ))
+member_names [] = []
+member_names (u ∷ us) = u.members.items ∷ member_names us
+
+abbrev pub label_names : List Labels → List (List (ℕ × List ℕ))
+label_names [] = []
+label_names (l ∷ ls) = l.labels.items ∷ label_names ls
+
+abbrev pub range_names : List Ranges → List (List (List ℕ))
+range_names [] = []
+range_names (r ∷ rs) = r.ranges.items ∷ range_names rs
+
+abbrev pub names_of : Program → Names
+names_of p = record { members = member_names p.units.items; labels = label_names p.shapes.enums.items; ranges = range_names p.shapes.bitfields.items }
+
+-- a program within limits
+abbrev pub plain_of : Limits → Program → Plain
+plain_of limits p = record { limits = limits; names = names_of p; consts = p.consts; bodies = bodies_of p.hooks.items; units = units_of p.units.items; code = p.code.items }
+
+-- a kind by its number, where these are the kinds so far
+abbrev pub kind_at : List Kind → ℕ → Kind
+kind_at ks n = unwrap_or (slice_get ks n) Void
+
+abbrev pub kinds_at : List Kind → List ℕ → List Kind
+kinds_at ks [] = []
+kinds_at ks (n ∷ ns) = kind_at ks n ∷ kinds_at ks ns
+
+abbrev pub kind_of_row : List Kind → KindRow → Kind
+kind_of_row ks row_is.Void = Void
+kind_of_row ks row_is.Bool = Bools
+kind_of_row ks row_is.Unsigned = Unsigned
+kind_of_row ks row_is.Signed = Signed
+kind_of_row ks row_is.Bytes = Bytes
+kind_of_row ks row_is.Text = Text
+kind_of_row ks row_is.Iterator = Iterator
+kind_of_row ks (row_is.Only n) = Only n
+kind_of_row ks (row_is.Enum k) = EnumOf k
+kind_of_row ks (row_is.Bits k n) = BitsOf k n
+kind_of_row ks (row_is.Unit u) = UnitOf u
+kind_of_row ks (row_is.Tuple ns) = TupleOf (kinds_of (kinds_at ks ns.items))
+kind_of_row ks (row_is.Vector n) = VectorOf (kind_at ks n)
+kind_of_row ks (row_is.Set n) = SetOf (kind_at ks n)
+kind_of_row ks (row_is.Map m n) = MapOf (kind_at ks m) (kind_at ks n)
+
+-- the kinds of a table; each may name those before it
+abbrev pub kinds_from : List Kind → List KindRow → List Kind
+kinds_from ks [] = ks
+kinds_from ks (r ∷ rs) = kinds_from (ks ++ kind_of_row ks r ∷ []) rs
+
+abbrev pub opens_of : List Kind → List OpenRow → List Opens
+opens_of ks [] = []
+opens_of ks (open_is.View ∷ os) = AView ∷ opens_of ks os
+opens_of ks (open_is.Try to ns ∷ os) = ATry to (kinds_at ks ns.items) ∷ opens_of ks os
+
+abbrev pub round_of : List Kind → RoundRow → Round
+round_of ks round_is.Unit = OfUnit
+round_of ks (round_is.Function n) = OfFunction (kind_at ks n)
+round_of ks (round_is.Hook each) = OfHook each
+
+abbrev pub shape_of : List Kind → ShapeRow → Shape
+shape_of ks s = record { unit = s.unit; round = round_of ks s.round; locals = kinds_at ks s.locals.items; operands = kinds_at ks s.operands.items; opens = opens_of ks s.opens.items }
+
+abbrev pub shapes_at : List Kind → List ShapeRow → List Shape
+shapes_at ks [] = []
+shapes_at ks (s ∷ ss) = shape_of ks s ∷ shapes_at ks ss
+
+abbrev pub unit_kinds : List Kind → List UnitCode → List shapes_are.UnitKinds
+unit_kinds ks [] = []
+unit_kinds ks (u ∷ us) = (record { parameters = kinds_at ks u.kinds.parameters.items; members = kinds_at ks u.kinds.members.items; locals = kinds_at ks u.kinds.locals.items }) ∷ unit_kinds ks us
+
+abbrev pub body_kinds : List Kind → List (Vec ℕ Global) → List BodyKinds
+body_kinds ks [] = []
+body_kinds ks (b ∷ bs) = (record { locals = kinds_at ks b.items }) ∷ body_kinds ks bs
+
+abbrev pub shapes_by : List Kind → Program → Shapes
+shapes_by ks p = record { at = shapes_at ks p.shapes.at.items; units = unit_kinds ks p.units.items; bodies = body_kinds ks p.shapes.bodies.items }
+
+abbrev pub shapes_of : Program → Shapes
+shapes_of p = shapes_by (kinds_from [] p.shapes.kinds.items) p
+
+-- sound programs, whatever their limits
+abbrev pub IsSoundProgram : Program → Type 0
+IsSoundProgram p = (limits : Limits) → shapes_are.IsSound (plain_of limits p) (shapes_of p)

@@ -1,0 +1,140 @@
+// Compiled programs.
+use crate::instr::Instr;
+use sp_base::Text;
+use sp_value::Values;
+
+/// What a body in the table of bodies is.
+#[derive(Drop)]
+pub enum BodyOf {
+    Function,
+    /// A body of a hook: the hook's name, how many of the values that it takes its event tells, and
+    /// whether it is one of a foreach hook, which tells if its container goes on.
+    Hook { name: Text, told: u32, each: bool },
+}
+
+/// A function or a body of a hook.
+#[derive(Drop)]
+pub struct BodyCode {
+    /// The address at which it begins.
+    pub start: u32,
+    /// How many values it takes. They are its first locals.
+    pub takes: u32,
+    /// The first values of its other locals.
+    pub fresh: Values,
+    pub of: BodyOf,
+}
+
+/// A unit.
+#[derive(Drop)]
+pub struct UnitCode {
+    /// The address at which it begins.
+    pub start: u32,
+    /// Whether the bytes from its start on are kept while it is open.
+    pub keeps: bool,
+    /// How many values it takes. They are its parameters.
+    pub takes: u32,
+    /// The first values of the locals of its own code.
+    pub fresh: Values,
+    /// The names of its members.
+    pub members: Vec<Text>,
+    /// The numbers in the table of kinds of its parameters, its members and its locals.
+    pub kinds: UnitKinds,
+}
+
+/// Kinds of a unit, by their numbers in the table of kinds.
+#[derive(Drop)]
+pub struct UnitKinds {
+    pub parameters: Vec<u32>,
+    pub members: Vec<u32>,
+    pub locals: Vec<u32>,
+}
+
+/// A kind of values. A number of a kind is that of an earlier one in the table.
+#[derive(Drop)]
+pub enum KindRow {
+    Void,
+    Bool,
+    Unsigned,
+    Signed,
+    Bytes,
+    Text,
+    Iterator,
+    /// One unsigned number.
+    Only(u64),
+    Enum(u32),
+    /// A bitfield, and how many ranges it has.
+    Bits(u32, u32),
+    Unit(u32),
+    Tuple(Vec<u32>),
+    Vector(u32),
+    Set(u32),
+    Map(u32, u32),
+}
+
+/// What is open in a body.
+#[derive(Drop)]
+pub enum OpenRow {
+    View,
+    /// A `&try` field: the address at which a step back goes on, and the kinds of the operands
+    /// there.
+    Try(u32, Vec<u32>),
+}
+
+/// Of what a shape's body is.
+#[derive(Clone, Copy)]
+pub enum RoundRow {
+    Unit,
+    /// A function, by the kind of its result.
+    Function(u32),
+    /// A body of a hook, and whether it is one of a foreach hook.
+    Hook(bool),
+}
+
+/// What stands before an instruction.
+#[derive(Drop)]
+pub struct ShapeRow {
+    /// The unit at hand, unless it isn't known.
+    pub unit: Option<u32>,
+    pub round: RoundRow,
+    /// The kinds of the locals, and of the operands, the top first.
+    pub locals: Vec<u32>,
+    pub operands: Vec<u32>,
+    /// What is open, the innermost first.
+    pub opens: Vec<OpenRow>,
+}
+
+/// The labels of an enum: their numbers, and how they are told.
+#[derive(Drop)]
+pub struct Labels {
+    pub labels: Vec<(u64, Text)>,
+}
+
+/// The names of the ranges of a bitfield.
+#[derive(Drop)]
+pub struct Ranges {
+    pub ranges: Vec<Text>,
+}
+
+/// The kinds of values of a program, and how they stand before each instruction.
+#[derive(Drop)]
+pub struct Shapes {
+    pub kinds: Vec<KindRow>,
+    /// By address.
+    pub at: Vec<ShapeRow>,
+    /// The kinds of the locals of each body.
+    pub bodies: Vec<Vec<u32>>,
+    pub enums: Vec<Labels>,
+    pub bitfields: Vec<Ranges>,
+}
+
+/// A compiled list of modules. Addresses are places in `code`.
+#[derive(Drop)]
+pub struct Program {
+    pub code: Vec<Instr>,
+    pub consts: Values,
+    pub units: Vec<UnitCode>,
+    /// The table of bodies that `Call` and `Hook` enter: functions first, and behind them the
+    /// bodies of hooks.
+    pub hooks: Vec<BodyCode>,
+    pub shapes: Shapes,
+}

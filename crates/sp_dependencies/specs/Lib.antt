@@ -1,0 +1,4 @@
+pub mod Tries
+pub mod TryLaws
+pub mod Endless
+pub mod Links

@@ -1,0 +1,4 @@
+pub mod Sizes
+pub mod Code
+pub mod Bodies
+pub mod Rows

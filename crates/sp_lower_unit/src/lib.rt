@@ -1,0 +1,2 @@
+//! The code of statements, functions and hooks: each instruction with the shape before it.
+#![tactic(auto)]

@@ -1,0 +1,21 @@
+use Rattle.std.specs.Prelude.{reverse}
+use Rattle.std.proofs.Common.{◌≡◌, ◌+◌, ◌*◌, ◌≤◌, ◌++◌, length}
+use Rattle.sp_typed.specs.Exprs.{exprs}
+use Rattle.sp_typed.specs.inside.ExprCodes.{expr_size, exprs_size}
+use Rattle.sp_typing_stmts.specs.Owners.{all_kept}
+use Rattle.sp_typing_stmts.proofs.owners.+kept.Given as goal
+
+abbrev pub decreases-keep_owners : goal.decreases-keep_owners
+decreases-keep_owners l = 2 * expr_size l.e + 1
+
+abbrev pub decreases-all_kept : goal.decreases-all_kept
+decreases-all_kept l = 2 * exprs_size (exprs l.parts.items)
+
+abbrev pub decreases-all_kept-loop-part : goal.decreases-all_kept-loop-part
+decreases-all_kept-loop-part l = length l.parts.items
+
+abbrev pub invariant-all_kept-loop-part : goal.invariant-all_kept-loop-part
+invariant-all_kept-loop-part l =
+    (l.all.items ++ (all_kept l.scope (exprs (reverse l.parts.items))).0 ≡ (all_kept l.fn.scope (exprs l.fn.parts.items)).0)
+    × ((all_kept l.scope (exprs (reverse l.parts.items))).1 ≡ (all_kept l.fn.scope (exprs l.fn.parts.items)).1)
+    × (exprs_size (exprs (reverse l.parts.items)) ≤ exprs_size (exprs l.fn.parts.items))

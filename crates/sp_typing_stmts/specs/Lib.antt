@@ -1,0 +1,9 @@
+pub mod Scopes
+pub mod Marks
+pub mod Visible
+pub mod Owners
+pub mod Values
+pub mod Statements
+pub mod Rows
+pub mod StatementRows
+pub mod inside

@@ -1,0 +1,7 @@
+pub mod Roles
+pub mod Decorators
+pub mod Values
+pub mod Attributes
+pub mod Readings
+pub mod Parts
+pub mod Rows

@@ -1,0 +1,231 @@
+// Attributes: their values, and the type to which what is read is converted.
+ghost use Rattle.std.specs.Prelude.{◌≡◌, IfOk};
+ghost use Rattle.sp_ast.specs.Trees.{trees};
+ghost use Rattle.sp_ast.specs.Views.{optional_tree};
+ghost use Rattle.sp_typing.specs.Typing.{typed};
+ghost use Rattle.sp_typing_units.specs.Decorators.{meant};
+ghost use Rattle.sp_typing_units.specs.Roles.{role_of};
+ghost use Rattle.sp_typing_units.specs.Attributes.{element_of, value_typed, maybe_value, order_number, delimiter_bytes, attribute_with, attribute_by, attributes, if_convert, conversion_of, or_next, conversion, converted};
+
+use crate::constants::Constants;
+use crate::current::WithCurrent;
+use crate::optional::is_present;
+use crate::roles::{Holder, Kind, Role, role_of};
+use sp_ast::{AttributeKind, ExprKind, Members, Ref};
+use sp_base::{ByteList, NoMemory, Span};
+use sp_typed::{Expr, Standing};
+use sp_typed_units::Attribute;
+use sp_types::{Level, Maker, Type, Word};
+use sp_typing::{Context, first_type, seen, to_target, typed};
+use sp_words::AttributeName;
+use std::alloc::Global;
+
+/// What attributes stand on: what holds them, what is read, its type, and the type of what is stored.
+#[derive(Drop)]
+pub struct Site {
+    pub holder: Holder,
+    pub kind: Kind,
+    pub read: Type,
+    pub stored: Type,
+}
+
+/// The type of the elements of a container.
+fn element_of(of: &Type) -> Result<Type, NoMemory>
+    ensures { IfOk result (λ t. t ≡ element_of of.now) }
+{
+    match of.level() {
+        Level::Made(Maker::Vector, parts) => first_type(parts),
+        _ => Ok(Type::word(Word::Unknown)),
+    }
+}
+
+/// An expression where `$$` is of a type.
+fn typed_with<C: Context>(
+    alloc: Global,
+    context: &C,
+    current: &Type,
+    tree: &Ref<'_, ExprKind>,
+) -> Result<Expr, NoMemory>
+    ensures { IfOk result (λ e. e ≡ typed (meant current.now (C.around context.now)) tree.now) }
+{
+    let inside = WithCurrent::new(context, current, Standing::Meant);
+    typed(alloc, &inside, tree)
+}
+
+/// The value of an attribute.
+fn value_typed<C: Context>(
+    alloc: Global,
+    context: &C,
+    role: Role,
+    site: &Site,
+    tree: &Ref<'_, ExprKind>,
+) -> Result<Expr, NoMemory>
+    ensures { IfOk result (λ e. e ≡ value_typed (C.around context.now) role site.now.read
+        site.now.stored tree.now) }
+{
+    match role {
+        Role::Conversion => typed_with(alloc, context, &site.read, tree),
+        Role::Requirement => typed_with(alloc, context, &site.stored, tree),
+        Role::Test => typed_with(alloc, context, &element_of(&site.read)?, tree),
+        Role::Misused | Role::Unasked | Role::Alone => {
+            typed_with(alloc, context, &Type::word(Word::Unknown), tree)
+        }
+        Role::Default => to_target(alloc, &site.stored, typed(alloc, context, tree)?),
+        Role::Amount | Role::Delimiter | Role::Order | Role::Source | Role::Place => {
+            typed(alloc, context, tree)
+        }
+    }
+}
+
+fn maybe_value<C: Context>(
+    alloc: Global,
+    context: &C,
+    role: Role,
+    site: &Site,
+    value: &Option<Ref<'_, ExprKind>>,
+) -> Result<Option<Expr>, NoMemory>
+    ensures { IfOk result (λ e. e ≡ maybe_value (C.around context.now) role site.now.read
+        site.now.stored value.now) }
+{
+    match value {
+        Some(tree) => Ok(Some(value_typed(alloc, context, role, site, tree)?)),
+        None => Ok(None),
+    }
+}
+
+fn order_number<V: Constants>(
+    alloc: Global,
+    constants: &V,
+    role: Role,
+    value: &Option<Expr>,
+) -> Result<Option<u64>, NoMemory>
+    ensures { IfOk result (λ n. n ≡ order_number (V.values constants.now) role value.now) }
+{
+    match (role, value) {
+        (Role::Order, Some(e)) => constants.number(alloc, e),
+        _ => Ok(None),
+    }
+}
+
+fn delimiter_bytes<V: Constants>(
+    alloc: Global,
+    constants: &V,
+    role: Role,
+    value: &Option<Expr>,
+) -> Result<Option<ByteList>, NoMemory>
+    ensures { IfOk result (λ b. b ≡ delimiter_bytes (V.values constants.now) role value.now) }
+{
+    match (role, value) {
+        (Role::Delimiter, Some(e)) => constants.bytes(alloc, e),
+        _ => Ok(None),
+    }
+}
+
+fn attribute_with<V: Constants>(
+    alloc: Global,
+    constants: &V,
+    role: Role,
+    span: Span,
+    name: AttributeName,
+    value: Option<Expr>,
+) -> Result<Attribute, NoMemory>
+    ensures { IfOk result (λ a. a ≡ attribute_with (V.values constants.now) role span name value) }
+{
+    let number = order_number(alloc, constants, role, &value)?;
+    let bytes = delimiter_bytes(alloc, constants, role, &value)?;
+    Ok(Attribute {
+        span,
+        name,
+        value,
+        number,
+        bytes,
+    })
+}
+
+fn attribute_by<C: Context, V: Constants>(
+    alloc: Global,
+    context: &C,
+    constants: &V,
+    site: &Site,
+    span: Span,
+    name: AttributeName,
+    value: &Option<Ref<'_, ExprKind>>,
+) -> Result<Attribute, NoMemory>
+    ensures { IfOk result (λ a. a ≡ attribute_by (C.around context.now) (V.values constants.now)
+        site.now (role_of site.now.holder site.now.kind name) span name value.now) }
+{
+    let role = role_of(site.holder, site.kind, name);
+    let value = maybe_value(alloc, context, role, site, value)?;
+    attribute_with(alloc, constants, role, span, name, value)
+}
+
+/// The attributes behind what is read, in the order of the text.
+pub fn attributes_of<C: Context, V: Constants>(
+    alloc: Global,
+    context: &C,
+    constants: &V,
+    site: &Site,
+    list: &Members<'_, AttributeKind>,
+) -> Result<Vec<Attribute>, NoMemory>
+    ensures { IfOk result (λ r. r.items ≡ attributes (C.around context.now) (V.values constants.now)
+        site.now (trees list.now)) }
+{
+    let mut all = Vec::new(alloc);
+    for attribute in list.again() {
+        let span = attribute.span();
+        let view = attribute.view();
+        is_present(&view.value);
+        let typed = attribute_by(
+            alloc,
+            context,
+            constants,
+            site,
+            span,
+            view.name,
+            &view.value,
+        )?;
+        all.push(typed)?;
+    }
+    Ok(all)
+}
+
+/// The value of an attribute that is `&convert`.
+fn conversion_of<'a>(attribute: &Ref<'a, AttributeKind>) -> Option<Ref<'a, ExprKind>>
+    ensures { result ≡ conversion_of attribute.now }
+{
+    let view = attribute.view();
+    is_present(&view.value);
+    match view.name {
+        AttributeName::Convert => view.value,
+        _ => None,
+    }
+}
+
+/// The value of the first `&convert` that has one.
+fn conversion<'a>(list: &Members<'a, AttributeKind>) -> Option<Ref<'a, ExprKind>>
+    ensures { result ≡ conversion (trees list.now) }
+{
+    for attribute in list.again() {
+        let value = conversion_of(&attribute);
+        if value.is_some() {
+            return value;
+        }
+    }
+    None
+}
+
+/// The type of what is stored: what is read, or what that is converted to.
+pub fn converted<C: Context>(
+    alloc: Global,
+    context: &C,
+    read: &Type,
+    list: &Members<'_, AttributeKind>,
+) -> Result<Type, NoMemory>
+    ensures { IfOk result (λ t. t ≡ converted (C.around context.now) read.now
+        (conversion (trees list.now))) }
+{
+    match conversion(list) {
+        Some(tree) => seen(&typed_with(alloc, context, read, &tree)?),
+        None => read.copy(),
+    }
+}

@@ -1,0 +1,459 @@
+// How fields, elements and groups are read.
+ghost use Rattle.std.specs.Prelude.{◌≡◌, IfOk};
+ghost use Rattle.sp_ast.specs.Trees.{trees, span_of};
+ghost use Rattle.sp_typing.specs.Contexts.{Around};
+ghost use Rattle.sp_typing.specs.Operands.{unknown};
+ghost use Rattle.sp_typing.specs.Typing.{int_word, to_maybe};
+ghost use Rattle.sp_typing_units.specs.Readings.{fine, unnamed, misplaced, simple, broken, literal, or_empty, constant_read, constant_of_type, named_op, named_read, unit_spec, word_read, unknown_read, type_read, arguments, called_word, called_op, called, vector_of, counting, container, contained, group_with, group_of, base_read, counted_read};
+
+use crate::attributes::{Site, attributes_of, converted};
+use crate::constants::Constants;
+use crate::optional::{is_present, maybe_typed};
+use crate::roles::{Holder, Kind, grouped};
+use sp_ast::{
+    AttributeKind, BaseKind, BaseView, CountKind, ExprKind, Members, PathKind, Ref, TypeKind,
+    TypeView,
+};
+use sp_base::{ByteList, NoMemory, Span, Text};
+use sp_numbers::Width;
+use sp_typed::{Expr, ExprLevel, LeafOp, ManyOp, NewOf, Written};
+use sp_typed_units::{ReadOp, Reading, Spec, SpecNode, TokenOp, UnitOf};
+use sp_types::{Level, Maker, Type, Word};
+use sp_typing::{Context, to_maybe, typed_all};
+use sp_words::IntWord;
+use std::alloc::Global;
+
+/// How something is read, the type of what is read, and what attributes can stand on it.
+#[derive(Drop)]
+pub struct Read {
+    pub spec: Spec,
+    pub ty: Type,
+    pub kind: Kind,
+}
+
+/// What has nothing wrong of its own.
+fn fine(at: Span) -> Written
+    ensures { result ≡ fine at }
+{
+    Written {
+        span: at,
+        unnamed: None,
+        misplaced: None,
+    }
+}
+
+fn unnamed(at: Span, name: Span) -> Written
+    ensures { result ≡ unnamed at name }
+{
+    Written {
+        span: at,
+        unnamed: Some(name),
+        misplaced: None,
+    }
+}
+
+fn misplaced(at: Span, place: Span) -> Written
+    ensures { result ≡ misplaced at place }
+{
+    Written {
+        span: at,
+        unnamed: None,
+        misplaced: Some(place),
+    }
+}
+
+/// A reading without parts.
+fn simple(at: Span, ty: Type, kind: Kind, op: ReadOp) -> Result<Read, NoMemory>
+    ensures { IfOk result (λ r. r ≡ simple at ty kind op) }
+{
+    let reading = Reading {
+        span: at,
+        ty: ty.copy()?,
+        op,
+    };
+    let spec = Spec::new(SpecNode::Read(reading))?;
+    Ok(Read { spec, ty, kind })
+}
+
+fn broken(at: Span, ty: Type, wrong: Written) -> Result<Read, NoMemory>
+    ensures { IfOk result (λ r. r ≡ broken at ty wrong) }
+{
+    simple(at, ty, Kind::Broken, ReadOp::Broken(wrong))
+}
+
+fn literal(at: Span, token: TokenOp, constant: Option<u32>) -> Result<Read, NoMemory>
+    ensures { IfOk result (λ r. r ≡ literal at token constant) }
+{
+    let op = ReadOp::Token(token, constant);
+    simple(at, Type::word(Word::Bytes), Kind::Literal, op)
+}
+
+fn bytes_of<V: Constants>(alloc: Global, constants: &V, e: &Expr) -> Result<ByteList, NoMemory>
+    ensures { IfOk result (λ b. b ≡ or_empty ((V.values constants.now).bytes e.now)) }
+{
+    match constants.bytes(alloc, e)? {
+        Some(bytes) => Ok(bytes),
+        None => Ok(ByteList::new(alloc)),
+    }
+}
+
+fn regex_of<V: Constants>(alloc: Global, constants: &V, e: &Expr) -> Result<Text, NoMemory>
+    ensures { IfOk result (λ t. t ≡ or_empty ((V.values constants.now).regex e.now)) }
+{
+    match constants.regex(alloc, e)? {
+        Some(text) => Ok(text),
+        None => Text::new(alloc, ""),
+    }
+}
+
+/// A constant of a type, where it stands in place of a type.
+fn constant_read<V: Constants>(
+    alloc: Global,
+    constants: &V,
+    at: Span,
+    number: u32,
+    ty: &Type,
+    e: &Expr,
+) -> Result<Read, NoMemory>
+    ensures { IfOk result (λ r. r ≡ constant_of_type (V.values constants.now) at number ty.now
+        e.now) }
+{
+    match ty.level() {
+        Level::Word(Word::Bytes) => {
+            let token = TokenOp::Bytes(bytes_of(alloc, constants, e)?);
+            literal(at, token, Some(number))
+        }
+        Level::Word(Word::Regex) => {
+            let token = TokenOp::Regex(regex_of(alloc, constants, e)?);
+            literal(at, token, Some(number))
+        }
+        Level::Word(Word::Unknown) => broken(at, Type::word(Word::Unknown), fine(at)),
+        _ => broken(at, Type::word(Word::Unknown), misplaced(at, at)),
+    }
+}
+
+/// What a path is read as that is no type that can be read.
+fn named_read<V: Constants>(
+    alloc: Global,
+    constants: &V,
+    at: Span,
+    e: &Expr,
+) -> Result<Read, NoMemory>
+    ensures { IfOk result (λ r. r ≡ named_read (V.values constants.now) at e.now) }
+{
+    let unknown = Type::word(Word::Unknown);
+    match e.level() {
+        ExprLevel::Leaf(head) => match &head.op {
+            LeafOp::Constant(n) => constant_read(alloc, constants, at, *n, &head.ty, e),
+            LeafOp::Nothing(name) => broken(at, unknown, unnamed(at, *name)),
+            LeafOp::TypeName(_) => broken(at, unknown, fine(at)),
+            _ => broken(at, unknown, misplaced(at, at)),
+        },
+        _ => broken(at, unknown, misplaced(at, at)),
+    }
+}
+
+/// A unit with its arguments.
+fn unit_spec(at: Span, unit: u32, arguments: Vec<Expr>) -> Result<Read, NoMemory>
+    ensures { IfOk result (λ r. r ≡ unit_spec at unit arguments.items) }
+{
+    let spec = Spec::new(SpecNode::Unit(UnitOf { span: at, unit }, arguments))?;
+    Ok(Read {
+        spec,
+        ty: Type::word(Word::Unit(unit)),
+        kind: Kind::Unit,
+    })
+}
+
+/// A word that is read.
+fn word_read(alloc: Global, at: Span, word: Word) -> Result<Read, NoMemory>
+    ensures { IfOk result (λ r. r ≡ word_read at word) }
+{
+    let ty = Type::word(word);
+    match word {
+        Word::Uint(_) | Word::Int(_) => simple(at, ty, Kind::Integer, ReadOp::Int),
+        Word::Bitfield(n) => simple(at, ty, Kind::Bitfield, ReadOp::Bits(n)),
+        Word::Bytes => simple(at, ty, Kind::Bytes, ReadOp::Bytes),
+        Word::Void => simple(at, ty, Kind::Void, ReadOp::Void),
+        Word::Unit(n) => unit_spec(at, n, Vec::new(alloc)),
+        Word::Decoder => broken(at, ty, fine(at)),
+        _ => broken(at, Type::word(Word::Unknown), misplaced(at, at)),
+    }
+}
+
+/// What is written where a type may stand and is no type that is known.
+fn unknown_read<C: Context, V: Constants>(
+    alloc: Global,
+    context: &C,
+    constants: &V,
+    at: Span,
+    tree: &Ref<'_, TypeKind>,
+) -> Result<Read, NoMemory>
+    ensures { IfOk result (λ r. r ≡ unknown_read (C.around context.now) (V.values constants.now) at
+        tree.now) }
+{
+    match tree.view() {
+        TypeView::Path(path) => {
+            let e = context.named(alloc, path.span(), &path)?;
+            named_read(alloc, constants, at, &e)
+        }
+        _ => broken(at, Type::word(Word::Unknown), misplaced(at, at)),
+    }
+}
+
+/// What a type is read as.
+fn type_read<C: Context, V: Constants>(
+    alloc: Global,
+    context: &C,
+    constants: &V,
+    at: Span,
+    tree: &Ref<'_, TypeKind>,
+) -> Result<Read, NoMemory>
+    ensures { IfOk result (λ r. r ≡ type_read (C.around context.now) (V.values constants.now) at
+        tree.now ((C.around context.now).type_in tree.now)) }
+{
+    let ty = context.type_in(alloc, tree)?;
+    match ty.level() {
+        Level::Word(Word::Unknown) => unknown_read(alloc, context, constants, at, tree),
+        Level::Word(word) => word_read(alloc, at, word),
+        Level::Made(..) => broken(at, Type::word(Word::Unknown), misplaced(at, at)),
+    }
+}
+
+/// An argument of this number, as it goes to its parameter.
+fn argument<C: Context>(
+    alloc: Global,
+    context: &C,
+    op: &ManyOp,
+    number: usize,
+    e: Expr,
+) -> Result<Expr, NoMemory>
+    ensures { IfOk result (λ r. r ≡ to_maybe ((C.around context.now).target op.now unknown number)
+        e) }
+{
+    let to = context.target(op, &Type::word(Word::Unknown), number)?;
+    to_maybe(alloc, &to, e)
+}
+
+/// The arguments of a unit, each as it goes to its parameter.
+fn arguments<C: Context>(
+    alloc: Global,
+    context: &C,
+    unit: u32,
+    path: Span,
+    list: Vec<Expr>,
+) -> Result<Vec<Expr>, NoMemory>
+    ensures { IfOk result (λ r. r.items ≡ arguments (C.around context.now) unit path list.items) }
+{
+    let op = ManyOp::New(NewOf::Unit(unit), path);
+    let mut parts = Vec::new(alloc);
+    for e in list {
+        let number = parts.len();
+        parts.push(argument(alloc, context, &op, number, e)?)?;
+    }
+    Ok(parts)
+}
+
+fn called_word<C: Context>(
+    alloc: Global,
+    context: &C,
+    at: Span,
+    path: Span,
+    word: Word,
+    list: Vec<Expr>,
+) -> Result<Read, NoMemory>
+    ensures { IfOk result (λ r. r ≡ called_word (C.around context.now) at path word list.items) }
+{
+    match word {
+        Word::Unit(n) => unit_spec(at, n, arguments(alloc, context, n, path, list)?),
+        Word::Unknown => broken(at, Type::word(Word::Unknown), fine(at)),
+        Word::Decoder => broken(at, Type::word(Word::Decoder), fine(at)),
+        _ => broken(at, Type::word(Word::Unknown), misplaced(at, path)),
+    }
+}
+
+/// `U(a, b)`, where this is what the path is, and it stands here.
+fn called<C: Context>(
+    alloc: Global,
+    context: &C,
+    at: Span,
+    path: Span,
+    callee: &Expr,
+    list: Vec<Expr>,
+) -> Result<Read, NoMemory>
+    ensures { IfOk result (λ r. r ≡ called (C.around context.now) at path callee.now list.items) }
+{
+    match callee.level() {
+        ExprLevel::Leaf(head) => match &head.op {
+            LeafOp::TypeName(word) => called_word(alloc, context, at, path, *word, list),
+            LeafOp::Decoder => broken(at, Type::word(Word::Decoder), fine(at)),
+            LeafOp::Nothing(name) => broken(at, Type::word(Word::Unknown), unnamed(at, *name)),
+            _ => broken(at, Type::word(Word::Unknown), misplaced(at, path)),
+        },
+        _ => broken(at, Type::word(Word::Unknown), misplaced(at, path)),
+    }
+}
+
+fn vector_of(alloc: Global, element: &Type) -> Result<Type, NoMemory>
+    ensures { IfOk result (λ t. t ≡ vector_of element.now) }
+{
+    let mut parts = Vec::with_capacity(alloc, 1)?;
+    parts.push(element.copy()?)?;
+    Type::made(alloc, Maker::Vector, parts)
+}
+
+fn counting(count: &Option<Ref<'_, ExprKind>>) -> Kind
+    ensures { result ≡ counting count.now }
+{
+    match count {
+        Some(_) => Kind::Counted,
+        None => Kind::Open,
+    }
+}
+
+/// A container of what is read, whose last bracket stands here.
+fn container<C: Context>(
+    alloc: Global,
+    context: &C,
+    at: Span,
+    last: Span,
+    count: &Option<Ref<'_, ExprKind>>,
+    element: Read,
+) -> Result<Read, NoMemory>
+    ensures { IfOk result (λ r. r ≡ container (C.around context.now) at last count.now element) }
+{
+    let span = Span {
+        from: at.from,
+        to: last.to,
+    };
+    let number = maybe_typed(alloc, context, count)?;
+    let ty = vector_of(alloc, &element.ty)?;
+    let inner = Box::new(alloc, element.spec)?;
+    Ok(Read {
+        spec: Spec::new(SpecNode::List(span, inner, number))?,
+        ty,
+        kind: counting(count),
+    })
+}
+
+fn contained<C: Context>(
+    alloc: Global,
+    context: &C,
+    at: Span,
+    counts: &Members<'_, CountKind>,
+    element: Read,
+) -> Result<Read, NoMemory>
+    ensures { IfOk result (λ r. r ≡ contained (C.around context.now) at (trees counts.now)
+        element) }
+{
+    let mut read = element;
+    for count in counts.again() {
+        let number = count.number();
+        is_present(&number);
+        read = container(alloc, context, at, count.span(), &number, read)?;
+    }
+    Ok(read)
+}
+
+/// What stands in parentheses, with its attributes.
+fn group_of<C: Context, V: Constants>(
+    alloc: Global,
+    context: &C,
+    constants: &V,
+    at: Span,
+    list: &Members<'_, AttributeKind>,
+    inner: Read,
+) -> Result<Read, NoMemory>
+    ensures { IfOk result (λ r. r ≡ group_of (C.around context.now) (V.values constants.now) at
+        (trees list.now) inner) }
+{
+    let Read { spec, ty, kind } = inner;
+    let stored = converted(alloc, context, &ty, list)?;
+    let site = Site {
+        holder: Holder::Group,
+        kind,
+        read: ty,
+        stored,
+    };
+    let typed = attributes_of(alloc, context, constants, &site, list)?;
+    let inner = Box::new(alloc, spec)?;
+    Ok(Read {
+        spec: Spec::new(SpecNode::Group(at, inner, typed))?,
+        ty: site.stored,
+        kind: grouped(kind),
+    })
+}
+
+/// The type that is a word of integers.
+fn int_word(word: IntWord) -> Word
+    ensures { result ≡ int_word word }
+{
+    match word {
+        IntWord::Uint8 => Word::Uint(Width::W8),
+        IntWord::Uint16 => Word::Uint(Width::W16),
+        IntWord::Uint32 => Word::Uint(Width::W32),
+        IntWord::Uint64 => Word::Uint(Width::W64),
+        IntWord::Int8 => Word::Int(Width::W8),
+        IntWord::Int16 => Word::Int(Width::W16),
+        IntWord::Int32 => Word::Int(Width::W32),
+        IntWord::Int64 => Word::Int(Width::W64),
+    }
+}
+
+/// How a base is read, apart from counts behind it.
+#[cycle(base)]
+fn base_read<C: Context, V: Constants>(
+    alloc: Global,
+    context: &C,
+    constants: &V,
+    base: &Ref<'_, BaseKind>,
+) -> Result<Read, NoMemory>
+    ensures { IfOk result (λ r. r ≡ base_read (C.around context.now) (V.values constants.now)
+        base.now) }
+{
+    let at = base.span();
+    match base.view() {
+        BaseView::Type(tree) => type_read(alloc, context, constants, at, &tree),
+        BaseView::Unit { path, arguments } => {
+            let callee = context.named(alloc, path.span(), &path)?;
+            let list = typed_all(alloc, context, &arguments)?;
+            called(alloc, context, at, path.span(), &callee, list)
+        }
+        BaseView::Group {
+            base,
+            counts,
+            attributes,
+        } => {
+            let inner = base_read(alloc, context, constants, &base)?;
+            let inner = contained(alloc, context, base.span(), &counts, inner)?;
+            group_of(alloc, context, constants, at, &attributes, inner)
+        }
+        BaseView::Bytes(bytes) => {
+            let token = TokenOp::Bytes(ByteList::from_slice(alloc, bytes)?);
+            literal(at, token, None)
+        }
+        BaseView::Regex(text) => {
+            let token = TokenOp::Regex(Text::new(alloc, text)?);
+            literal(at, token, None)
+        }
+        BaseView::Number(word, number) => {
+            let op = ReadOp::Token(TokenOp::Number(number.value()), None);
+            simple(at, Type::word(int_word(word)), Kind::TypedLiteral, op)
+        }
+    }
+}
+
+/// How a base with counts behind it is read: a container for each.
+pub fn counted_read<C: Context, V: Constants>(
+    alloc: Global,
+    context: &C,
+    constants: &V,
+    base: &Ref<'_, BaseKind>,
+    counts: &Members<'_, CountKind>,
+) -> Result<Read, NoMemory>
+    ensures { IfOk result (λ r. r ≡ counted_read (C.around context.now) (V.values constants.now)
+        base.now (trees counts.now)) }
+{
+    let read = base_read(alloc, context, constants, base)?;
+    contained(alloc, context, base.span(), counts, read)
+}
