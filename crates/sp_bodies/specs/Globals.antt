@@ -7,6 +7,8 @@ use Rattle.sp_typed_units.specs.declared.declarations.ConstantValue.{ConstantVal
 use Rattle.sp_typed_units.specs.declared.declarations.ConstantValue.TheVariants as constant_is
 use Rattle.sp_typed_units.specs.declared.declarations.Enum.{Enum}
 use Rattle.sp_typed_units.specs.declared.declarations.Label.{Label}
+use Rattle.sp_typed_units.specs.declared.declarations.LabelNumber.{LabelNumber}
+use Rattle.sp_typed_units.specs.declared.declarations.LabelNumber.TheVariants as number_is
 use Rattle.sp_typed_units.specs.declared.declarations.Bitfield.{Bitfield}
 use Rattle.sp_running.specs.States.{State, local_of, parameter_of}
 
@@ -25,9 +27,13 @@ constant_values [] = []
 constant_values (c ∷ cs) = constant_value c.value ∷ constant_values cs
 
 -- a label without a number breaks a rule
+abbrev pub number_of : LabelNumber → ℕ
+number_of (number_is.Number n) = n
+number_of n = 0
+
 abbrev pub label_numbers : List Label → List ℕ
 label_numbers [] = []
-label_numbers (l ∷ ls) = unwrap_or l.number 0 ∷ label_numbers ls
+label_numbers (l ∷ ls) = number_of l.number ∷ label_numbers ls
 
 abbrev pub enum_labels : List Enum → List (List ℕ)
 enum_labels [] = []

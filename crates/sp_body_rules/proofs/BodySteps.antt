@@ -1,5 +1,5 @@
 -- One more of a row of statements, branches or cases.
-use Rattle.std.proofs.Common.{ℕ, ◌≡◌, ◌+◌, ◌<◌, List, [], ◌∷◌, ◌++◌, length, get_or, drop, Option, refl, sym, ap, ◌∙◌, append_assoc, Global, Vec}
+use Rattle.std.proofs.Common.{ℕ, ◌≡◌, ◌+◌, ◌<◌, List, ◌∷◌, ◌++◌, length, get_or, drop, Option, refl, sym, ap, ◌∙◌, append_assoc, Global, Vec}
 use Rattle.std.proofs.lemmas.List.{at_drop_more}
 use Rattle.sp_rules.specs.declared.fault.Fault.{Fault}
 use Rattle.sp_types.specs.Types.{Ty}

@@ -1,5 +1,5 @@
 -- The values of one more case.
-use Rattle.std.proofs.Common.{ℕ, ◌≡◌, ◌+◌, ◌<◌, List, [], ◌∷◌, ◌++◌, length, get_or, drop, Option, sym, ap, ◌∙◌, Global, Vec}
+use Rattle.std.proofs.Common.{ℕ, ◌≡◌, ◌+◌, ◌<◌, List, ◌∷◌, length, get_or, drop, Option, sym, ap, ◌∙◌, Global, Vec}
 use Rattle.std.proofs.lemmas.List.{at_drop_more}
 use Rattle.sp_rules.specs.declared.fault.Fault.{Fault}
 use Rattle.sp_rules.specs.Least.{checked}

@@ -1,5 +1,5 @@
 -- Whether the last of some statements ends well, told from the left.
-use Rattle.std.proofs.Common.{◌≡◌, Bool, true, false, refl}
+use Rattle.std.proofs.Common.{◌≡◌, Bool, false, refl}
 use Rattle.sp_typed.specs.Stmts.{Stmt, Stmts, no_stmts, more_stmts}
 use Rattle.sp_body_rules.specs.Ends.{ends_well, last_ends_well}
 

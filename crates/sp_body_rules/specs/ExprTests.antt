@@ -1,13 +1,11 @@
 -- The rules at one node of an expression, a line for each alternative: tests, each with the fault where it holds.
-use Rattle.std.specs.Prelude.{ℕ, zero, suc, ◌+◌, Bool, true, false, not, ◌&&◌, ◌||◌, if◌then◌else◌, List, [], ◌∷◌, ◌++◌, Option, Some, None, is_none}
+use Rattle.std.specs.Prelude.{ℕ, ◌+◌, Bool, true, false, not, ◌&&◌, ◌||◌, if◌then◌else◌, List, [], ◌∷◌, ◌++◌, Option, Some, None, is_none}
 use Rattle.sp_base.specs.declared.places.Span.{Span}
 use Rattle.sp_rules.specs.declared.rule.Rule.TheVariants as rule_is
 use Rattle.sp_rules.specs.declared.fault.Fault.{Fault}
-use Rattle.sp_words.specs.declared.operators.BinaryOp.{BinaryOp}
 use Rattle.sp_words.specs.declared.operators.UnaryOp.TheVariants as unary_is
 use Rattle.sp_words.specs.Methods.{changes}
-use Rattle.sp_types.specs.Types.{Ty, Tys, word, made, same, is_key, goes}
-use Rattle.sp_types.specs.declared.words.Maker.{Maker}
+use Rattle.sp_types.specs.Types.{Ty, word, made, same, is_key, goes}
 use Rattle.sp_types.specs.declared.words.Maker.TheVariants as maker_is
 use Rattle.sp_typed.specs.declared.heads.One.{One}
 use Rattle.sp_typed.specs.declared.heads.Two.{Two}
@@ -24,14 +22,13 @@ use Rattle.sp_typed.specs.declared.words.ManyOp.{ManyOp}
 use Rattle.sp_typed.specs.declared.words.ManyOp.TheVariants as many_is
 use Rattle.sp_typed.specs.declared.words.UnitMethod.{UnitMethod}
 use Rattle.sp_typed.specs.declared.words.UnitMethod.TheVariants as unit_is
-use Rattle.sp_typed.specs.declared.words.SinkMethod.{SinkMethod}
 use Rattle.sp_typed.specs.declared.words.SinkMethod.TheVariants as sink_is
 use Rattle.sp_typed.specs.declared.words.Written.{Written}
 use Rattle.sp_typed.specs.Exprs.{Expr, Exprs, leaf, one, two, three, many, none, more, type_of, span_of, is_number}
 use Rattle.sp_typing.specs.declared.operators.OperatorSort.{OperatorSort}
 use Rattle.sp_typing.specs.declared.operators.OperatorSort.TheVariants as sort_is
 use Rattle.sp_typing.specs.Operands.{unknown, is_unsigned, is_signed, is_integer, is_enum, sort_of, stands_before, stands_behind, agree, stands_alone, has_size, key_of}
-use Rattle.sp_typing.specs.Literals.{is_over, seen, is_typed_number}
+use Rattle.sp_typing.specs.Literals.{is_over, seen}
 use Rattle.sp_body_rules.specs.declared.facts.Constancy.{Constancy}
 use Rattle.sp_body_rules.specs.declared.facts.Constancy.TheVariants as constancy_is
 use Rattle.sp_body_rules.specs.Known.{Known}
@@ -190,6 +187,18 @@ argument_tests m starts none = []
 argument_tests m starts (more e es) =
     (is_no_value e && not (starts && is_new (type_of e)), at m rule_is.TypeMismatch (span_of e)) ∷ argument_tests m starts es
 
+-- The number that becomes a value of an enum may be of any integer type.
+abbrev pub is_convertible : Expr → Bool
+is_convertible e = not (is_past e) && (is_over e || is_valueless (type_of e) || not (knows e) || is_integer (type_of e))
+
+abbrev pub converts : Exprs → Bool
+converts none = false
+converts (more e none) = is_convertible e
+converts (more e (more f es)) = false
+
+abbrev pub convert_tests : ℕ → Span → Exprs → List (Bool × Fault)
+convert_tests m span es = (not (converts es), at m rule_is.WrongArguments span) ∷ argument_tests m false es
+
 -- a call: its arguments are asked at the slice on which what is called stands
 abbrev pub call_tests : Known → ℕ → ManyOp → Span → Ty → Exprs → List (Bool × Fault)
 call_tests k m op span receiver es =
@@ -260,7 +269,7 @@ many_op_tests k m many_is.Vector span es = row_tests m false es
 many_op_tests k m many_is.Set span es = row_tests m true es
 many_op_tests k m many_is.Map span es = map_tests m es
 many_op_tests k m (many_is.Call n) span es = call_tests k m (many_is.Call n) span unknown es
-many_op_tests k m (many_is.Convert n) span es = call_tests k m (many_is.Convert n) span unknown es
+many_op_tests k m (many_is.Convert n) span es = convert_tests m span es
 many_op_tests k m (many_is.New of path) span es = call_tests k m (many_is.New of path) path unknown es
 many_op_tests k m (many_is.Method method slot) span es = method_tests k m (many_is.Method method slot) span es
 many_op_tests k m (many_is.OfUnit method name) span es = method_tests k m (many_is.OfUnit method name) span es

@@ -1,5 +1,5 @@
 -- Rows on which the rules are run. What an operator takes stands here as the table of the language has it.
-use Rattle.std.specs.Prelude.{ℕ, zero, suc, ◌≡◌, ◌==◌, Bool, true, false, not, if◌then◌else◌, List, [], ◌∷◌, map, Option, Some, None, refl}
+use Rattle.std.specs.Prelude.{ℕ, zero, suc, ◌≡◌, ◌==◌, Bool, true, false, if◌then◌else◌, List, [], ◌∷◌, map, Option, Some, None, refl}
 use Rattle.sp_base.specs.declared.places.Span.{Span}
 use Rattle.sp_words.specs.declared.operators.BinaryOp.{BinaryOp}
 use Rattle.sp_words.specs.declared.operators.BinaryOp.TheVariants as op_is
@@ -11,7 +11,7 @@ use Rattle.sp_rules.specs.declared.rule.Rule.{Rule}
 use Rattle.sp_rules.specs.declared.rule.Rule.TheVariants as rule_is
 use Rattle.sp_rules.specs.declared.fault.Fault.{Fault}
 use Rattle.sp_rules.specs.Least.{broken}
-use Rattle.sp_types.specs.Types.{Ty, Tys, word, made, tys}
+use Rattle.sp_types.specs.Types.{Ty, word, made, tys}
 use Rattle.sp_types.specs.declared.words.Word.TheVariants as word_is
 use Rattle.sp_types.specs.declared.words.Maker.TheVariants as maker_is
 use Rattle.sp_typed.specs.declared.words.LeafOp.{LeafOp}
@@ -26,18 +26,16 @@ use Rattle.sp_typed.specs.declared.words.UnitMethod.TheVariants as unit_is
 use Rattle.sp_typed.specs.declared.words.SinkMethod.TheVariants as sink_is
 use Rattle.sp_typed.specs.declared.words.NewOf.TheVariants as new_is
 use Rattle.sp_typed.specs.declared.words.Standing.TheVariants as stands
-use Rattle.sp_typed.specs.declared.words.Written.{Written}
 use Rattle.sp_typed.specs.declared.stmt_words.BareOp.{BareOp}
 use Rattle.sp_typed.specs.declared.stmt_words.BareOp.TheVariants as bare_is
 use Rattle.sp_typed.specs.declared.stmt_words.ValuedOp.{ValuedOp}
 use Rattle.sp_typed.specs.declared.stmt_words.ValuedOp.TheVariants as valued_is
 use Rattle.sp_typed.specs.declared.stmt_words.Local.{Local}
-use Rattle.sp_typed.specs.Exprs.{Expr, Exprs, leaf, one, two, three, many, exprs}
-use Rattle.sp_typed.specs.Stmts.{Stmt, Stmts, Branches, bare, valued, assign, print, block, branch, while_loop, for_loop, switch, stmts, no_branches, more_branches, no_cases, more_cases}
+use Rattle.sp_typed.specs.Exprs.{Expr, leaf, one, two, three, many, exprs}
+use Rattle.sp_typed.specs.Stmts.{Stmt, bare, valued, assign, print, block, branch, while_loop, for_loop, switch, stmts, no_branches, more_branches, no_cases, more_cases}
 use Rattle.sp_body_rules.specs.declared.facts.Constancy.{Constancy}
 use Rattle.sp_body_rules.specs.declared.facts.Constancy.TheVariants as constancy_is
 use Rattle.sp_body_rules.specs.Known.{Known}
-use Rattle.sp_body_rules.specs.Values.{at}
 use Rattle.sp_body_rules.specs.ExprTests.{expr_tests}
 use Rattle.sp_body_rules.specs.StmtTests.{stmt_tests}
 use Rattle.sp_body_rules.specs.Sweeps.{end_tests}
@@ -402,6 +400,22 @@ call_of_nothing = refl
 
 call_of_a_number : at_node (many_at 1 nothing many_is.NoCall (number 1 uint64 5 ∷ local 2 uint8 ∷ [])) ≡ ((rule_is.TypeMismatch, 1) ∷ [])
 call_of_a_number = refl
+
+-- a value of an enum is made of one number, of any integer type
+convert_of_signed : at_node (many_at 1 uint8 (many_is.Convert 4) (local 2 int8 ∷ [])) ≡ []
+convert_of_signed = refl
+
+convert_of_wide : at_node (many_at 1 uint8 (many_is.Convert 4) (number 2 uint64 5 ∷ [])) ≡ []
+convert_of_wide = refl
+
+convert_of_none : at_node (many_at 1 uint8 (many_is.Convert 4) []) ≡ ((rule_is.WrongArguments, 1) ∷ [])
+convert_of_none = refl
+
+convert_of_two : at_node (many_at 1 uint8 (many_is.Convert 4) (local 2 uint8 ∷ local 3 uint8 ∷ [])) ≡ ((rule_is.WrongArguments, 1) ∷ [])
+convert_of_two = refl
+
+convert_of_a_sink : at_node (many_at 1 uint8 (many_is.Convert 4) (local 2 sink ∷ [])) ≡ ((rule_is.WrongArguments, 1) ∷ [])
+convert_of_a_sink = refl
 
 -- a unit is started by `connect` alone, which takes nothing else
 abbrev started : Expr

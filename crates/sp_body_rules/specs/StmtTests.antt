@@ -1,5 +1,5 @@
 -- The rules at one statement, apart from its expressions, a line for each alternative.
-use Rattle.std.specs.Prelude.{ℕ, Bool, true, false, not, ◌&&◌, ◌||◌, if◌then◌else◌, List, [], ◌∷◌, ◌++◌, Option, Some, None, is_none}
+use Rattle.std.specs.Prelude.{ℕ, Bool, true, false, not, ◌&&◌, ◌||◌, List, [], ◌∷◌, ◌++◌, Option, Some, None, is_none}
 use Rattle.sp_base.specs.declared.places.Span.{Span}
 use Rattle.sp_rules.specs.declared.rule.Rule.TheVariants as rule_is
 use Rattle.sp_rules.specs.declared.fault.Fault.{Fault}
@@ -10,7 +10,6 @@ use Rattle.sp_types.specs.Types as types
 use Rattle.sp_types.specs.declared.words.Word.{Word}
 use Rattle.sp_types.specs.declared.words.Word.TheVariants as word_is
 use Rattle.sp_types.specs.declared.words.Maker.TheVariants as maker_is
-use Rattle.sp_typed.specs.declared.stmt_words.Local.{Local}
 use Rattle.sp_typed.specs.declared.stmt_words.BareOp.{BareOp}
 use Rattle.sp_typed.specs.declared.stmt_words.BareOp.TheVariants as bare_is
 use Rattle.sp_typed.specs.declared.stmt_words.ValuedOp.{ValuedOp}
@@ -18,12 +17,12 @@ use Rattle.sp_typed.specs.declared.stmt_words.ValuedOp.TheVariants as valued_is
 use Rattle.sp_typed.specs.declared.words.Written.{Written}
 use Rattle.sp_typed.specs.declared.words.TwoOp.{TwoOp}
 use Rattle.sp_typed.specs.declared.words.TwoOp.TheVariants as two_is
-use Rattle.sp_typed.specs.Exprs.{Expr, Exprs, leaf, one, two, three, many, none, more, type_of, span_of}
-use Rattle.sp_typed.specs.Stmts.{Stmt, Stmts, Branches, Cases, bare, valued, assign, print, block, branch, while_loop, for_loop, switch, no_stmts, more_stmts, no_branches, more_branches, no_cases, more_cases}
+use Rattle.sp_typed.specs.Exprs.{Expr, Exprs, two, none, more, type_of, span_of}
+use Rattle.sp_typed.specs.Stmts.{Stmt, Branches, Cases, bare, valued, assign, print, block, branch, while_loop, for_loop, switch, no_branches, more_branches, no_cases, more_cases}
 use Rattle.sp_typing.specs.declared.operators.OperatorSort.TheVariants as sort_is
 use Rattle.sp_typing.specs.Operands.{is_integer, is_bytes, is_text, stands_before, agree}
 use Rattle.sp_typing.specs.Literals.{seen}
-use Rattle.sp_body_rules.specs.Values.{at, is_void, is_set, is_no_value, knows, is_past, value_tests, wrong, right_tests, condition_tests, target_tests, written_tests}
+use Rattle.sp_body_rules.specs.Values.{at, is_void, is_set, is_no_value, knows, is_past, wrong, right_tests, condition_tests, target_tests, written_tests}
 use Rattle.sp_body_rules.specs.Known.{Known}
 use Rattle.sp_body_rules.specs.ExprTests.{may_change}
 

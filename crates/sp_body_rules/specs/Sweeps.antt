@@ -1,11 +1,11 @@
 -- What is broken in an expression, and in a body.
-use Rattle.std.specs.Prelude.{ℕ, Bool, true, false, not, ◌&&◌, ◌≡◌, ◌⊎◌, List, [], ◌∷◌, ◌++◌, Option, Some, None, is_none}
+use Rattle.std.specs.Prelude.{ℕ, Bool, true, not, ◌&&◌, ◌⊎◌, List, [], ◌∷◌, Option, is_none}
 use Rattle.sp_base.specs.declared.places.Span.{Span}
 use Rattle.sp_rules.specs.declared.rule.Rule.TheVariants as rule_is
 use Rattle.sp_rules.specs.declared.fault.Fault.{Fault}
-use Rattle.sp_rules.specs.Least.{checked, better, Among}
+use Rattle.sp_rules.specs.Least.{checked, Among}
 use Rattle.sp_types.specs.Types.{Ty}
-use Rattle.sp_typed.specs.Exprs.{Expr, Exprs}
+use Rattle.sp_typed.specs.Exprs.{Expr}
 use Rattle.sp_typed.specs.Nodes.{nodes}
 use Rattle.sp_typed.specs.Stmts.{Stmt}
 use Rattle.sp_typed.specs.StmtNodes.{stmt_nodes, stmts_in}

@@ -4,7 +4,7 @@ ghost use Rattle.sp_rules.specs.Least.{better, checked};
 ghost use Rattle.sp_typed.specs.Exprs.{exprs};
 ghost use Rattle.sp_body_rules.specs.Known.{Known};
 ghost use Rattle.sp_body_rules.specs.Values.{at};
-ghost use Rattle.sp_body_rules.specs.ExprTests.{argument_goes, argument_fits, arguments_fit, connects, argument_tests, call_tests, changes_leaf, changes_one, is_element, is_tuple, may_change, is_of_self, itself_leaf, is_itself, receiver_tests, method_tests, uncalled_tests};
+ghost use Rattle.sp_body_rules.specs.ExprTests.{argument_goes, argument_fits, arguments_fit, connects, argument_tests, call_tests, is_convertible, converts, convert_tests, changes_leaf, changes_one, is_element, is_tuple, may_change, is_of_self, itself_leaf, is_itself, receiver_tests, method_tests, uncalled_tests};
 
 use crate::facts::Facts;
 use crate::rows::note_values;
@@ -13,7 +13,7 @@ use sp_base::{NoMemory, Span};
 use sp_rules::{Fault, Rule};
 use sp_typed::{Expr, ExprLevel, LeafOp, ManyOp, OneOp, SinkMethod, TwoOp, UnitMethod};
 use sp_types::{Level, Maker, Type};
-use sp_typing::{is_over, seen};
+use sp_typing::{is_integer, is_over, seen};
 
 fn argument_goes(to: &Type, e: &Expr) -> bool
     ensures { result ≡ argument_goes to.now e.now }
@@ -65,9 +65,40 @@ fn note_arguments(owner: u32, starts: bool, arguments: &[Expr], least: &mut Opti
     }
 }
 
+/// Whether an expression can be the number of a value of an enum, which is of any integer type.
+fn is_convertible(e: &Expr) -> bool
+    ensures { result ≡ is_convertible e.now }
+{
+    !is_past(e) && (is_over(e) || is_valueless(e.ty()) || !knows(e) || is_integer(e.ty()))
+}
+
+/// Whether these are one such expression.
+fn converts(arguments: &[Expr]) -> bool
+    ensures { result ≡ converts (exprs arguments.now) }
+{
+    match arguments.split_first() {
+        Some((e, rest)) => rest.split_first().is_none() && is_convertible(e),
+        None => false,
+    }
+}
+
+/// Notes what is wrong with the number that becomes a value of an enum.
+pub(crate) fn note_convert(owner: u32, span: Span, arguments: &[Expr], least: &mut Option<Fault>)
+    ensures { least.new ≡ checked least.old (convert_tests owner span (exprs arguments.now)) }
+{
+    note_at(
+        !converts(arguments),
+        owner,
+        Rule::WrongArguments,
+        span,
+        least,
+    );
+    note_arguments(owner, false, arguments, least);
+}
+
 /// Notes what is wrong with a call: with the number and the types of its arguments, on the slice on which what is called
 /// stands, and with arguments that are no values.
-pub(crate) fn note_call<F: Facts>(
+pub fn note_call<F: Facts>(
     facts: &F,
     owner: u32,
     op: &ManyOp,

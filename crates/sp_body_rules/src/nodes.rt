@@ -8,7 +8,7 @@ ghost use Rattle.sp_body_rules.specs.Known.{Known};
 ghost use Rattle.sp_body_rules.specs.Values.{at};
 ghost use Rattle.sp_body_rules.specs.ExprTests.{is_unmeant, leaf_tests, negates, cast_tests, no_member_tests, one_tests, disagreeing, is_past_key, disagree, operand_tests, is_constant, is_not_constant, item_tests, key_tests, index_tests, two_tests, unlike, choice_tests, many_tests, expr_tests};
 
-use crate::calls::{note_call, note_method, note_uncalled};
+use crate::calls::{note_call, note_convert, note_method, note_uncalled};
 use crate::facts::{Constancy, Facts};
 use crate::rows::{note_map, note_row, note_values, unlike};
 use crate::types::{is_enum, is_signed, is_unsigned};
@@ -258,8 +258,10 @@ fn note_many<F: Facts>(
             note_map(owner, parts, least);
             Ok(())
         }
-        ManyOp::Call(_) | ManyOp::Convert(_) => {
-            note_call(facts, owner, &head.op, head.span, &unknown, parts, least)
+        ManyOp::Call(_) => note_call(facts, owner, &head.op, head.span, &unknown, parts, least),
+        ManyOp::Convert(_) => {
+            note_convert(owner, head.span, parts, least);
+            Ok(())
         }
         ManyOp::New(_, path) => { note_call(facts, owner, &head.op, *path, &unknown, parts, least) }
         ManyOp::Method(..) | ManyOp::OfUnit(..) | ManyOp::OfSink(_) => {

@@ -27,13 +27,15 @@ use sp_types::{Level, Maker, Type, Word};
 use sp_typing::{OperatorSort, is_integer, seen};
 use sp_words::AssignOp;
 
-fn is_unit(t: &Type) -> bool
+/// Whether a type is that of a unit.
+pub fn is_unit(t: &Type) -> bool
     ensures { result ≡ is_unit t.now }
 {
     matches!(t.level(), Level::Word(Word::Unit(_)))
 }
 
-fn is_sink(t: &Type) -> bool
+/// Whether a type is that of a sink.
+pub fn is_sink(t: &Type) -> bool
     ensures { result ≡ is_sink t.now }
 {
     matches!(t.level(), Level::Word(Word::Sink))
@@ -251,7 +253,8 @@ fn differs(subject: &Expr, e: &Expr) -> Result<bool, NoMemory>
     }
 }
 
-fn note_case(
+/// Notes what is wrong with values that are compared with a subject.
+pub fn note_case(
     owner: u32,
     subject: &Expr,
     values: &[Expr],

@@ -4,7 +4,8 @@ ghost use Rattle.sp_typing.specs.Operands.{is_unsigned, is_signed, is_boolean, i
 
 use sp_types::{Level, Type, Word};
 
-pub(crate) fn is_unsigned(t: &Type) -> bool
+/// Whether a type is that of unsigned integers.
+pub fn is_unsigned(t: &Type) -> bool
     ensures { result ≡ is_unsigned t.now }
 {
     matches!(t.level(), Level::Word(Word::Uint(_)))
@@ -22,7 +23,8 @@ pub(crate) fn is_boolean(t: &Type) -> bool
     matches!(t.level(), Level::Word(Word::Bool))
 }
 
-pub(crate) fn is_bytes(t: &Type) -> bool
+/// Whether a type is that of bytes.
+pub fn is_bytes(t: &Type) -> bool
     ensures { result ≡ is_bytes t.now }
 {
     matches!(t.level(), Level::Word(Word::Bytes))

@@ -11,7 +11,7 @@ use sp_types::{Level, Maker, Type, Word};
 use sp_typing::is_over;
 
 /// Notes a rule that is broken where the test holds, on a slice of the text of a module.
-pub(crate) fn note_at(test: bool, owner: u32, rule: Rule, span: Span, least: &mut Option<Fault>)
+pub fn note_at(test: bool, owner: u32, rule: Rule, span: Span, least: &mut Option<Fault>)
     ensures { least.new ≡ (if test then better least.old (at owner rule span) else least.old) }
 {
     let fault = Fault {
@@ -28,7 +28,8 @@ pub(crate) fn is_valueless(t: &Type) -> bool
     matches!(t.level(), Level::Word(Word::Void | Word::Regex | Word::New))
 }
 
-pub(crate) fn is_void(t: &Type) -> bool
+/// Whether a type is that of what gives nothing.
+pub fn is_void(t: &Type) -> bool
     ensures { result ≡ is_void t.now }
 {
     matches!(t.level(), Level::Word(Word::Void))
@@ -92,7 +93,7 @@ pub(crate) fn is_past(e: &Expr) -> bool
 }
 
 /// Whether a value goes to a target of a type.
-pub(crate) fn value_goes(to: &Type, e: &Expr) -> bool
+pub fn value_goes(to: &Type, e: &Expr) -> bool
     ensures { result ≡ value_goes to.now e.now }
 {
     !is_past(e) && (is_over(e) || e.ty().goes(to))
@@ -122,7 +123,7 @@ pub(crate) fn note_wrong(right: bool, owner: u32, e: &Expr, least: &mut Option<F
 }
 
 /// Notes what is wrong with a value of which something is asked.
-pub(crate) fn note_right(right: bool, owner: u32, e: &Expr, least: &mut Option<Fault>)
+pub fn note_right(right: bool, owner: u32, e: &Expr, least: &mut Option<Fault>)
     ensures { least.new ≡ checked least.old (right_tests owner right e.now) }
 {
     note_value(owner, e, least);
@@ -154,7 +155,7 @@ pub fn note_target(owner: u32, to: &Type, e: &Expr, least: &mut Option<Fault>)
 }
 
 /// Notes what can't stand in a type that is written.
-pub(crate) fn note_written(owner: u32, written: &Written, least: &mut Option<Fault>)
+pub fn note_written(owner: u32, written: &Written, least: &mut Option<Fault>)
     ensures { least.new ≡ checked least.old (written_tests owner written.now) }
 {
     if let Some(span) = written.misplaced {

@@ -1,5 +1,6 @@
 // What declared constants and labels are, by their values.
 ghost use Rattle.std.specs.Prelude.{◌≡◌, IfOk, option_copied};
+ghost use Rattle.sp_value.specs.Val.{enum};
 ghost use Rattle.sp_constants.specs.declared.outcome.Outcome.TheVariants as outcome_is;
 ghost use Rattle.sp_constants.specs.Labels.{numbered, label_value, first_label, one_more, next_label, fits_written, fitting, constant_value};
 
@@ -31,6 +32,13 @@ pub fn label_value(owner: u32, number: Measured) -> Measured
         Outcome::Regex(_) => Measured::small(Outcome::Unknown),
         _ => number,
     }
+}
+
+/// The label of a number of an enum.
+pub fn label_of(owner: u32, number: u64) -> Measured
+    ensures { result ≡ outcome_is.Value (enum owner number) }
+{
+    Measured::small(Outcome::Value(Value::label(owner, number)))
 }
 
 /// The first label of an enum, without a number.

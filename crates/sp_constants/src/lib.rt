@@ -13,7 +13,7 @@ mod rows;
 mod values;
 
 pub use constants::Constants;
-pub use labels::{constant_value, first_label, label_value, next_label};
+pub use labels::{constant_value, first_label, label_of, label_value, next_label};
 pub use measured::{MOST_LEVELS, MOST_PARTS, Measured};
 pub use outcome::Outcome;
 pub use places::index_of;

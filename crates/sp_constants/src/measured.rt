@@ -1,5 +1,6 @@
 // What an expression is as a constant, and how large its value is.
 ghost use Rattle.std.specs.Prelude.{◌≡◌, IfOk};
+ghost use Rattle.sp_constants.specs.declared.outcome.Outcome.TheVariants as outcome_is;
 
 use crate::outcome::Outcome;
 use sp_base::NoMemory;
@@ -108,6 +109,13 @@ impl Measured {
             outcome,
             extent: Extent::one(),
         }
+    }
+
+    /// What is no constant expression.
+    pub fn not_constant() -> Measured
+        ensures { result ≡ outcome_is.NotConstant }
+    {
+        Measured::small(Outcome::NotConstant)
     }
 
     pub fn outcome(&self) -> &Outcome

@@ -143,13 +143,13 @@ break_out = bare (record { span = here; op = bare_is.Break true })
 
 -- a function without parameters, whose slots are of these types
 abbrev function : List Ty → Ty → Stmt → Function
-function slots t s = record { path = []; «module» = 0; span = here; taken = false; parameters = []; result = t; written = None; slots = slots; body = s }
+function slots t s = record { path = []; «module» = 0; span = here; parameters = []; result = t; written = None; slots = slots; body = s }
 
 abbrev hook : HookOf → Option ℤ → Stmt → Hook
 hook of rank s = record { «module» = 0; span = here; of = of; fits = true; parameters = []; priority = None; rank = rank; slots = []; body = s }
 
 abbrev listed : List Function → List Hook → Typed
-listed fs hs = record { units = []; functions = fs; hooks = hs; constants = []; enums = []; bitfields = [] }
+listed fs hs = record { units = []; functions = fs; hooks = hs; constants = []; enums = []; bitfields = []; aliases = []; orders = [] }
 
 abbrev names : Names
 names = record { members = []; labels = []; ranges = [] }

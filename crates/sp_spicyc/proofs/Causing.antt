@@ -1,7 +1,7 @@
 -- The causes of the statuses.
 use Rattle.std.proofs.Common.{◌≡◌, ◌≢◌, ◌<◌, ◌⊎◌, ℕ, sym, ◌∙◌, refl, arith, inl, inr, ⊎_elim}
 use Rattle.sp_spicyc.specs.declared.exits.Exit.{Exit}
-use Rattle.sp_spicyc.specs.declared.exits.Unread.{Unread}
+use Rattle.sp_read_file.specs.declared.unread.Unread.{Unread}
 use Rattle.sp_spicyc.specs.Causes.{Counts, IsCausedBy}
 use Rattle.sp_spicyc.specs.Command.{ExitCause, Outputs, Reported, status_of}
 

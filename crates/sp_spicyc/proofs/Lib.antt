@@ -1,5 +1,4 @@
 pub mod Causing
-pub mod Endings
 pub mod Orders
 pub mod Single
 pub mod Wholes

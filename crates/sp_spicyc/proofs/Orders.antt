@@ -4,7 +4,8 @@ use Rattle.std.proofs.Math.Seq.{split_at}
 use Rattle.std.proofs.lemmas.List.{take_more}
 use Rattle.sp_ast.specs.Trees.{Tree}
 use Rattle.sp_print.specs.Canonical.{canonical}
-use Rattle.sp_spicyc.specs.Files.{Reads, AllRead, printed, IsReached}
+use Rattle.sp_read_file.specs.Files.{Reads}
+use Rattle.sp_spicyc.specs.Files.{AllRead, printed, IsReached}
 
 abbrev Told : Type 0
 Told = Option (List ℕ → Option (List ℕ))

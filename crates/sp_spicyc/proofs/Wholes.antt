@@ -3,7 +3,7 @@ use Rattle.std.specs.Prelude.{codes}
 use Rattle.std.proofs.Common.{◌≡◌, ◌≢◌, ℕ, List, [], Option, Some, ap, ◌∙◌, refl, subst, inl, inr, ⊎_elim}
 use Rattle.sp_io.specs.Moved.{appended}
 use Rattle.sp_spicyc.specs.declared.exits.Exit.{Exit}
-use Rattle.sp_spicyc.specs.declared.exits.Unread.{Unread}
+use Rattle.sp_read_file.specs.declared.unread.Unread.{Unread}
 use Rattle.sp_spicyc.specs.Command.{Says, Outputs, Reported, status_of, output_of, message_of}
 use Rattle.sp_command.specs.Refusals.{refusal_text}
 use Rattle.sp_spicyc.specs.Files.{printed}

@@ -5,9 +5,9 @@ use Rattle.sp_io.specs.Moved.{appended}
 use Rattle.sp_command.specs.Refusals.{refusal_text}
 use Rattle.sp_command.specs.Puts.{IsPartPut}
 use Rattle.sp_spicyc.specs.declared.exits.Exit.{Exit}
-use Rattle.sp_spicyc.specs.declared.exits.Unread.{Unread}
+use Rattle.sp_read_file.specs.declared.unread.Unread.{Unread}
 use Rattle.sp_spicyc.specs.Files.{AllRead, printed, IsUnread}
-use Rattle.sp_spicyc.specs.Loads.{UnreadCause}
+use Rattle.sp_read_file.specs.Loads.{UnreadCause}
 use Rattle.sp_spicyc.specs.Words.{Words, words_of}
 
 -- what the words and the files have to do with an exit

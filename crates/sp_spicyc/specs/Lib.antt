@@ -1,6 +1,5 @@
 pub mod Causes
 pub mod Command
 pub mod Files
-pub mod Loads
 pub mod Whole
 pub mod Words

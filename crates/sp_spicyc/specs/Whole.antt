@@ -4,7 +4,8 @@ use Rattle.sp_ast.specs.Trees.{Tree}
 use Rattle.sp_io.specs.Moved.{appended}
 use Rattle.sp_command.specs.declared.refusal.Refusal.{Refusal}
 use Rattle.sp_command.specs.Refusals.{refusal_text}
-use Rattle.sp_spicyc.specs.Files.{AllRead, printed, IsReached, Refuses}
+use Rattle.sp_read_file.specs.Files.{Refuses}
+use Rattle.sp_spicyc.specs.Files.{AllRead, printed, IsReached}
 use Rattle.sp_spicyc.specs.Words.{Words, words_of}
 
 -- a status, the bytes on the output, and those on the output for messages

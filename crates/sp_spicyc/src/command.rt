@@ -5,12 +5,13 @@ ghost use Rattle.sp_spicyc.specs.Causes.{IsCausedBy};
 ghost use Rattle.sp_spicyc.specs.Whole.{IsAnswered};
 ghost use Rattle.sp_spicyc.specs.Command.{Says, ExitCause, Reported, status_of, output_of, message_of};
 
-use crate::exits::{Exit, Unread};
+use crate::exits::Exit;
 use crate::files::read_files;
 use crate::words::words_wanted;
 use sp_base::{ByteList, NoMemory, Text};
 use sp_command::{failure_status, put_text};
 use sp_io::{Modules, Out};
+use sp_read_file::Unread;
 use std::alloc::Global;
 
 /// What the program does but for its message.

@@ -1,17 +1,6 @@
 // How the program ends.
 use sp_base::ByteList;
-use sp_command::Refusal;
-
-/// Why a file was not read as a module.
-#[derive(Drop)]
-pub enum Unread {
-    /// It was refused.
-    Refused(Refusal),
-    /// It could not be read.
-    ModulesFault,
-    /// There was no memory.
-    NoMemory,
-}
+use sp_read_file::Unread;
 
 /// How the program ends.
 #[derive(Drop)]

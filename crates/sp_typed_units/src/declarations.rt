@@ -15,8 +15,6 @@ pub struct Parameter {
     pub written: Written,
     pub ty: Type,
     pub inout: bool,
-    /// Whether an earlier one has the name.
-    pub taken: bool,
 }
 
 /// What a member of a unit is.
@@ -46,6 +44,25 @@ pub struct Variable {
     pub value: Option<Expr>,
 }
 
+/// A sink of a unit.
+#[derive(Clone, Copy)]
+pub struct Sink {
+    pub member: u32,
+    pub span: Span,
+    /// Whether the unit has the name already.
+    pub taken: bool,
+}
+
+/// A byte order that a module or a unit has as a property. The last one counts.
+#[derive(Drop)]
+pub struct OrderProperty {
+    pub module: u32,
+    /// What is written behind its `=`.
+    pub value: Expr,
+    /// The number of the order that this is, where it is constant.
+    pub number: Option<u64>,
+}
+
 /// A unit.
 #[derive(Drop)]
 pub struct Unit {
@@ -54,18 +71,14 @@ pub struct Unit {
     pub module: u32,
     pub span: Span,
     pub public: bool,
-    /// Whether its module has the name already.
-    pub taken: bool,
-    /// Whether it stands inside another type.
-    pub misplaced: bool,
     pub parameters: Row<Parameter>,
     pub members: Row<Member>,
     pub variables: Row<Variable>,
-    /// The members that are sinks, in the order of the text.
-    pub sinks: Row<u32>,
+    /// In the order of the text.
+    pub sinks: Row<Sink>,
     pub parts: Row<Part>,
-    /// The number of its own byte order, if it has one.
-    pub order: Option<u64>,
+    /// Its own byte orders, in the order of the text.
+    pub orders: Row<OrderProperty>,
     /// Whether it has `%filter`.
     pub filter: bool,
     /// Whether it calls `input`.
@@ -98,7 +111,7 @@ pub struct Hook {
     /// The token behind `on`, or the brace of a hook behind a field.
     pub span: Span,
     pub of: HookOf,
-    /// Whether its parameters are those of its hook.
+    /// Whether its parameters are those of its hook, and its field is a container where it is of elements.
     pub fits: bool,
     pub parameters: Row<Parameter>,
     pub priority: Option<Expr>,
@@ -116,8 +129,6 @@ pub struct Function {
     pub path: Text,
     pub module: u32,
     pub span: Span,
-    /// Whether its module has the name already.
-    pub taken: bool,
     pub parameters: Row<Parameter>,
     /// The type of its result, which is void where it has none.
     pub result: Type,
@@ -134,7 +145,9 @@ pub enum ConstantValue {
     /// What stands between the slashes of a regular expression.
     Regex(Text),
     /// It has no value: it is made of itself, is not constant, or its value is an error.
-    Nothing,
+    NotConstant,
+    /// Nothing is known of it, since a part of it breaks another rule.
+    Unknown,
 }
 
 /// A constant.
@@ -142,8 +155,6 @@ pub enum ConstantValue {
 pub struct Constant {
     pub module: u32,
     pub span: Span,
-    /// Whether its module has the name already.
-    pub taken: bool,
     pub ty: Type,
     pub written: Option<Written>,
     /// What is written behind its `=`.
@@ -151,30 +162,35 @@ pub struct Constant {
     pub value: ConstantValue,
 }
 
+/// What the number of a label is.
+#[derive(Clone, Copy)]
+pub enum LabelNumber {
+    Number(u64),
+    /// It has no number: it is made of itself, is not constant, or its value is an error.
+    NotConstant,
+    /// It would be the one behind the greatest there is.
+    Past,
+    /// Nothing is known of it, since what it is made of breaks another rule.
+    Unknown,
+}
+
 /// A label of an enum.
 #[derive(Drop)]
 pub struct Label {
     pub name: Text,
     pub span: Span,
-    /// Whether an earlier one has the name.
-    pub taken: bool,
     /// What is written behind its `=`.
     pub expr: Option<Expr>,
-    /// Its number, if it has one.
-    pub number: Option<u64>,
+    pub number: LabelNumber,
 }
 
-/// An enum.
+/// An enum. One of the library has no place, and its labels have none.
 #[derive(Drop)]
 pub struct Enum {
     /// Its name behind that of its module.
     pub path: Text,
     pub module: u32,
     pub span: Span,
-    /// Whether its module has the name already.
-    pub taken: bool,
-    /// Whether it stands inside another type.
-    pub misplaced: bool,
     pub labels: Row<Label>,
 }
 
@@ -183,8 +199,6 @@ pub struct Enum {
 pub struct BitRange {
     pub name: Text,
     pub span: Span,
-    /// Whether an earlier one has the name.
-    pub taken: bool,
     pub from: u64,
     pub from_span: Span,
     pub to: u64,
@@ -200,6 +214,15 @@ pub struct Bitfield {
     pub ranges: Row<BitRange>,
 }
 
+/// A type declaration that is neither a unit nor an enum.
+#[derive(Drop)]
+pub struct Alias {
+    pub module: u32,
+    pub written: Written,
+    /// Whether it is made of itself.
+    pub endless: bool,
+}
+
 /// The typed list of a list of modules.
 #[derive(Drop)]
 pub struct Typed {
@@ -207,6 +230,10 @@ pub struct Typed {
     pub functions: Row<Function>,
     pub hooks: Row<Hook>,
     pub constants: Row<Constant>,
+    /// By their numbers: those of the library stand first.
     pub enums: Row<Enum>,
     pub bitfields: Row<Bitfield>,
+    pub aliases: Row<Alias>,
+    /// The byte orders of modules.
+    pub orders: Row<OrderProperty>,
 }

@@ -10,8 +10,8 @@ mod rows;
 
 pub use attributes::Attribute;
 pub use declarations::{
-    BitRange, Bitfield, Constant, ConstantValue, Enum, Function, Hook, HookOf, Label, Member,
-    MemberKind, Parameter, Typed, Unit, Variable,
+    Alias, BitRange, Bitfield, Constant, ConstantValue, Enum, Function, Hook, HookOf, Label,
+    LabelNumber, Member, MemberKind, OrderProperty, Parameter, Sink, Typed, Unit, Variable,
 };
 pub use items::{Arm, Field, Part, PartNode};
 pub use readings::{ReadOp, Reading, Spec, SpecNode, TokenOp, UnitOf};

@@ -1,7 +1,6 @@
 use Rattle.std.proofs.Common.{◌≡◌, drop}
 use Rattle.sp_typed.specs.Exprs.{exprs}
 use Rattle.sp_body_rules.specs.ExprTests.{arguments_fit}
-use Rattle.sp_body_rules.specs.Known.{Known}
 use Rattle.sp_body_rules.proofs.calls.arguments_fit.Given as goal
 
 abbrev pub invariant-loop-i : goal.invariant-loop-i

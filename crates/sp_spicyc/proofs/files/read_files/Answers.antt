@@ -1,6 +1,6 @@
 use Rattle.std.proofs.Common.{◌∙◌}
 use Rattle.sp_spicyc.specs.Files.{IsUnread}
-use Rattle.sp_spicyc.proofs.Endings.{passed_on}
+use Rattle.sp_read_file.proofs.Endings.{passed_on}
 use Rattle.sp_spicyc.proofs.Orders.{reached, printed_also}
 use Rattle.sp_spicyc.proofs.files.read_files.Goals as goal
 

@@ -1,0 +1,2 @@
+pub mod FieldTables
+pub mod inside

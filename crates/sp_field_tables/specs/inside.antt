@@ -1,0 +1,4 @@
+pub mod Seen
+pub mod Passing
+pub mod Places
+pub mod Numbers

@@ -1,0 +1,3 @@
+pub mod Files
+pub mod Follow
+pub mod Seen

@@ -1,0 +1,4 @@
+pub mod Checked
+pub mod Falls
+pub mod SlotSteps
+pub mod Everywhere

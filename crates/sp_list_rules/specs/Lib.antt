@@ -1,0 +1,9 @@
+pub mod Lists
+pub mod Names
+pub mod Slots
+pub mod Told
+pub mod Bodies
+pub mod Fields
+pub mod Wholes
+pub mod Broken
+pub mod Rows

@@ -1,0 +1,234 @@
+// The rules of bodies over constants, enums and aliases.
+ghost use Rattle.std.specs.Prelude.{◌≡◌, ◌&&◌, not, OnOk};
+ghost use Rattle.sp_rules.specs.Least.{checked};
+ghost use Rattle.sp_list_rules.specs.Lists.{all_tests, option_tests};
+ghost use Rattle.sp_list_rules.specs.Bodies.{is_regex, regex_tests, told_tests, declared_tests, lacks_value, const_tests, lacks_number, is_past_label, is_minus_literal, number_tests, label_tests, enum_tests, alias_tests};
+
+use crate::inside::note_inside;
+use sp_base::NoMemory;
+use sp_body_rules::{Facts, is_unsigned, note_at, note_target, note_value, note_written};
+use sp_rules::{Fault, Rule};
+use sp_typed::{Expr, Written};
+use sp_typed_units::{Alias, Constant, ConstantValue, Enum, Label, LabelNumber};
+use sp_types::{Level, Type, Word};
+use sp_typing::is_negative;
+use std::alloc::Global;
+
+fn is_regex(ty: &Type) -> bool
+    ensures { result ≡ is_regex ty.now }
+{
+    matches!(ty.level(), Level::Word(Word::Regex))
+}
+
+#[tactic(auto, using(crate::proofs::Checked::checked_more))]
+fn note_regex(owner: u32, ty: &Type, written: &Option<Written>, e: &Expr, least: &mut Option<Fault>)
+    ensures { least.new ≡ checked least.old (regex_tests owner ty.now written.now e.now) }
+{
+    if let Some(written) = written {
+        note_written(owner, written, least);
+        note_at(ty.is_known(), owner, Rule::NotAssignable, e.span(), least);
+    }
+}
+
+#[tactic(auto, using(crate::proofs::Checked::checked_more))]
+fn note_told(owner: u32, ty: &Type, written: &Option<Written>, e: &Expr, least: &mut Option<Fault>)
+    ensures { least.new ≡ checked least.old (told_tests owner ty.now written.now e.now) }
+{
+    match written {
+        None => note_value(owner, e, least),
+        Some(written) => {
+            note_written(owner, written, least);
+            note_target(owner, ty, e, least);
+        }
+    }
+}
+
+fn note_declared(
+    owner: u32,
+    ty: &Type,
+    written: &Option<Written>,
+    e: &Expr,
+    least: &mut Option<Fault>,
+)
+    ensures { least.new ≡ checked least.old (declared_tests owner ty.now written.now e.now) }
+{
+    if is_regex(e.ty()) {
+        note_regex(owner, ty, written, e, least);
+    } else {
+        note_told(owner, ty, written, e, least);
+    }
+}
+
+fn lacks_value(value: &ConstantValue) -> bool
+    ensures { result ≡ lacks_value value.now }
+{
+    matches!(value, ConstantValue::NotConstant)
+}
+
+#[tactic(auto, using(crate::proofs::Checked::checked_more))]
+fn note_constant<F: Facts>(
+    alloc: Global,
+    facts: &F,
+    constant: &Constant,
+    least: &mut Option<Fault>,
+) -> Result<(), NoMemory>
+    ensures { OnOk result (least.new
+        ≡ checked least.old (const_tests (F.known facts.now) constant.now)) }
+{
+    let owner = constant.module;
+    let e = &constant.expr;
+    let lacks = lacks_value(&constant.value);
+    note_declared(owner, &constant.ty, &constant.written, e, least);
+    note_at(lacks, owner, Rule::NotConstant, e.span(), least);
+    note_inside(alloc, facts, owner, e, least)
+}
+
+/// Notes what is wrong with constants.
+#[tactic(auto, using(crate::proofs::Checked::checked_more))]
+pub(crate) fn note_constants<F: Facts>(
+    alloc: Global,
+    facts: &F,
+    all: &[Constant],
+    least: &mut Option<Fault>,
+) -> Result<(), NoMemory>
+    ensures { OnOk result (least.new
+        ≡ checked least.old (all_tests (const_tests (F.known facts.now)) all.now)) }
+{
+    for constant in all {
+        note_constant(alloc, facts, constant, least)?;
+    }
+    Ok(())
+}
+
+fn lacks_number(number: LabelNumber) -> bool
+    ensures { result ≡ lacks_number number }
+{
+    matches!(number, LabelNumber::NotConstant)
+}
+
+fn is_past_label(number: LabelNumber) -> bool
+    ensures { result ≡ is_past_label number }
+{
+    matches!(number, LabelNumber::Past)
+}
+
+fn is_minus_literal(e: &Expr) -> bool
+    ensures { result ≡ is_minus_literal e.now }
+{
+    e.is_literal() && is_negative(e)
+}
+
+#[tactic(auto, using(crate::proofs::Checked::checked_more))]
+fn note_number<F: Facts>(
+    alloc: Global,
+    facts: &F,
+    owner: u32,
+    number: LabelNumber,
+    e: &Expr,
+    least: &mut Option<Fault>,
+) -> Result<(), NoMemory>
+    ensures { OnOk result (least.new
+        ≡ checked least.old (number_tests (F.known facts.now) owner number e.now)) }
+{
+    let wrong = e.ty().is_known() && (!e.is_literal() && !is_unsigned(e.ty()));
+    note_value(owner, e, least);
+    note_at(wrong, owner, Rule::TypeMismatch, e.span(), least);
+    note_at(
+        is_minus_literal(e),
+        owner,
+        Rule::LiteralRange,
+        e.span(),
+        least,
+    );
+    note_at(
+        lacks_number(number),
+        owner,
+        Rule::NotConstant,
+        e.span(),
+        least,
+    );
+    note_inside(alloc, facts, owner, e, least)
+}
+
+fn note_label<F: Facts>(
+    alloc: Global,
+    facts: &F,
+    owner: u32,
+    label: &Label,
+    least: &mut Option<Fault>,
+) -> Result<(), NoMemory>
+    ensures { OnOk result (least.new
+        ≡ checked least.old (label_tests (F.known facts.now) owner label.now)) }
+{
+    let past = is_past_label(label.number);
+    note_at(past, owner, Rule::LiteralRange, label.span, least);
+    match &label.expr {
+        Some(e) => note_number(alloc, facts, owner, label.number, e, least),
+        None => Ok(()),
+    }
+}
+
+#[tactic(auto, using(crate::proofs::Checked::checked_more))]
+fn note_labels<F: Facts>(
+    alloc: Global,
+    facts: &F,
+    owner: u32,
+    all: &[Label],
+    least: &mut Option<Fault>,
+) -> Result<(), NoMemory>
+    ensures { OnOk result (least.new
+        ≡ checked least.old (all_tests (label_tests (F.known facts.now) owner) all.now)) }
+{
+    for label in all {
+        note_label(alloc, facts, owner, label, least)?;
+    }
+    Ok(())
+}
+
+fn note_enum<F: Facts>(
+    alloc: Global,
+    facts: &F,
+    one: &Enum,
+    least: &mut Option<Fault>,
+) -> Result<(), NoMemory>
+    ensures { OnOk result (least.new
+        ≡ checked least.old (enum_tests (F.known facts.now) one.now)) }
+{
+    note_labels(alloc, facts, one.module, one.labels.as_slice(), least)
+}
+
+/// Notes what is wrong with the labels of enums.
+#[tactic(auto, using(crate::proofs::Checked::checked_more))]
+pub(crate) fn note_enums<F: Facts>(
+    alloc: Global,
+    facts: &F,
+    all: &[Enum],
+    least: &mut Option<Fault>,
+) -> Result<(), NoMemory>
+    ensures { OnOk result (least.new
+        ≡ checked least.old (all_tests (enum_tests (F.known facts.now)) all.now)) }
+{
+    for one in all {
+        note_enum(alloc, facts, one, least)?;
+    }
+    Ok(())
+}
+
+#[tactic(auto, using(crate::proofs::Checked::checked_more))]
+fn note_alias(alias: &Alias, least: &mut Option<Fault>)
+    ensures { least.new ≡ checked least.old (alias_tests alias.now) }
+{
+    let span = alias.written.span;
+    note_written(alias.module, &alias.written, least);
+    note_at(alias.endless, alias.module, Rule::TypeMismatch, span, least);
+}
+
+/// Notes what is wrong with the types of aliases.
+#[tactic(auto, using(crate::proofs::Checked::checked_more))]
+pub(crate) fn note_aliases(all: &[Alias], least: &mut Option<Fault>)
+    ensures { least.new ≡ checked least.old (all_tests alias_tests all.now) }
+{
+    for alias in all {
+        note_alias(alias, least);
+    }
+}

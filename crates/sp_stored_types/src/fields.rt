@@ -1,0 +1,215 @@
+// The type of a field, or the member for which it waits.
+ghost use Rattle.std.specs.Prelude.{◌≡◌, Option, None, length, IfOk};
+ghost use Rattle.sp_ast.specs.Trees.{trees};
+ghost use Rattle.sp_ast.specs.Views.{optional_tree};
+ghost use Rattle.sp_solver.specs.Told.{told};
+ghost use Rattle.sp_typing_units.specs.Attributes.{present, if_convert, conversion_of, or_next, conversion, converted};
+ghost use Rattle.sp_typing.specs.Typing.{typed};
+ghost use Rattle.sp_typing_units.specs.Decorators.{meant};
+ghost use Rattle.sp_typing_units.specs.Readings.{counted_read};
+ghost use Rattle.sp_stored_types.specs.Sources.{questions};
+ghost use Rattle.sp_stored_types.specs.Opens.{or_else, conversion_open, base_open, field_open};
+ghost use Rattle.sp_stored_types.specs.Tries.{when_open, field_type, try_in};
+
+use crate::opens::open_in;
+use crate::rows::MemberRows;
+use crate::sources::Source;
+use sp_ast::{AttributeKind, BaseKind, BaseView, CountKind, ExprKind, FieldKind, Members, Ref};
+use sp_base::NoMemory;
+use sp_solver::Attempt;
+use sp_typed::{Expr, Standing};
+use sp_types::{Type, Word};
+use sp_typing::{Context, seen, typed};
+use sp_typing_units::{Constants, WithCurrent, counted_read};
+use sp_words::AttributeName;
+use std::alloc::Global;
+
+/// The part that may be left out is the one that is lent, if it is.
+fn is_present(part: &Option<Ref<'_, ExprKind>>)
+    ensures { present (optional_tree part.now) ≡ part.now }
+{
+    match part {
+        Some(tree) => tree.is_sound(),
+        None => {}
+    }
+}
+
+/// The value of an attribute that is `&convert`.
+fn conversion_of<'a>(attribute: &Ref<'a, AttributeKind>) -> Option<Ref<'a, ExprKind>>
+    ensures { result ≡ conversion_of attribute.now }
+{
+    let view = attribute.view();
+    is_present(&view.value);
+    match view.name {
+        AttributeName::Convert => view.value,
+        _ => None,
+    }
+}
+
+/// The value of the first `&convert` that has one.
+fn conversion<'a>(list: &Members<'a, AttributeKind>) -> Option<Ref<'a, ExprKind>>
+    ensures { result ≡ conversion (trees list.now) }
+{
+    for attribute in list.again() {
+        let value = conversion_of(&attribute);
+        if value.is_some() {
+            return value;
+        }
+    }
+    None
+}
+
+/// An expression where `$$` is of a type.
+fn typed_with<C: Context>(
+    alloc: Global,
+    context: &C,
+    current: &Type,
+    tree: &Ref<'_, ExprKind>,
+) -> Result<Expr, NoMemory>
+    ensures { IfOk result (λ e. e ≡ typed (meant current.now (C.around context.now)) tree.now) }
+{
+    typed(
+        alloc,
+        &WithCurrent::new(context, current, Standing::Meant),
+        tree,
+    )
+}
+
+/// A member without a type on which a conversion of what is read hangs.
+fn conversion_open<C: Context>(
+    alloc: Global,
+    rows: &MemberRows<'_>,
+    known: &[Option<Type>],
+    context: &C,
+    read: &Type,
+    value: &Option<Ref<'_, ExprKind>>,
+) -> Result<Option<usize>, NoMemory>
+    requires { length known.now ≡ length (questions rows.now) }
+    ensures { IfOk result (λ o. o ≡ conversion_open rows.now (length (questions rows.now))
+        (told known.now) (C.around context.now) read.now value.now) }
+{
+    match value {
+        Some(tree) => {
+            let e = typed_with(alloc, context, read, tree)?;
+            Ok(open_in(rows, known, &e)?)
+        }
+        None => Ok(None),
+    }
+}
+
+/// The type of what is read, with what stands behind it.
+fn read_type<C: Context, V: Constants>(
+    alloc: Global,
+    context: &C,
+    constants: &V,
+    base: &Ref<'_, BaseKind>,
+    counts: &Members<'_, CountKind>,
+) -> Result<Type, NoMemory>
+    ensures { IfOk result (λ t. t ≡ (counted_read (C.around context.now) (V.values constants.now)
+        base.now (trees counts.now)).ty) }
+{
+    let read = counted_read(alloc, context, constants, base, counts)?;
+    Ok(read.ty)
+}
+
+/// A member without a type on which the conversions of groups hang, from the inside.
+#[cycle(base)]
+fn base_open<C: Context, V: Constants>(
+    alloc: Global,
+    rows: &MemberRows<'_>,
+    known: &[Option<Type>],
+    context: &C,
+    constants: &V,
+    base: &Ref<'_, BaseKind>,
+) -> Result<Option<usize>, NoMemory>
+    requires { length known.now ≡ length (questions rows.now) }
+    ensures { IfOk result (λ o. o ≡ base_open rows.now (length (questions rows.now))
+        (told known.now) (C.around context.now) (V.values constants.now) base.now) }
+{
+    match base.view() {
+        BaseView::Group {
+            base,
+            counts,
+            attributes,
+        } => match base_open(alloc, rows, known, context, constants, &base)? {
+            Some(place) => Ok(Some(place)),
+            None => {
+                let read = read_type(alloc, context, constants, &base, &counts)?;
+                let value = conversion(&attributes);
+                Ok(conversion_open(alloc, rows, known, context, &read, &value)?)
+            }
+        },
+        _ => Ok(None),
+    }
+}
+
+/// What is read becomes this, unless it waits for a member.
+fn converted_try<C: Context>(
+    alloc: Global,
+    rows: &MemberRows<'_>,
+    known: &[Option<Type>],
+    context: &C,
+    read: Type,
+    value: &Option<Ref<'_, ExprKind>>,
+) -> Result<Attempt<Type>, NoMemory>
+    requires { length known.now ≡ length (questions rows.now) }
+    ensures { IfOk result (λ t. t ≡ when_open (converted (C.around context.now) read value.now)
+        (conversion_open rows.now (length (questions rows.now)) (told known.now)
+        (C.around context.now) read value.now)) }
+{
+    match value {
+        Some(tree) => {
+            let e = typed_with(alloc, context, &read, tree)?;
+            match open_in(rows, known, &e)? {
+                Some(place) => Ok(Attempt::Waits(place)),
+                None => Ok(Attempt::Done(seen(&e)?)),
+            }
+        }
+        None => Ok(Attempt::Done(read)),
+    }
+}
+
+/// The type of what a field stores, unless it waits for a member.
+fn field_try<C: Context, V: Constants>(
+    alloc: Global,
+    rows: &MemberRows<'_>,
+    known: &[Option<Type>],
+    context: &C,
+    constants: &V,
+    tree: &Ref<'_, FieldKind>,
+) -> Result<Attempt<Type>, NoMemory>
+    requires { length known.now ≡ length (questions rows.now) }
+    ensures { IfOk result (λ t. t ≡ when_open (field_type (C.around context.now)
+        (V.values constants.now) tree.now) (field_open rows.now (length (questions rows.now))
+        (told known.now) (C.around context.now) (V.values constants.now) tree.now)) }
+{
+    let view = tree.view();
+    match base_open(alloc, rows, known, context, constants, &view.base)? {
+        Some(place) => Ok(Attempt::Waits(place)),
+        None => {
+            let read = read_type(alloc, context, constants, &view.base, &view.counts)?;
+            let value = conversion(&view.attributes);
+            Ok(converted_try(alloc, rows, known, context, read, &value)?)
+        }
+    }
+}
+
+/// The type of what is stored in a member, unless it waits for another member.
+pub fn source_try<C: Context, V: Constants>(
+    alloc: Global,
+    rows: &MemberRows<'_>,
+    known: &[Option<Type>],
+    context: &C,
+    constants: &V,
+    source: &Source<'_>,
+) -> Result<Attempt<Type>, NoMemory>
+    requires { length known.now ≡ length (questions rows.now) }
+    ensures { IfOk result (λ t. t ≡ try_in rows.now (length (questions rows.now)) (told known.now)
+        (C.around context.now) (V.values constants.now) source.now) }
+{
+    match source {
+        Source::Variable(tree) => Ok(Attempt::Done(context.type_in(alloc, tree)?)),
+        Source::Sink => Ok(Attempt::Done(Type::word(Word::Sink))),
+        Source::Field(tree) => { Ok(field_try(alloc, rows, known, context, constants, tree)?) }
+    }
+}

@@ -1,0 +1,19 @@
+//! The types of what is stored in the members of units, which hang on each other, and which names of a unit come twice.
+#![tactic(auto)]
+
+mod answers;
+mod fields;
+mod laws;
+mod members;
+mod names;
+mod opens;
+mod rows;
+mod sources;
+mod tables;
+
+pub use answers::stored_types;
+pub use fields::source_try;
+pub use laws::tries_are_fair;
+pub use members::WithMembers;
+pub use rows::MemberRows;
+pub use sources::{Question, Source};

@@ -1,0 +1,6 @@
+pub mod Parameters
+pub mod Functions
+pub mod Events
+pub mod Hooks
+pub mod Rows
+pub mod inside

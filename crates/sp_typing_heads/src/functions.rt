@@ -1,0 +1,177 @@
+// Functions: their heads and bodies.
+ghost use Rattle.std.specs.Prelude.{◌≡◌, ◌++◌, IfOk};
+ghost use Rattle.sp_ast.specs.Trees.{span_of};
+ghost use Rattle.sp_ast.specs.Views.{optional_tree};
+ghost use Rattle.sp_typing.specs.Contexts.{Around};
+ghost use Rattle.sp_typing.specs.Typing.{name_of};
+ghost use Rattle.sp_typing_stmts.specs.Statements.{written_type, written_of};
+ghost use Rattle.sp_typing_heads.specs.Functions.{path_of, or_void, body_giving, function_body, function_with, no_function, function_of};
+
+use crate::parameters::{Parameters, WithParameters, parameters_in};
+use sp_ast::{BlockKind, DeclKind, DeclView, NameKind, Ref, TypeKind};
+use sp_base::{NoMemory, Span, Text};
+use sp_typed::{Stmt, StmtNode, Written};
+use sp_typed_units::{Function, Parameter, Row};
+use sp_types::{Type, Word};
+use sp_typing::Context;
+use sp_typing_bodies::typed_body;
+use sp_typing_stmts::Body;
+use std::alloc::Global;
+
+/// A name behind that of its module.
+fn path_of(alloc: Global, owner: &str, name: &str) -> Result<Text, NoMemory>
+    ensures { IfOk result (λ t. t ≡ path_of owner.now name.now) }
+{
+    let mut text = String::from_str(alloc, owner)?;
+    text.push_str("::")?;
+    text.push_str(name)?;
+    Ok(Text::from_string(text))
+}
+
+/// The type that is written, if one is.
+fn written_type<C: Context>(
+    alloc: Global,
+    context: &C,
+    tree: &Option<Ref<'_, TypeKind>>,
+) -> Result<Option<Type>, NoMemory>
+    ensures { IfOk result (λ t. t
+        ≡ written_type (C.around context.now) (optional_tree tree.now)) }
+{
+    match tree {
+        Some(tree) => {
+            tree.is_sound();
+            Ok(Some(context.type_in(alloc, tree)?))
+        }
+        None => Ok(None),
+    }
+}
+
+fn written_of<C: Context>(context: &C, tree: &Option<Ref<'_, TypeKind>>) -> Option<Written>
+    ensures { result ≡ written_of (C.around context.now) (optional_tree tree.now) }
+{
+    match tree {
+        Some(tree) => {
+            tree.is_sound();
+            Some(context.written(tree))
+        }
+        None => None,
+    }
+}
+
+fn or_void(written: Option<Type>) -> Type
+    ensures { result ≡ or_void written }
+{
+    match written {
+        Some(ty) => ty,
+        None => Type::word(Word::Void),
+    }
+}
+
+/// The typed body of a function, and the types of its slots.
+fn function_body<C: Context>(
+    alloc: Global,
+    context: &C,
+    parameters: &[Parameter],
+    returns: &Option<Ref<'_, TypeKind>>,
+    tree: &Ref<'_, BlockKind>,
+) -> Result<(Stmt, Vec<Type>), NoMemory>
+    ensures body { IfOk result (λ r. r.0 ≡ (function_body (C.around context.now) parameters.now
+        (optional_tree returns.now) tree.now).0) }
+    ensures slots { IfOk result (λ r. r.1.items ≡ (function_body (C.around context.now)
+        parameters.now (optional_tree returns.now) tree.now).1) }
+{
+    let seen = Parameters::new(alloc, parameters)?;
+    let inside = WithParameters::new(context, &seen, 0, false);
+    let body = Body {
+        result: written_type(alloc, context, returns)?,
+        in_foreach: false,
+        sees_unit: false,
+    };
+    typed_body(alloc, &body, &inside, Vec::new(alloc), tree)
+}
+
+/// What the head of a function says, apart from its parameters.
+#[derive(Drop)]
+pub(crate) struct Head {
+    pub(crate) path: Text,
+    pub(crate) span: Span,
+    pub(crate) result: Type,
+    pub(crate) written: Option<Written>,
+}
+
+fn head_of<C: Context>(
+    alloc: Global,
+    context: &C,
+    owner: &str,
+    name: &Ref<'_, NameKind>,
+    returns: &Option<Ref<'_, TypeKind>>,
+) -> Result<Head, NoMemory>
+    ensures path { IfOk result (λ h. h.path ≡ path_of owner.now (name_of name.now)) }
+    ensures span { IfOk result (λ h. h.span ≡ span_of name.now) }
+    ensures gives { IfOk result (λ h. h.result
+        ≡ or_void (written_type (C.around context.now) (optional_tree returns.now))) }
+    ensures written { IfOk result (λ h. h.written
+        ≡ written_of (C.around context.now) (optional_tree returns.now)) }
+{
+    let result = or_void(written_type(alloc, context, returns)?);
+    Ok(Head {
+        path: path_of(alloc, owner, name.text())?,
+        span: name.span(),
+        result,
+        written: written_of(context, returns),
+    })
+}
+
+/// What is no function.
+fn no_function(alloc: Global, module: u32) -> Result<Function, NoMemory>
+    ensures { IfOk result (λ f. f ≡ no_function «module») }
+{
+    Ok(Function {
+        path: Text::new(alloc, "")?,
+        module,
+        span: Span { from: 0, to: 0 },
+        parameters: Row::new(alloc),
+        result: Type::word(Word::Unknown),
+        written: None,
+        slots: Row::new(alloc),
+        body: Stmt::new(StmtNode::Block(Vec::new(alloc)))?,
+    })
+}
+
+/// The function that a tree declares, in what stands round it in its module: its name behind that of the module, its parameters,
+/// its result, and its body, which sees the parameters. Of another tree it is a function without a name.
+pub fn function_of<C: Context>(
+    alloc: Global,
+    context: &C,
+    owner: &str,
+    module: u32,
+    tree: &Ref<'_, DeclKind>,
+) -> Result<Function, NoMemory>
+    ensures { IfOk result (λ f. f
+        ≡ function_of (C.around context.now) owner.now «module» tree.now) }
+{
+    match tree.view() {
+        DeclView::Function {
+            name,
+            parameters,
+            returns,
+            body,
+            ..
+        } => {
+            let head = head_of(alloc, context, owner, &name, &returns)?;
+            let own = parameters_in(alloc, context, parameters)?;
+            let (body, slots) = function_body(alloc, context, &own, &returns, &body)?;
+            Ok(Function {
+                path: head.path,
+                module,
+                span: head.span,
+                parameters: Row::from_vec(own),
+                result: head.result,
+                written: head.written,
+                slots: Row::from_vec(slots),
+                body,
+            })
+        }
+        _ => no_function(alloc, module),
+    }
+}

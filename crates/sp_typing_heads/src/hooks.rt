@@ -1,0 +1,274 @@
+// Hooks: their parameters, their priorities and their bodies.
+ghost use Rattle.std.specs.Prelude.{◌≡◌, [], length, map, IfOk};
+ghost use Rattle.sp_ast.specs.Views.{optional_tree};
+ghost use Rattle.sp_typing.specs.Contexts.{Around};
+ghost use Rattle.sp_typing_units.specs.Attributes.{present};
+ghost use Rattle.sp_typing_heads.specs.Events.{is_of_sink, is_of_elements, fits};
+ghost use Rattle.sp_typing_heads.specs.Hooks.{self_type, self_standing, current_type, current_standing, hook_around, hook_body, priority_in, rank_of, hook_with, no_hook, hook_of_body, hook_behind, hook_on};
+ghost use Rattle.sp_typing_stmts.specs.Statements.{typed_body};
+
+use crate::events::{fits, is_of_elements, is_of_sink};
+use crate::parameters::{Parameters, WithParameters, parameters_in};
+use crate::ranks::Ranks;
+use crate::site::Site;
+use sp_ast::{BlockKind, ExprKind, HookBodyKind, HookKind, Kind, Ref};
+use sp_base::NoMemory;
+use sp_numbers::Width;
+use sp_typed::{Expr, Standing, Stmt, StmtNode};
+use sp_typed_units::{Hook, HookOf, Parameter, Row};
+use sp_types::{Type, Word};
+use sp_typing::{Context, taken, typed};
+use sp_typing_bodies::typed_body;
+use sp_typing_stmts::Body;
+use sp_typing_units::{WithCurrent, WithSelf};
+use std::alloc::Global;
+
+/// The part that may be left out is the one that is lent, if it is. It does nothing; a caller's proof has the fact from it.
+fn is_present<K: Kind>(part: &Option<Ref<'_, K>>)
+    ensures { present (optional_tree part.now) ≡ part.now }
+{
+    match part {
+        Some(tree) => tree.is_sound(),
+        None => {}
+    }
+}
+
+/// The type of `self`.
+fn self_type(of: HookOf) -> Type
+    ensures { result ≡ self_type of }
+{
+    match of {
+        HookOf::Nothing => Type::word(Word::Unknown),
+        HookOf::Unit(unit, _)
+        | HookOf::Field(unit, _)
+        | HookOf::Elements(unit, _)
+        | HookOf::Anonymous(unit)
+        | HookOf::AnonymousElements(unit) => Type::word(Word::Unit(unit)),
+    }
+}
+
+fn self_standing(of: HookOf) -> Standing
+    ensures { result ≡ self_standing of }
+{
+    if is_of_sink(of) {
+        Standing::Hidden
+    } else {
+        Standing::Meant
+    }
+}
+
+/// The type of `$$`.
+fn current_type(of: HookOf, current: &Type) -> Result<Type, NoMemory>
+    ensures { IfOk result (λ t. t ≡ current_type of current.now) }
+{
+    match of {
+        HookOf::Nothing | HookOf::Unit(..) => Ok(Type::word(Word::Unknown)),
+        _ => current.copy(),
+    }
+}
+
+fn current_standing(of: HookOf) -> Standing
+    ensures { result ≡ current_standing of }
+{
+    match of {
+        HookOf::Unit(..) => Standing::Unmeant,
+        _ => Standing::Meant,
+    }
+}
+
+/// What a body of a hook is to its statements.
+fn hook_body(of: HookOf) -> Body
+    ensures { result ≡ hook_body of }
+{
+    Body {
+        result: None,
+        in_foreach: is_of_elements(of),
+        sees_unit: !is_of_sink(of),
+    }
+}
+
+/// The priority, a literal of which is a signed integer.
+fn priority_in<C: Context>(
+    alloc: Global,
+    context: &C,
+    priority: &Option<Ref<'_, ExprKind>>,
+) -> Result<Option<Expr>, NoMemory>
+    ensures { IfOk result (λ e. e ≡ priority_in (C.around context.now) priority.now) }
+{
+    match priority {
+        Some(tree) => {
+            let e = typed(alloc, context, tree)?;
+            Ok(Some(taken(&Type::word(Word::Int(Width::W64)), e)))
+        }
+        None => Ok(None),
+    }
+}
+
+/// The number that a priority is, where it is one; 0 without one.
+fn rank_of<R: Ranks>(
+    alloc: Global,
+    ranks: &R,
+    priority: &Option<Expr>,
+) -> Result<Option<i64>, NoMemory>
+    ensures { IfOk result (λ n. n ≡ rank_of (R.ranks ranks.now) priority.now) }
+{
+    match priority {
+        Some(e) => ranks.rank(alloc, e),
+        None => Ok(Some(0)),
+    }
+}
+
+/// What is typed of a hook where its parameters are seen: its priority and the number that this is, its body, and the types of
+/// its slots.
+#[derive(Drop)]
+pub(crate) struct Inside {
+    pub(crate) priority: Option<Expr>,
+    pub(crate) rank: Option<i64>,
+    pub(crate) body: Stmt,
+    pub(crate) slots: Vec<Type>,
+}
+
+/// The priority and the body of a hook, in what stands round its body.
+fn inside_of<C: Context, R: Ranks>(
+    alloc: Global,
+    inside: &C,
+    ranks: &R,
+    of: HookOf,
+    priority: &Option<Ref<'_, ExprKind>>,
+    tree: &Ref<'_, BlockKind>,
+) -> Result<Inside, NoMemory>
+    ensures priority { IfOk result (λ r. r.priority
+        ≡ priority_in (C.around inside.now) priority.now) }
+    ensures rank { IfOk result (λ r. r.rank
+        ≡ rank_of (R.ranks ranks.now) (priority_in (C.around inside.now) priority.now)) }
+    ensures body { IfOk result (λ r. r.body
+        ≡ (typed_body (hook_body of) (C.around inside.now) [] tree.now).0) }
+    ensures slots { IfOk result (λ r. r.slots.items
+        ≡ (typed_body (hook_body of) (C.around inside.now) [] tree.now).1) }
+{
+    let priority = priority_in(alloc, inside, priority)?;
+    let rank = rank_of(alloc, ranks, &priority)?;
+    let (body, slots) = typed_body(alloc, &hook_body(of), inside, Vec::new(alloc), tree)?;
+    Ok(Inside {
+        priority,
+        rank,
+        body,
+        slots,
+    })
+}
+
+/// The priority and the body of a hook, where it sees its own parameters and those of its unit.
+fn hook_inside<C: Context, R: Ranks>(
+    alloc: Global,
+    context: &C,
+    ranks: &R,
+    site: &Site,
+    units: &Parameters<'_>,
+    own: &[Parameter],
+    priority: &Option<Ref<'_, ExprKind>>,
+    tree: &Ref<'_, BlockKind>,
+) -> Result<Inside, NoMemory>
+    ensures priority { IfOk result (λ r. r.priority
+        ≡ priority_in (hook_around site.now.of site.now.current units.now own.now
+        (C.around context.now)) priority.now) }
+    ensures rank { IfOk result (λ r. r.rank ≡ rank_of (R.ranks ranks.now)
+        (priority_in (hook_around site.now.of site.now.current units.now own.now
+        (C.around context.now)) priority.now)) }
+    ensures body { IfOk result (λ r. r.body ≡ (typed_body (hook_body site.now.of)
+        (hook_around site.now.of site.now.current units.now own.now (C.around context.now)) []
+        tree.now).0) }
+    ensures slots { IfOk result (λ r. r.slots.items ≡ (typed_body (hook_body site.now.of)
+        (hook_around site.now.of site.now.current units.now own.now (C.around context.now)) []
+        tree.now).1) }
+{
+    let of = site.of;
+    let first = u32::try_from(own.len()).map_err(|_| NoMemory)?;
+    let itself = self_type(of);
+    let current = current_type(of, &site.current)?;
+    let seen = Parameters::new(alloc, own)?;
+    let unit = WithParameters::new(context, units, first, is_of_sink(of));
+    let with_self = WithSelf::new(&unit, &itself, self_standing(of));
+    let with_current = WithCurrent::new(&with_self, &current, current_standing(of));
+    let around = WithParameters::new(&with_current, &seen, 0, false);
+    inside_of(alloc, &around, ranks, of, priority, tree)
+}
+
+fn hook_with(site: &Site, each: bool, own: Vec<Parameter>, inside: Inside) -> Hook
+    ensures { result ≡ hook_with site.now each own.items inside.priority inside.rank
+        (inside.body, inside.slots.items) }
+{
+    let fits = fits(site.of, each, site.container, &own);
+    Hook {
+        module: site.module,
+        span: site.span,
+        of: site.of,
+        fits,
+        parameters: Row::from_vec(own),
+        priority: inside.priority,
+        rank: inside.rank,
+        slots: Row::from_vec(inside.slots),
+        body: inside.body,
+    }
+}
+
+/// The hook that a tree is with these parameters of its own.
+fn hook_of_body<C: Context, R: Ranks>(
+    alloc: Global,
+    context: &C,
+    ranks: &R,
+    site: &Site,
+    units: &Parameters<'_>,
+    own: Vec<Parameter>,
+    tree: &Ref<'_, HookBodyKind>,
+) -> Result<Hook, NoMemory>
+    ensures { IfOk result (λ h. h ≡ hook_of_body (C.around context.now) (R.ranks ranks.now)
+        site.now units.now own.items tree.now) }
+{
+    let view = tree.view();
+    is_present(&view.priority);
+    let inside = hook_inside(
+        alloc,
+        context,
+        ranks,
+        site,
+        units,
+        &own,
+        &view.priority,
+        &view.block,
+    )?;
+    Ok(hook_with(site, view.each, own, inside))
+}
+
+/// The hook that is written behind a field, in what stands round it in its module. `units` are the parameters of the unit of
+/// which it is.
+pub fn hook_behind<C: Context, R: Ranks>(
+    alloc: Global,
+    context: &C,
+    ranks: &R,
+    site: &Site,
+    units: &Parameters<'_>,
+    tree: &Ref<'_, HookBodyKind>,
+) -> Result<Hook, NoMemory>
+    ensures { IfOk result (λ h. h ≡ hook_behind (C.around context.now) (R.ranks ranks.now)
+        site.now units.now tree.now) }
+{
+    hook_of_body(alloc, context, ranks, site, units, Vec::new(alloc), tree)
+}
+
+/// The hook that is written with `on`, in what stands round it in its module. `units` are the parameters of the unit of which it
+/// is; a hook of nothing has none.
+pub fn hook_on<C: Context, R: Ranks>(
+    alloc: Global,
+    context: &C,
+    ranks: &R,
+    site: &Site,
+    units: &Parameters<'_>,
+    tree: &Ref<'_, HookKind>,
+) -> Result<Hook, NoMemory>
+    ensures { IfOk result (λ h. h ≡ hook_on (C.around context.now) (R.ranks ranks.now) site.now
+        units.now tree.now) }
+{
+    let view = tree.view();
+    let own = parameters_in(alloc, context, view.parameters)?;
+    hook_of_body(alloc, context, ranks, site, units, own, &view.body)
+}

@@ -1,0 +1,146 @@
+// The rules at how a field, an element or a group is read.
+ghost use Rattle.std.specs.Prelude.{◌≡◌, ◌||◌, not, [], List, if◌then◌else◌};
+ghost use Rattle.sp_rules.specs.Least.{checked};
+ghost use Rattle.sp_typed.specs.Exprs.{exprs};
+ghost use Rattle.sp_typing_units.specs.Roles.{grouped};
+ghost use Rattle.sp_unit_rules.specs.Kinds.{token_kind, read_kind, list_kind, kind_of};
+ghost use Rattle.sp_unit_rules.specs.Readings.{attributes_tests, is_decoder, read_tests, unit_of_tests, spec_tests};
+
+use crate::attributes::{is_bounded, note_attribute};
+use crate::here::Here;
+use crate::nodes::{connects_filter, is_filter};
+use crate::notes::note_at;
+use crate::sweep::{note_exprs, note_maybe};
+use sp_rules::{Fault, Rule};
+use sp_typed::Expr;
+use sp_typed_units::{Attribute, ReadOp, Reading, Spec, SpecNode, TokenOp, Unit, UnitOf};
+use sp_types::{Level, Type, Word};
+use sp_typing_units::{Holder, Kind};
+
+fn token_kind(token: &TokenOp) -> Kind
+    ensures { result ≡ token_kind token.now }
+{
+    match token {
+        TokenOp::Number(_) => Kind::TypedLiteral,
+        TokenOp::Bytes(_) | TokenOp::Regex(_) => Kind::Literal,
+    }
+}
+
+fn read_kind(op: &ReadOp) -> Kind
+    ensures { result ≡ read_kind op.now }
+{
+    match op {
+        ReadOp::Int => Kind::Integer,
+        ReadOp::Bits(_) => Kind::Bitfield,
+        ReadOp::Bytes => Kind::Bytes,
+        ReadOp::Token(token, _) => token_kind(token),
+        ReadOp::Void => Kind::Void,
+        ReadOp::Broken(_) => Kind::Broken,
+    }
+}
+
+fn list_kind(count: &Option<Expr>) -> Kind
+    ensures { result ≡ list_kind count.now }
+{
+    match count {
+        None => Kind::Open,
+        Some(_) => Kind::Counted,
+    }
+}
+
+/// What stands in parentheses, by what is inside.
+fn grouped(kind: Kind) -> Kind
+    ensures { result ≡ grouped kind }
+{
+    match kind {
+        Kind::Literal | Kind::TypedLiteral => Kind::Literal,
+        Kind::Void => Kind::Void,
+        Kind::Broken => Kind::Broken,
+        _ => Kind::Unit,
+    }
+}
+
+/// Notes what is wrong with attributes, and in their values.
+#[tactic(auto, using(crate::proofs::Checked::checked_more))]
+pub(crate) fn note_attributes(
+    units: &[Unit],
+    here: Here,
+    holder: Holder,
+    kind: Kind,
+    all: &[Attribute],
+    least: &mut Option<Fault>,
+)
+    ensures { least.new ≡ checked least.old (attributes_tests units.now here holder kind [] all.now) }
+{
+    for place in 0..all.len() {
+        let attribute = &all[place];
+        note_attribute(here.owner, holder, kind, all, place, attribute, least);
+        note_maybe(units, here, &attribute.value, least);
+    }
+}
+
+fn is_decoder(t: &Type) -> bool
+    ensures { result ≡ is_decoder t.now }
+{
+    matches!(t.level(), Level::Word(Word::Decoder))
+}
+
+fn note_read(owner: u32, own: &[Attribute], reading: &Reading, least: &mut Option<Fault>)
+    ensures { least.new ≡ checked least.old (read_tests owner own.now reading.now.span
+        reading.now.ty reading.now.op) }
+{
+    match &reading.op {
+        ReadOp::Bytes => {
+            let bounded = is_bounded(own);
+            note_at(!bounded, owner, Rule::MissingBound, reading.span, least);
+        }
+        ReadOp::Broken(_) => {
+            let decoder = is_decoder(&reading.ty);
+            note_at(decoder, owner, Rule::FilterPlace, reading.span, least);
+        }
+        _ => {}
+    }
+}
+
+fn note_unit_of(units: &[Unit], owner: u32, head: UnitOf, least: &mut Option<Fault>)
+    ensures { least.new ≡ checked least.old (unit_of_tests units.now owner head) }
+{
+    let filters = is_filter(units, head.unit) || connects_filter(units, head.unit);
+    note_at(filters, owner, Rule::FilterPlace, head.span, least);
+}
+
+/// Notes what is wrong with how something is read, and in the expressions inside. It answers what is read, by the attributes
+/// that can stand on it.
+#[tactic(auto, using(crate::proofs::Checked::checked_more))]
+pub(crate) fn note_spec(
+    units: &[Unit],
+    here: Here,
+    own: &[Attribute],
+    spec: &Spec,
+    least: &mut Option<Fault>,
+) -> Kind
+    ensures kind { result ≡ kind_of spec.now }
+    ensures noted { least.new ≡ checked least.old (spec_tests units.now here own.now spec.now) }
+{
+    match spec.level() {
+        SpecNode::Read(reading) => {
+            note_read(here.owner, own, reading, least);
+            read_kind(&reading.op)
+        }
+        SpecNode::Unit(head, arguments) => {
+            note_unit_of(units, here.owner, *head, least);
+            note_exprs(units, here, arguments, least);
+            Kind::Unit
+        }
+        SpecNode::List(_, element, count) => {
+            let _ = note_spec(units, here, &own[..0], element, least);
+            note_maybe(units, here, count, least);
+            list_kind(count)
+        }
+        SpecNode::Group(_, inner, attributes) => {
+            let kind = note_spec(units, here, attributes, inner, least);
+            note_attributes(units, here, Holder::Group, kind, attributes, least);
+            grouped(kind)
+        }
+    }
+}
