@@ -51,10 +51,15 @@ leaf_tests m e _ = []
 abbrev pub negates : Expr → Bool
 negates e = is_number e || stands_alone unary_is.Negate (type_of e)
 
--- A cast takes integers and enums. An enum goes to no signed type, which is said at the type.
+-- whether a type that is written in a cast is no integer type; where a name in it names nothing, nothing is asked
+abbrev pub takes_no_cast : Ty → Written → Bool
+takes_no_cast t w = not (is_integer t) && is_none w.unnamed
+
+-- A cast takes integers and enums, and gives an integer. What is no integer type is said at the type, and so is a signed type
+-- to which an enum goes.
 abbrev pub cast_tests : ℕ → Ty → Written → Expr → List (Bool × Fault)
 cast_tests m t w e =
-    written_tests m w ++ (value_tests m e ++ (wrong m (is_integer (type_of e) || is_enum (type_of e)) e ∷ ((is_enum (type_of e) && is_signed t, at m rule_is.TypeMismatch w.span) ∷ [])))
+    written_tests m w ++ ((takes_no_cast t w, at m rule_is.TypeMismatch w.span) ∷ (value_tests m e ++ (wrong m (is_integer (type_of e) || is_enum (type_of e)) e ∷ ((is_enum (type_of e) && is_signed t, at m rule_is.TypeMismatch w.span) ∷ []))))
 
 -- a member that its object doesn't have
 abbrev pub no_member_tests : ℕ → Span → Expr → List (Bool × Fault)
@@ -148,9 +153,10 @@ abbrev pub elements_tests : ℕ → Bool → Expr → Exprs → List (Bool × Fa
 elements_tests m keyed first none = []
 elements_tests m keyed first (more e es) = element_tests m keyed first e ++ elements_tests m keyed first es
 
-abbrev pub row_tests : ℕ → Bool → Exprs → List (Bool × Fault)
-row_tests m keyed none = []
-row_tests m keyed (more e es) = elements_tests m keyed e (more e es)
+-- all elements of a row; one without elements has no type, and no text has one
+abbrev pub row_tests : ℕ → Bool → Span → Exprs → List (Bool × Fault)
+row_tests m keyed span none = (true, at m rule_is.TypeMismatch span) ∷ []
+row_tests m keyed span (more e es) = elements_tests m keyed e (more e es)
 
 -- keys and values in turn
 abbrev pub entries_tests : ℕ → Bool → Expr → Expr → Exprs → List (Bool × Fault)
@@ -158,9 +164,9 @@ entries_tests m keyed key value none = []
 entries_tests m keyed key value (more e es) =
     element_tests m keyed (if keyed then key else value) e ++ entries_tests m (not keyed) key value es
 
-abbrev pub map_tests : ℕ → Exprs → List (Bool × Fault)
-map_tests m (more key (more value es)) = entries_tests m true key value (more key (more value es))
-map_tests m _ = []
+abbrev pub map_tests : ℕ → Span → Exprs → List (Bool × Fault)
+map_tests m span (more key (more value es)) = entries_tests m true key value (more key (more value es))
+map_tests m span _ = (true, at m rule_is.TypeMismatch span) ∷ []
 
 -- Whether an argument goes to its parameter. A literal past its type doesn't; of what has no value nothing is asked.
 abbrev pub argument_goes : Ty → Expr → Bool
@@ -258,16 +264,16 @@ abbrev pub method_tests : Known → ℕ → ManyOp → Span → Exprs → List (
 method_tests k m op span none = []
 method_tests k m op span (more e es) = value_tests m e ++ (receiver_tests k m op e ++ call_tests k m op span (seen e) es)
 
--- arguments behind what can't be called
+-- what can't be called, and the arguments behind it
 abbrev pub uncalled_tests : ℕ → Exprs → List (Bool × Fault)
 uncalled_tests m none = []
-uncalled_tests m (more e es) = (is_no_value e || knows e, at m rule_is.TypeMismatch (span_of e)) ∷ all_value_tests m es
+uncalled_tests m (more e es) = value_tests m e ++ ((knows e, at m rule_is.TypeMismatch (span_of e)) ∷ all_value_tests m es)
 
 abbrev pub many_op_tests : Known → ℕ → ManyOp → Span → Exprs → List (Bool × Fault)
 many_op_tests k m many_is.Tuple span es = all_value_tests m es
-many_op_tests k m many_is.Vector span es = row_tests m false es
-many_op_tests k m many_is.Set span es = row_tests m true es
-many_op_tests k m many_is.Map span es = map_tests m es
+many_op_tests k m many_is.Vector span es = row_tests m false span es
+many_op_tests k m many_is.Set span es = row_tests m true span es
+many_op_tests k m many_is.Map span es = map_tests m span es
 many_op_tests k m (many_is.Call n) span es = call_tests k m (many_is.Call n) span unknown es
 many_op_tests k m (many_is.Convert n) span es = convert_tests m span es
 many_op_tests k m (many_is.New of path) span es = call_tests k m (many_is.New of path) path unknown es

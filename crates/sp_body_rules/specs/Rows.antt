@@ -320,9 +320,9 @@ no_member = refl
 no_member_of_unknown : at_node (one_at 1 nothing (one_is.NoMember (on 3)) (local 1 nothing)) ≡ []
 no_member_of_unknown = refl
 
--- casts: an enum goes to no signed type, and bytes to none; the type of the cast is misplaced where it is no integer
+-- casts: an enum goes to no signed type, and bytes to none; what is cast to is an integer type
 abbrev cast_to : Option Span → OneOp
-cast_to misplaced = one_is.Cast (record { span = on 2; unnamed = None; misplaced = misplaced })
+cast_to unnamed = one_is.Cast (record { span = on 2; unnamed = unnamed; misplaced = None })
 
 cast_of_enum : at_node (one_at 1 int8 (cast_to None) (local 3 some_enum)) ≡ ((rule_is.TypeMismatch, 2) ∷ [])
 cast_of_enum = refl
@@ -330,8 +330,11 @@ cast_of_enum = refl
 cast_of_bytes : at_node (one_at 1 uint8 (cast_to None) (local 3 bytes)) ≡ ((rule_is.TypeMismatch, 3) ∷ [])
 cast_of_bytes = refl
 
-cast_to_truth : at_node (one_at 1 nothing (cast_to (Some (on 2))) (local 3 uint8)) ≡ ((rule_is.TypeMismatch, 2) ∷ [])
+cast_to_truth : at_node (one_at 1 nothing (cast_to None) (local 3 uint8)) ≡ ((rule_is.TypeMismatch, 2) ∷ [])
 cast_to_truth = refl
+
+cast_to_no_name : at_node (one_at 1 nothing (cast_to (Some (on 2))) (local 3 uint8)) ≡ []
+cast_to_no_name = refl
 
 -- indexes: a place in a vector is unsigned, a key goes to the keys, and the member of a tuple is constant
 index_of_vector : at_node (two_at 1 uint8 two_is.Index (local 1 vector) (minus 2 int64 1)) ≡ ((rule_is.TypeMismatch, 2) ∷ [])
@@ -369,6 +372,12 @@ elements_of_a_set = refl
 entries_of_a_map : at_node (many_at 1 nothing many_is.Map (local 2 text ∷ local 3 vector ∷ local 4 uint8 ∷ local 5 vector ∷ [])) ≡ ((rule_is.TypeMismatch, 4) ∷ [])
 entries_of_a_map = refl
 
+elements_of_none : at_node (many_at 1 nothing many_is.Vector []) ≡ ((rule_is.TypeMismatch, 1) ∷ [])
+elements_of_none = refl
+
+key_without_value : at_node (many_at 1 nothing many_is.Map (local 2 text ∷ [])) ≡ ((rule_is.TypeMismatch, 1) ∷ [])
+key_without_value = refl
+
 -- words as values, a regular expression, what gives nothing, a set's key
 word_as_operand : at_node (one_at 1 uint64 one_is.Size (leaf_at 2 nothing (leaf_is.Function 0))) ≡ ((rule_is.TypeMismatch, 2) ∷ [])
 word_as_operand = refl
@@ -400,6 +409,9 @@ call_of_nothing = refl
 
 call_of_a_number : at_node (many_at 1 nothing many_is.NoCall (number 1 uint64 5 ∷ local 2 uint8 ∷ [])) ≡ ((rule_is.TypeMismatch, 1) ∷ [])
 call_of_a_number = refl
+
+call_of_a_past_number : at_node (many_at 1 nothing many_is.NoCall (number 1 uint8 300 ∷ local 2 uint8 ∷ [])) ≡ ((rule_is.LiteralRange, 1) ∷ [])
+call_of_a_past_number = refl
 
 -- a value of an enum is made of one number, of any integer type
 convert_of_signed : at_node (many_at 1 uint8 (many_is.Convert 4) (local 2 int8 ∷ [])) ≡ []

@@ -221,13 +221,13 @@ pub(crate) fn note_method<F: Facts>(
     }
 }
 
-/// Notes arguments behind what can't be called.
+/// Notes what can't be called, and what is wrong with the arguments behind it.
 pub(crate) fn note_uncalled(owner: u32, parts: &[Expr], least: &mut Option<Fault>)
     ensures { least.new ≡ checked least.old (uncalled_tests owner (exprs parts.now)) }
 {
     if let Some((e, arguments)) = parts.split_first() {
-        let callable = is_no_value(e) || knows(e);
-        note_at(callable, owner, Rule::TypeMismatch, e.span(), least);
+        note_value(owner, e, least);
+        note_at(knows(e), owner, Rule::TypeMismatch, e.span(), least);
         note_values(owner, arguments, least);
     }
 }

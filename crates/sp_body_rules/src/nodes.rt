@@ -6,7 +6,7 @@ ghost use Rattle.sp_typed.specs.Exprs.{type_of, span_of, exprs};
 ghost use Rattle.sp_typing.specs.Operands.{is_unsigned, stands_before, stands_behind};
 ghost use Rattle.sp_body_rules.specs.Known.{Known};
 ghost use Rattle.sp_body_rules.specs.Values.{at};
-ghost use Rattle.sp_body_rules.specs.ExprTests.{is_unmeant, leaf_tests, negates, cast_tests, no_member_tests, one_tests, disagreeing, is_past_key, disagree, operand_tests, is_constant, is_not_constant, item_tests, key_tests, index_tests, two_tests, unlike, choice_tests, many_tests, expr_tests};
+ghost use Rattle.sp_body_rules.specs.ExprTests.{is_unmeant, leaf_tests, negates, takes_no_cast, cast_tests, no_member_tests, one_tests, disagreeing, is_past_key, disagree, operand_tests, is_constant, is_not_constant, item_tests, key_tests, index_tests, two_tests, unlike, choice_tests, many_tests, expr_tests};
 
 use crate::calls::{note_call, note_convert, note_method, note_uncalled};
 use crate::facts::{Constancy, Facts};
@@ -52,11 +52,19 @@ fn negates(e: &Expr) -> bool
     e.is_number() || stands_alone(UnaryOp::Negate, e.ty())
 }
 
+fn takes_no_cast(to: &Type, written: &Written) -> bool
+    ensures { result ≡ takes_no_cast to.now written.now }
+{
+    !is_integer(to) && written.unnamed.is_none()
+}
+
 #[tactic(auto, using(crate::proofs::Swept::checked_more))]
 fn note_cast(owner: u32, to: &Type, written: &Written, e: &Expr, least: &mut Option<Fault>)
     ensures { least.new ≡ checked least.old (cast_tests owner to.now written.now e.now) }
 {
     note_written(owner, written, least);
+    let other = takes_no_cast(to, written);
+    note_at(other, owner, Rule::TypeMismatch, written.span, least);
     note_value(owner, e, least);
     let right = is_integer(e.ty()) || is_enum(e.ty());
     note_wrong(right, owner, e, least);
@@ -247,15 +255,15 @@ fn note_many<F: Facts>(
             Ok(())
         }
         ManyOp::Vector => {
-            note_row(owner, false, parts, least);
+            note_row(owner, false, head.span, parts, least);
             Ok(())
         }
         ManyOp::Set => {
-            note_row(owner, true, parts, least);
+            note_row(owner, true, head.span, parts, least);
             Ok(())
         }
         ManyOp::Map => {
-            note_map(owner, parts, least);
+            note_map(owner, head.span, parts, least);
             Ok(())
         }
         ManyOp::Call(_) => note_call(facts, owner, &head.op, head.span, &unknown, parts, least),

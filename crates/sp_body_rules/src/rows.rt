@@ -6,6 +6,7 @@ ghost use Rattle.sp_body_rules.specs.Values.{at};
 ghost use Rattle.sp_body_rules.specs.ExprTests.{unlike, all_value_tests, element_tests, elements_tests, row_tests, entries_tests, map_tests};
 
 use crate::values::{knows, note_at, note_value, note_wrong};
+use sp_base::Span;
 use sp_rules::{Fault, Rule};
 use sp_typed::Expr;
 
@@ -42,12 +43,19 @@ fn note_elements(owner: u32, keyed: bool, first: &Expr, parts: &[Expr], least: &
     }
 }
 
-/// Notes what is wrong with the elements of a vector, or of a set, whose elements are keys.
-pub(crate) fn note_row(owner: u32, keyed: bool, parts: &[Expr], least: &mut Option<Fault>)
-    ensures { least.new ≡ checked least.old (row_tests owner keyed (exprs parts.now)) }
+/// Notes what is wrong with the elements of a vector, or of a set, whose elements are keys. The row stands on this slice.
+pub(crate) fn note_row(
+    owner: u32,
+    keyed: bool,
+    span: Span,
+    parts: &[Expr],
+    least: &mut Option<Fault>,
+)
+    ensures { least.new ≡ checked least.old (row_tests owner keyed span (exprs parts.now)) }
 {
-    if let Some(first) = parts.first() {
-        note_elements(owner, keyed, first, parts, least);
+    match parts.first() {
+        Some(first) => note_elements(owner, keyed, first, parts, least),
+        None => note_at(true, owner, Rule::TypeMismatch, span, least),
     }
 }
 
@@ -63,13 +71,15 @@ fn note_entries(owner: u32, key: &Expr, value: &Expr, parts: &[Expr], least: &mu
     }
 }
 
-/// Notes what is wrong with the keys and values of a map, which stand in turn.
-pub(crate) fn note_map(owner: u32, parts: &[Expr], least: &mut Option<Fault>)
-    ensures { least.new ≡ checked least.old (map_tests owner (exprs parts.now)) }
+/// Notes what is wrong with the keys and values of a map, which stand in turn. The map stands on this slice.
+pub(crate) fn note_map(owner: u32, span: Span, parts: &[Expr], least: &mut Option<Fault>)
+    ensures { least.new ≡ checked least.old (map_tests owner span (exprs parts.now)) }
 {
-    if let Some((key, rest)) = parts.split_first() {
-        if let Some(value) = rest.first() {
-            note_entries(owner, key, value, parts, least);
-        }
+    if let Some((key, rest)) = parts.split_first()
+        && let Some(value) = rest.first()
+    {
+        note_entries(owner, key, value, parts, least);
+        return;
     }
+    note_at(true, owner, Rule::TypeMismatch, span, least);
 }

@@ -111,6 +111,13 @@ impl Measured {
         }
     }
 
+    /// What has no known value.
+    pub fn unknown() -> Measured
+        ensures { result ≡ outcome_is.Unknown }
+    {
+        Measured::small(Outcome::Unknown)
+    }
+
     /// What is no constant expression.
     pub fn not_constant() -> Measured
         ensures { result ≡ outcome_is.NotConstant }

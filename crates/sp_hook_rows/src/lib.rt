@@ -9,6 +9,6 @@ mod sites;
 mod units;
 
 pub use containers::note_hooks;
-pub use places::FieldKeys;
-pub use rows::{HookRow, hook_rows, keys_of};
+pub use places::{FieldKeys, site_key};
+pub use rows::{HookRow, hook_rows, key_of, keys_of};
 pub use sites::{Holder, Site, all_sites};

@@ -48,7 +48,8 @@ fn field_key(
     }
 }
 
-fn site_key(tables: &Tables<'_>, site: &Site<'_>) -> Result<Option<(u32, HookKey)>, NoMemory>
+/// The place of the field that stands at a site, and what its hooks hang on, if one does.
+pub fn site_key(tables: &Tables<'_>, site: &Site<'_>) -> Result<Option<(u32, HookKey)>, NoMemory>
     ensures { IfOk result (λ k. k ≡ holder_key tables.now.0 site.now.unit site.now.holder) }
 {
     match &site.holder {

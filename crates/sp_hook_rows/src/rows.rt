@@ -260,7 +260,8 @@ fn anonymous_key(unit: u32, field: Option<u32>) -> Option<HookKey>
     }
 }
 
-fn key_of(of: HookOf, field: Option<u32>) -> Option<HookKey>
+/// What a hook hangs on, where `field` is the place of an anonymous field.
+pub fn key_of(of: HookOf, field: Option<u32>) -> Option<HookKey>
     ensures { result ≡ key_of of field }
 {
     match of {

@@ -22,6 +22,7 @@ use Rattle.sp_typed_units.specs.declared.declarations.LabelNumber.TheVariants as
 use Rattle.sp_typed_units.specs.declared.declarations.Label.{Label}
 use Rattle.sp_typed_units.specs.declared.declarations.Enum.{Enum}
 use Rattle.sp_typed_units.specs.declared.declarations.Alias.{Alias}
+use Rattle.sp_typed_units.specs.declared.declarations.EndlessConversion.{EndlessConversion}
 use Rattle.sp_typed_units.specs.declared.declarations.OrderProperty.{OrderProperty}
 use Rattle.sp_typed_units.specs.declared.declarations.Member.{Member}
 use Rattle.sp_typed_units.specs.declared.declarations.Variable.{Variable}
@@ -144,6 +145,10 @@ enum_tests k e = all_tests (label_tests k e.«module») e.labels
 -- an alias that is made of itself
 abbrev pub alias_tests : Alias → List (Bool × Fault)
 alias_tests a = written_tests a.«module» a.written ++ ((a.endless, at a.«module» rule_is.TypeMismatch a.written.span) ∷ [])
+
+-- a conversion that is made of itself
+abbrev pub conversion_tests : EndlessConversion → List (Bool × Fault)
+conversion_tests c = (true, at c.«module» rule_is.TypeMismatch c.span) ∷ []
 
 -- the byte order of a module or a unit: orders are enums of the library, those of bytes the first one, those of bits the second
 abbrev pub is_enum_of : ℕ → Ty → Bool

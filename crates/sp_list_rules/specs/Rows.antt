@@ -137,7 +137,7 @@ label e n = record { name = []; span = on 10; expr = e; number = n }
 -- lists
 abbrev listed : List Function → List Hook → List Constant → List Label → Typed
 listed fs hs cs ls =
-    record { units = []; functions = fs; hooks = hs; constants = cs; enums = (record { path = []; «module» = 1; span = on 5; labels = ls }) ∷ []; bitfields = []; aliases = []; orders = [] }
+    record { units = []; functions = fs; hooks = hs; constants = cs; enums = (record { path = []; «module» = 1; span = on 5; labels = ls }) ∷ []; bitfields = []; aliases = []; conversions = []; orders = [] }
 
 abbrev of_functions : List Function → Typed
 of_functions fs = listed fs [] [] []

@@ -8,7 +8,7 @@ use Rattle.sp_constants.specs.Known.{Known as Values}
 use Rattle.sp_body_rules.specs.Known.{Known}
 use Rattle.sp_list_rules.specs.Lists.{all_tests}
 use Rattle.sp_list_rules.specs.Told.{known_in}
-use Rattle.sp_list_rules.specs.Bodies.{parameter_tests, order_tests, variable_tests, alias_tests, enum_tests, const_tests, function_tests, hook_tests}
+use Rattle.sp_list_rules.specs.Bodies.{parameter_tests, order_tests, variable_tests, alias_tests, conversion_tests, enum_tests, const_tests, function_tests, hook_tests}
 use Rattle.sp_list_rules.specs.Fields.{parts_tests}
 
 -- A unit: its parameters, its byte orders, its variables, and what it reads.
@@ -19,7 +19,7 @@ unit_tests k u =
 -- What is asked outside of bodies, where no slot is that of a variable of `for`.
 abbrev pub outer_tests : Known → Typed → List (Bool × Fault)
 outer_tests k t =
-    all_tests (order_tests k) t.orders ++ (all_tests alias_tests t.aliases ++ (all_tests (enum_tests k) t.enums ++ (all_tests (const_tests k) t.constants ++ all_tests (unit_tests k) t.units)))
+    all_tests (order_tests k) t.orders ++ (all_tests alias_tests t.aliases ++ (all_tests conversion_tests t.conversions ++ (all_tests (enum_tests k) t.enums ++ (all_tests (const_tests k) t.constants ++ all_tests (unit_tests k) t.units))))
 
 -- All that is asked of the bodies of a typed list.
 abbrev pub list_tests : Typed → Values → List (Bool × Fault)

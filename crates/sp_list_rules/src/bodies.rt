@@ -4,7 +4,7 @@ ghost use Rattle.sp_rules.specs.Least.{checked};
 ghost use Rattle.sp_list_rules.specs.Told.{known_in};
 ghost use Rattle.sp_list_rules.specs.Wholes.{outer_tests, list_tests};
 
-use crate::declared::{note_aliases, note_constants, note_enums};
+use crate::declared::{note_aliases, note_constants, note_conversions, note_enums};
 use crate::functions::note_functions;
 use crate::hooks::note_hooks;
 use crate::slots::ForSlots;
@@ -30,6 +30,7 @@ fn note_outer<F: Facts>(
 {
     note_orders(alloc, facts, typed.orders.as_slice(), least)?;
     note_aliases(typed.aliases.as_slice(), least);
+    note_conversions(typed.conversions.as_slice(), least);
     note_enums(alloc, facts, typed.enums.as_slice(), least)?;
     note_constants(alloc, facts, typed.constants.as_slice(), least)?;
     note_units(alloc, facts, typed.units.as_slice(), least)
@@ -68,8 +69,8 @@ fn note_all_outer<C: Constants>(
     note_outer_in(alloc, typed, constants, &slots, least)
 }
 
-/// Notes what is wrong with the bodies of a typed list: with functions, hooks, constants, labels, aliases, byte orders and
-/// units, and with what these read. `constants` tells the constants and labels of the list. Time and calls are those
+/// Notes what is wrong with the bodies of a typed list: with functions, hooks, constants, labels, aliases, conversions, byte
+/// orders and units, and with what these read. `constants` tells the constants and labels of the list. Time and calls are those
 /// of the list's size and height, and of the constants that its indexes, orders and priorities name.
 #[tactic(auto, using(crate::proofs::Checked::checked_more))]
 pub fn note_bodies<C: Constants>(

@@ -2,14 +2,14 @@
 ghost use Rattle.std.specs.Prelude.{◌≡◌, ◌&&◌, not, OnOk};
 ghost use Rattle.sp_rules.specs.Least.{checked};
 ghost use Rattle.sp_list_rules.specs.Lists.{all_tests, option_tests};
-ghost use Rattle.sp_list_rules.specs.Bodies.{is_regex, regex_tests, told_tests, declared_tests, lacks_value, const_tests, lacks_number, is_past_label, is_minus_literal, number_tests, label_tests, enum_tests, alias_tests};
+ghost use Rattle.sp_list_rules.specs.Bodies.{is_regex, regex_tests, told_tests, declared_tests, lacks_value, const_tests, lacks_number, is_past_label, is_minus_literal, number_tests, label_tests, enum_tests, alias_tests, conversion_tests};
 
 use crate::inside::note_inside;
 use sp_base::NoMemory;
 use sp_body_rules::{Facts, is_unsigned, note_at, note_target, note_value, note_written};
 use sp_rules::{Fault, Rule};
 use sp_typed::{Expr, Written};
-use sp_typed_units::{Alias, Constant, ConstantValue, Enum, Label, LabelNumber};
+use sp_typed_units::{Alias, Constant, ConstantValue, EndlessConversion, Enum, Label, LabelNumber};
 use sp_types::{Level, Type, Word};
 use sp_typing::is_negative;
 use std::alloc::Global;
@@ -230,5 +230,21 @@ pub(crate) fn note_aliases(all: &[Alias], least: &mut Option<Fault>)
 {
     for alias in all {
         note_alias(alias, least);
+    }
+}
+
+/// Notes the conversions that are made of themselves.
+#[tactic(auto, using(crate::proofs::Checked::checked_more))]
+pub(crate) fn note_conversions(all: &[EndlessConversion], least: &mut Option<Fault>)
+    ensures { least.new ≡ checked least.old (all_tests conversion_tests all.now) }
+{
+    for endless in all {
+        note_at(
+            true,
+            endless.module,
+            Rule::TypeMismatch,
+            endless.span,
+            least,
+        );
     }
 }

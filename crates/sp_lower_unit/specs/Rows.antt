@@ -149,7 +149,7 @@ abbrev hook : HookOf → Option ℤ → Stmt → Hook
 hook of rank s = record { «module» = 0; span = here; of = of; fits = true; parameters = []; priority = None; rank = rank; slots = []; body = s }
 
 abbrev listed : List Function → List Hook → Typed
-listed fs hs = record { units = []; functions = fs; hooks = hs; constants = []; enums = []; bitfields = []; aliases = []; orders = [] }
+listed fs hs = record { units = []; functions = fs; hooks = hs; constants = []; enums = []; bitfields = []; aliases = []; conversions = []; orders = [] }
 
 abbrev names : Names
 names = record { members = []; labels = []; ranges = [] }

@@ -1,5 +1,6 @@
--- Rows on which the definitions are run: fields that wait for each other, and names that come twice.
-use Rattle.std.specs.Prelude.{ℕ, ◌≡◌, false, List, [], ◌∷◌, length, Option, Some, None, codes, refl}
+-- Rows on which the definitions are run: fields that wait for each other, names that come twice, and conversions that are made
+-- of themselves.
+use Rattle.std.specs.Prelude.{ℕ, ◌≡◌, false, List, [], ◌∷◌, length, map, Option, Some, None, codes, refl}
 use Rattle.sp_base.specs.declared.places.Span.{Span}
 use Rattle.sp_words.specs.declared.words.AttributeName.TheVariants as name_is
 use Rattle.sp_words.specs.declared.words.IntWord.{IntWord}
@@ -18,12 +19,15 @@ use Rattle.sp_ast.specs.declared.forms.BaseForm.TheVariants as base_is
 use Rattle.sp_ast.specs.declared.forms.ExprForm.TheVariants as expr_is
 use Rattle.sp_types.specs.Types.{Ty, word}
 use Rattle.sp_types.specs.declared.words.Word.TheVariants as word_is
+use Rattle.sp_typed_units.specs.declared.declarations.EndlessConversion.{EndlessConversion}
+use Rattle.sp_typing.specs.Contexts.{Around}
 use Rattle.sp_typing.specs.Operands.{unknown, boolean}
 use Rattle.sp_typing_units.specs.Values.{Values}
 use Rattle.sp_solver.specs.Rounds.{round}
 use Rattle.sp_around.specs.Arounds.{Facts, around}
 use Rattle.sp_stored_types.specs.Sources.{questions}
 use Rattle.sp_stored_types.specs.Tries.{tries, field_type}
+use Rattle.sp_stored_types.specs.Endless.{endless as endless_conversions}
 use Rattle.sp_stored_types.specs.Taken.{taken_places}
 
 abbrev span : ℕ → Span
@@ -161,3 +165,41 @@ arms = refl
 -- switch { -> a: uint8; -> switch { -> a: uint8; -> b: uint8; } } b: uint8;
 behind : taken [] (item (switch (arm (part 1 (codes "a") int.Uint8) ∷ arm (switch (arm (part 2 (codes "a") int.Uint8) ∷ arm (part 3 (codes "b") int.Uint8) ∷ [])) ∷ [])) ∷ item (part 4 (codes "b") int.Uint8) ∷ []) ≡ span 4 ∷ []
 behind = refl
+
+-- conversions that are made of themselves, by the places of their values
+abbrev own_at : ℕ → List ℕ → Tree
+own_at n x = tree (form_is.Expr expr_is.Member) (span n) (of (form_is.Expr expr_is.Itself) [] ∷ name x ∷ [])
+
+-- module N; and type U = unit {
+--   a: uint8 &convert=self.b; b: (uint8 &convert=self.a) &convert=self.b; c: uint8 &convert=self.c; d: (uint8) &convert=self.c;
+--   e: uint8; f: (uint8 &convert=self.e) &convert=self.a;
+-- };
+abbrev endless_unit : Tree
+endless_unit =
+    unit [] (
+    item (field (name (codes "a")) (reads int.Uint8) (convert (own_at 1 (codes "b")) ∷ []))
+    ∷ item (field (name (codes "b")) (grouped (own_at 2 (codes "a"))) (convert (own_at 3 (codes "b")) ∷ []))
+    ∷ item (field (name (codes "c")) (reads int.Uint8) (convert (own_at 4 (codes "c")) ∷ []))
+    ∷ item (field (name (codes "d")) (reads int.Uint8) (convert (own_at 5 (codes "c")) ∷ []))
+    ∷ item (field (name (codes "e")) (reads int.Uint8) [])
+    ∷ item (field (name (codes "f")) (grouped (own_at 6 (codes "e"))) (convert (own_at 7 (codes "a")) ∷ []))
+    ∷ [])
+
+abbrev two_modules : List Tree
+two_modules =
+    of form_is.Module (name (codes "N") ∷ in_row [] ∷ []) ∷ of form_is.Module (name (codes "M") ∷ in_row (type (codes "U") endless_unit ∷ []) ∷ []) ∷ []
+
+abbrev contexts : List Around
+contexts = around two_modules facts 1 ∷ []
+
+abbrev settled : ℕ → Option Ty
+settled i = round (tries two_modules contexts values) 3 i
+
+abbrev types : List (Option Ty)
+types = settled 0 ∷ (settled 1 ∷ (settled 2 ∷ (settled 3 ∷ (settled 4 ∷ (settled 5 ∷ [])))))
+
+abbrev told : EndlessConversion → ℕ × ℕ
+told c = (c.«module», c.span.from)
+
+made_of_themselves : map told (endless_conversions two_modules contexts values types) ≡ (1, 1) ∷ ((1, 2) ∷ ((1, 4) ∷ ((1, 5) ∷ ((1, 7) ∷ []))))
+made_of_themselves = refl

@@ -47,7 +47,7 @@ fn conversion_of<'a>(attribute: &Ref<'a, AttributeKind>) -> Option<Ref<'a, ExprK
 }
 
 /// The value of the first `&convert` that has one.
-fn conversion<'a>(list: &Members<'a, AttributeKind>) -> Option<Ref<'a, ExprKind>>
+pub(crate) fn conversion<'a>(list: &Members<'a, AttributeKind>) -> Option<Ref<'a, ExprKind>>
     ensures { result ≡ conversion (trees list.now) }
 {
     for attribute in list.again() {
@@ -76,7 +76,7 @@ fn typed_with<C: Context>(
 }
 
 /// A member without a type on which a conversion of what is read hangs.
-fn conversion_open<C: Context>(
+pub(crate) fn conversion_open<C: Context>(
     alloc: Global,
     rows: &MemberRows<'_>,
     known: &[Option<Type>],
@@ -98,7 +98,7 @@ fn conversion_open<C: Context>(
 }
 
 /// The type of what is read, with what stands behind it.
-fn read_type<C: Context, V: Constants>(
+pub(crate) fn read_type<C: Context, V: Constants>(
     alloc: Global,
     context: &C,
     constants: &V,

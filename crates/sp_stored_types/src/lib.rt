@@ -2,6 +2,7 @@
 #![tactic(auto)]
 
 mod answers;
+mod endless;
 mod fields;
 mod laws;
 mod members;
@@ -12,8 +13,9 @@ mod sources;
 mod tables;
 
 pub use answers::stored_types;
+pub use endless::endless_conversions;
 pub use fields::source_try;
-pub use laws::tries_are_fair;
+pub use laws::{none_is_passed_over, tries_are_fair};
 pub use members::WithMembers;
 pub use rows::MemberRows;
 pub use sources::{Question, Source};

@@ -223,6 +223,13 @@ pub struct Alias {
     pub endless: bool,
 }
 
+/// What a `&convert` makes of a value, where it is made of itself by what fields store.
+#[derive(Clone, Copy)]
+pub struct EndlessConversion {
+    pub module: u32,
+    pub span: Span,
+}
+
 /// The typed list of a list of modules.
 #[derive(Drop)]
 pub struct Typed {
@@ -234,6 +241,8 @@ pub struct Typed {
     pub enums: Row<Enum>,
     pub bitfields: Row<Bitfield>,
     pub aliases: Row<Alias>,
+    /// In the order of the text.
+    pub conversions: Row<EndlessConversion>,
     /// The byte orders of modules.
     pub orders: Row<OrderProperty>,
 }

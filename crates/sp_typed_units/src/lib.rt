@@ -10,8 +10,9 @@ mod rows;
 
 pub use attributes::Attribute;
 pub use declarations::{
-    Alias, BitRange, Bitfield, Constant, ConstantValue, Enum, Function, Hook, HookOf, Label,
-    LabelNumber, Member, MemberKind, OrderProperty, Parameter, Sink, Typed, Unit, Variable,
+    Alias, BitRange, Bitfield, Constant, ConstantValue, EndlessConversion, Enum, Function, Hook,
+    HookOf, Label, LabelNumber, Member, MemberKind, OrderProperty, Parameter, Sink, Typed, Unit,
+    Variable,
 };
 pub use items::{Arm, Field, Part, PartNode};
 pub use readings::{ReadOp, Reading, Spec, SpecNode, TokenOp, UnitOf};

@@ -1,0 +1,9 @@
+pub mod Sizes
+pub mod Steps
+pub mod Forms
+pub mod Lists
+pub mod Places
+pub mod Exprs
+pub mod Keeping
+pub mod KeptForms
+pub mod KeptExprs

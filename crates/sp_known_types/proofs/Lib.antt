@@ -1,0 +1,11 @@
+pub mod Full
+pub mod Tests
+pub mod Kept
+pub mod Nodes
+pub mod Functions
+pub mod Rows
+pub mod Callees
+pub mod Typed
+pub mod Formed
+pub mod Broken
+pub mod Bodies

@@ -1,0 +1,6 @@
+pub mod Full
+pub mod Trees
+pub mod Clear
+pub mod Given
+pub mod Stmts
+pub mod Rows

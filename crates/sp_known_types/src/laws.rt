@@ -1,0 +1,62 @@
+// What is known of an expression in which no rule is broken.
+ghost use Rattle.std.specs.Prelude.{◌≡◌, ◌⊎◌, ℕ, Bool, Option, IsTrue, IsFalse};
+ghost use Rattle.std.specs.List.{list_all};
+ghost use Rattle.sp_rules.specs.declared.fault.Fault.{Fault};
+ghost use Rattle.sp_ast.specs.Trees.{Tree};
+ghost use Rattle.sp_ast.specs.Groups.{is_of};
+ghost use Rattle.sp_ast.specs.Slots.{is_formed};
+ghost use Rattle.sp_ast.specs.declared.groups.Group.TheVariants.{Expressions};
+ghost use Rattle.sp_types.specs.Types.{Ty};
+ghost use Rattle.sp_typed.specs.Exprs.{Expr};
+ghost use Rattle.sp_typed.specs.Stmts.{Stmt};
+ghost use Rattle.sp_typed.specs.StmtNodes.{stmts_in};
+ghost use Rattle.sp_typed.specs.Nodes.{IsWhole, holds};
+ghost use Rattle.sp_typing.specs.Contexts.{Around};
+ghost use Rattle.sp_typing.specs.Typing.{typed};
+ghost use Rattle.sp_body_rules.specs.Known.{Known};
+ghost use Rattle.sp_body_rules.specs.Values.{is_no_value};
+ghost use Rattle.sp_body_rules.specs.Sweeps.{Breaks};
+ghost use Rattle.sp_known_types.specs.Full.{is_right, is_bare, holds_inside};
+ghost use Rattle.sp_known_types.specs.Trees.{is_expr, types_hold};
+ghost use Rattle.sp_known_types.specs.Clear.{names_something, names_types, is_clear};
+ghost use Rattle.sp_known_types.specs.Given.{IsKnown};
+ghost use Rattle.sp_known_types.specs.Stmts.{is_good, exprs_hold, is_quiet};
+
+/// Where all that an expression can name is known, and no rule is broken at its nodes, each node inside it has a value of a
+/// full type; and so has the expression itself, unless it is a name that is no value or the key of a set. An expression that
+/// stands as a value is whole.
+pub fn types_are_known()
+    ensures inside { (g : Around) (k : Known) (m : ℕ) (is_type : Tree → Bool) (t : Tree)
+        → IsKnown g k m is_type
+        → IsTrue (is_expr is_type t) → IsTrue (holds (is_clear k m) (typed g t))
+        → IsTrue (holds_inside is_right (typed g t))
+        × (IsTrue (is_right (typed g t)) ⊎ IsTrue (is_bare (typed g t))) }
+    ensures values { (g : Around) (k : Known) (m : ℕ) (is_type : Tree → Bool) (t : Tree)
+        → IsKnown g k m is_type
+        → IsTrue (is_expr is_type t) → IsTrue (holds (is_clear k m) (typed g t))
+        → IsFalse (is_no_value (typed g t)) → IsWhole (typed g t) }
+{}
+
+/// A tree of the group of expressions in which each alternative has its parts is one of an expression, where a test holds of
+/// each type that is written in it.
+pub fn formed_is_expr()
+    ensures { (is_type : Tree → Bool) (t : Tree) → IsTrue (is_of Expressions t)
+        → IsTrue (is_formed t) → IsTrue (types_hold is_type t) → IsTrue (is_expr is_type t) }
+{}
+
+/// Where each name in an expression names something, and no rule of bodies is broken in it, nothing is broken at its nodes.
+pub fn unbroken_is_clear()
+    ensures { (k : Known) (m : ℕ) (e : Expr) → IsTrue (holds names_something e)
+        → IsTrue (holds names_types e) → ((f : Fault) → Breaks k m e f → ⊥)
+        → IsTrue (holds (is_clear k m) e) }
+{}
+
+/// Where each node inside the expressions of a statement is right, and each of these is right or bare, and no rule is broken at
+/// the statement and at those in it, each node of each expression is right, but that `add` and `delete` may take the key of a
+/// set.
+pub fn values_in_bodies()
+    ensures { (k : Known) (wanted : Option Ty) (m : ℕ) (s : Stmt)
+        → IsTrue (exprs_hold is_good is_good s)
+        → IsTrue (list_all (is_quiet k wanted m) (stmts_in s))
+        → IsTrue (exprs_hold (holds is_right) is_good s) }
+{}

@@ -1,0 +1,3 @@
+pub mod Aliases
+pub mod Bitfields
+pub mod Rows

@@ -1,0 +1,5 @@
+pub mod Answered
+pub mod Least
+pub mod Refused
+pub mod Rows
+pub mod Values

@@ -1,0 +1,12 @@
+//! Names and types over a list of modules: what each name means and what type each part has, or the least rule on names that is
+//! broken.
+#![tactic(auto)]
+
+mod fault;
+mod kept_values;
+mod resolving;
+mod scopes;
+
+pub use fault::CheckFault;
+pub use resolving::{resolve, type_list};
+pub use scopes::Scopes;

@@ -1,0 +1,102 @@
+-- What hooks see of the fields on which they hang: the type of `$$`, and whether the field has brackets.
+use Rattle.std.specs.Prelude.{ℕ, Bool, false, ◌&&◌, ◌||◌, if◌then◌else◌, List, [], ◌∷◌, Option, Some, None, slice_get}
+use Rattle.std.specs.List.{list_any}
+use Rattle.sp_ast.specs.Trees.{Tree, row, node, more}
+use Rattle.sp_ast.specs.declared.forms.Form.TheVariants as form_is
+use Rattle.sp_types.specs.Types.{Ty}
+use Rattle.sp_typing.specs.Contexts.{Around}
+use Rattle.sp_typing.specs.Operands.{unknown}
+use Rattle.sp_typing_units.specs.Values.{Values}
+use Rattle.sp_typing_units.specs.Attributes.{element_of}
+use Rattle.sp_typing_units.specs.Readings.{counted_read}
+use Rattle.sp_stored_types.specs.Tries.{field_type}
+use Rattle.sp_hook_order.specs.declared.keys.HookKey.{HookKey}
+use Rattle.sp_hook_order.specs.declared.keys.HookKey.TheVariants as key_is
+use Rattle.sp_hook_order.specs.Keys.{are_same}
+use Rattle.sp_hook_rows.specs.declared.sites.Holder.{Holder}
+use Rattle.sp_hook_rows.specs.declared.sites.Holder.TheVariants as holder_is
+use Rattle.sp_hook_rows.specs.declared.sites.Site.{Site}
+use Rattle.sp_hook_rows.specs.HookRows.{is_some_tree}
+use Rattle.sp_hook_rows.specs.Places.{holder_key}
+use Rattle.sp_typing_hooks.specs.declared.field.FieldType.{FieldType}
+
+-- nothing is known of `$$`
+abbrev pub nothing_known : FieldType
+nothing_known = record { stored = unknown; element = unknown }
+
+-- the type of an element of what a field reads, before any `&convert` of the field
+abbrev pub element_type : Around → Values → Tree → Ty
+element_type g v (node form_is.Field span (more name (more base (more (row counts) (more (row ts) rest))))) =
+    element_of (counted_read g v base counts).ty
+element_type g v t = unknown
+
+-- What `$$` is in the hooks of a field and of its elements, where `g` stands round its expressions.
+abbrev pub field_types : Around → Values → Tree → FieldType
+field_types g v t = record { stored = field_type g v t; element = element_type g v t }
+
+-- those of a field of a unit: of one that has no context nothing is known
+abbrev pub types_in : Option Around → Values → Tree → FieldType
+types_in None v t = nothing_known
+types_in (Some g) v t = field_types g v t
+
+-- those of a field that stands at a place of hooks, where the units have these contexts
+abbrev pub holder_types : List Around → Values → ℕ → Holder → FieldType
+holder_types contexts v n (holder_is.Field t) = types_in (slice_get contexts n) v t
+holder_types contexts v n _ = nothing_known
+
+-- whether a field has brackets
+abbrev pub is_container : Tree → Bool
+is_container (node form_is.Field span (more name (more base (more (row counts) ts)))) = is_some_tree counts
+is_container t = false
+
+abbrev pub holds_container : Holder → Bool
+holds_container (holder_is.Field t) = is_container t
+holds_container _ = false
+
+-- The mark of the field on which hooks of a key hang: 1, its unit and the number of its member, or 2, its unit and its place.
+abbrev pub mark_of : Option HookKey → Option (ℕ × ℕ × ℕ)
+mark_of (Some (key_is.Member n k)) = Some (1, n, k)
+mark_of (Some (key_is.Anonymous n place)) = Some (2, n, place)
+mark_of _ = None
+
+abbrev pub key_in : Option (ℕ × HookKey) → Option HookKey
+key_in None = None
+key_in (Some k) = Some k.1
+
+-- the mark of the field that stands at a place of hooks
+abbrev pub site_mark : List Tree → Site → Option (ℕ × ℕ × ℕ)
+site_mark list s = mark_of (key_in (holder_key list s.unit s.holder))
+
+-- whether a field has a mark
+abbrev pub hangs : ℕ × ℕ × ℕ → Option (ℕ × ℕ × ℕ) → Bool
+hangs x None = false
+hangs x (Some y) = are_same x y
+
+-- the first of two that is there
+abbrev pub earlier : Option FieldType → Option FieldType → Option FieldType
+earlier None o = o
+earlier (Some t) o = Some t
+
+-- the types of a field, where it has a mark
+abbrev pub if_marked : ℕ × ℕ × ℕ → Option (ℕ × ℕ × ℕ) → FieldType → Option FieldType
+if_marked x None t = None
+if_marked x (Some y) t = if are_same y x then Some t else None
+
+-- The types of the first field of a mark: of fields of one name the first one counts.
+abbrev pub first_types : List Tree → List Around → Values → ℕ × ℕ × ℕ → List Site → Option FieldType
+first_types list contexts v x [] = None
+first_types list contexts v x (s ∷ ss) =
+    earlier (if_marked x (site_mark list s) (holder_types contexts v s.unit s.holder)) (first_types list contexts v x ss)
+
+-- whether some field of a mark has brackets
+abbrev pub some_container : List Tree → ℕ × ℕ × ℕ → List Site → Bool
+some_container list x [] = false
+some_container list x (s ∷ ss) = holds_container s.holder && hangs x (site_mark list s) || some_container list x ss
+
+-- What hooks see of the fields of a mark.
+abbrev pub seen_of : List Tree → List Around → Values → List Site → ℕ × ℕ × ℕ → Option FieldType × Bool
+seen_of list contexts v ss x = (first_types list contexts v x ss, some_container list x ss)
+
+-- whether some of these keys is of a mark
+abbrev pub is_asked : List (Option HookKey) → ℕ × ℕ × ℕ → Bool
+is_asked keys x = list_any (λ key. hangs x (mark_of key)) keys

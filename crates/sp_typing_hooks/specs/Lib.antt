@@ -1,0 +1,4 @@
+pub mod Fields
+pub mod Hooks
+pub mod Rows
+pub mod inside

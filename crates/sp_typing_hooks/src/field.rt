@@ -1,0 +1,110 @@
+// What `$$` is in the hooks of a field.
+ghost use Rattle.std.specs.Prelude.{◌≡◌, map, slice_get, IfOk};
+ghost use Rattle.sp_ast.specs.Trees.{trees};
+ghost use Rattle.sp_typing_units.specs.Attributes.{element_of};
+ghost use Rattle.sp_hook_rows.specs.HookRows.{is_some_tree};
+ghost use Rattle.sp_typing_hooks.specs.Fields.{nothing_known, field_types, types_in, holder_types, is_container, holds_container};
+
+use crate::contexts::context_at;
+use sp_ast::{FieldKind, Ref};
+use sp_base::NoMemory;
+use sp_hook_rows::{Holder, Site};
+use sp_types::{Level, Maker, Type, Word};
+use sp_typing::{Context, first_type};
+use sp_typing_units::{Constants, converted, counted_read};
+use std::alloc::Global;
+
+/// What `$$` is in the hooks of a field.
+#[derive(Drop)]
+pub struct FieldType {
+    /// The type that it stores.
+    pub stored: Type,
+    /// The type of an element of what it reads, before any `&convert` of the field.
+    pub element: Type,
+}
+
+fn nothing_known() -> FieldType
+    ensures { result ≡ nothing_known }
+{
+    FieldType {
+        stored: Type::word(Word::Unknown),
+        element: Type::word(Word::Unknown),
+    }
+}
+
+/// The type of the elements of a container.
+fn element_of(of: &Type) -> Result<Type, NoMemory>
+    ensures { IfOk result (λ t. t ≡ element_of of.now) }
+{
+    match of.level() {
+        Level::Made(Maker::Vector, parts) => first_type(parts),
+        _ => Ok(Type::word(Word::Unknown)),
+    }
+}
+
+/// The types of a field, in what stands round its expressions.
+fn field_types<C: Context, V: Constants>(
+    alloc: Global,
+    context: &C,
+    constants: &V,
+    field: &Ref<'_, FieldKind>,
+) -> Result<FieldType, NoMemory>
+    ensures { IfOk result (λ t. t ≡ field_types (C.around context.now) (V.values constants.now)
+        field.now) }
+{
+    let view = field.view();
+    let read = counted_read(alloc, context, constants, &view.base, &view.counts)?;
+    let element = element_of(&read.ty)?;
+    let stored = converted(alloc, context, &read.ty, &view.attributes)?;
+    Ok(FieldType { stored, element })
+}
+
+/// The types of a field of a unit.
+fn types_in<C: Context, V: Constants>(
+    alloc: Global,
+    contexts: &[C],
+    constants: &V,
+    unit: u32,
+    field: &Ref<'_, FieldKind>,
+) -> Result<FieldType, NoMemory>
+    ensures { IfOk result (λ t. t ≡ types_in (slice_get (map C.around contexts.now) unit)
+        (V.values constants.now) field.now) }
+{
+    match context_at(contexts, unit) {
+        Some(context) => field_types(alloc, context, constants, field),
+        None => Ok(nothing_known()),
+    }
+}
+
+/// The types of what stands at a place of hooks.
+pub(crate) fn holder_types<C: Context, V: Constants>(
+    alloc: Global,
+    contexts: &[C],
+    constants: &V,
+    site: &Site<'_>,
+) -> Result<FieldType, NoMemory>
+    ensures { IfOk result (λ t. t ≡ holder_types (map C.around contexts.now)
+        (V.values constants.now) site.now.unit site.now.holder) }
+{
+    match &site.holder {
+        Holder::Field(field) => types_in(alloc, contexts, constants, site.unit, field),
+        Holder::Item(_) | Holder::Declaration(_) => Ok(nothing_known()),
+    }
+}
+
+/// Whether a field has brackets.
+fn is_container(field: &Ref<'_, FieldKind>) -> bool
+    ensures { result ≡ is_container field.now }
+{
+    field.view().counts.split_first().is_some()
+}
+
+/// Whether a field with brackets stands at a place of hooks.
+pub(crate) fn holds_container(site: &Site<'_>) -> bool
+    ensures { result ≡ holds_container site.now.holder }
+{
+    match &site.holder {
+        Holder::Field(field) => is_container(field),
+        Holder::Item(_) | Holder::Declaration(_) => false,
+    }
+}

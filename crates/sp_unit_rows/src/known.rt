@@ -1,0 +1,49 @@
+// What the rows of units are made of.
+ghost use Rattle.std.specs.Prelude.{◌≡◌, IfOk};
+ghost use Rattle.sp_hook_rows.specs.inside.Keyed.{AreKeys};
+
+use sp_around::Tables;
+use sp_base::NoMemory;
+use sp_hook_order::HookTable;
+use sp_hook_rows::{FieldKeys, Site};
+use sp_types::Type;
+use std::alloc::Global;
+
+/// What the rows of the units of a list are made of.
+#[derive(Drop)]
+pub struct UnitRows<'a> {
+    pub tables: &'a Tables<'a>,
+    /// The types of what is stored in the members of all units, in one row.
+    pub stored: &'a [Option<Type>],
+    /// Where hooks and fields stand.
+    pub sites: &'a [Site<'a>],
+    pub hooks: &'a HookTable,
+    pub(crate) keys: FieldKeys,
+    ghost keyed: { AreKeys tables.now.0 sites.now keys },
+}
+
+impl<'a> UnitRows<'a> {
+    /// What the rows of the units of a list are made of: the types of what is stored in the members of all units, in one row, the
+    /// places of hooks and fields, and the hooks by what they hang on.
+    pub fn new(
+        alloc: Global,
+        tables: &'a Tables<'a>,
+        stored: &'a [Option<Type>],
+        sites: &'a [Site<'a>],
+        hooks: &'a HookTable,
+    ) -> Result<UnitRows<'a>, NoMemory>
+        ensures tables { IfOk result (λ r. r.tables.now ≡ tables.now) }
+        ensures stored { IfOk result (λ r. r.stored.now ≡ stored.now) }
+        ensures sites { IfOk result (λ r. r.sites.now ≡ sites.now) }
+        ensures hooks { IfOk result (λ r. r.hooks.now ≡ hooks.now) }
+    {
+        let keys = FieldKeys::new(alloc, tables, sites)?;
+        Ok(UnitRows {
+            tables,
+            stored,
+            sites,
+            hooks,
+            keys,
+        })
+    }
+}
