@@ -31,7 +31,7 @@ other_is_false true b h g = h
 other_is_false false b h g = absurd (let q : false ≡ true = g in cc)
 
 module _ (p : Plain) (reads : Reading → Ask → Read) where
-  only_items : (item : Bool) (pc : ℕ) (ms : List Marked) (means : State → Result) → Does p reads pc ms [] means → Does p reads pc ms [] (λ st. chosen item means (ends Unfinished) st)
+  pub only_items : (item : Bool) (pc : ℕ) (ms : List Marked) (means : State → Result) → Does p reads pc ms [] means → Does p reads pc ms [] (λ st. chosen item means (ends Unfinished) st)
   only_items true pc ms means h = h
   only_items false pc ms means h = λ vs x st has. tt
 
@@ -70,7 +70,7 @@ module _ (p : Plain) (reads : Reading → Ask → Read) where
           (λ us l. subst (λ ws. Does p reads (pc + length (exprs_code globals layout s pc es)) (many_code globals layout u h.op (count es)) ws (go us)) (sym (append-nil us)) (rest us (omega (arith, l)))))
           (λ c. receiver_does es h.op k s pc c t.1)
 
-      all_does : (es : Exprs) (acc ws : List Val) (s : Shape) (pc : ℕ) (b : List Marked) (go : List Val → State → Result) → AllAreCounted p es
+      pub all_does : (es : Exprs) (acc ws : List Val) (s : Shape) (pc : ℕ) (b : List Marked) (go : List Val → State → Result) → AllAreCounted p es
           → ((us : List Val) → length us ≡ length acc + count es → Does p reads (pc + length (exprs_code globals layout s pc es)) b (us ++ ws) (go us))
           → Does p reads pc (exprs_code globals layout s pc es ++ b) (acc ++ ws) (all_got globals call layout es acc go)
       all_does none acc ws s pc b go t rest = moved p reads (pc + 0) pc b (acc ++ ws) (go acc) (omega arith) (rest acc (omega arith))
@@ -109,7 +109,7 @@ module _ (p : Plain) (reads : Reading → Ask → Read) where
       receiver_does (more r es) _ k s pc c t = λ vs x st has. tt
 
       -- what is done with the value of a place, behind the code that loads it
-      place_does : (e : Expr) (owner : Option ℕ) (s : Shape) (pc : ℕ) (rest : List Marked) (go : Changes) → AreCounted p e
+      pub place_does : (e : Expr) (owner : Option ℕ) (s : Shape) (pc : ℕ) (rest : List Marked) (go : Changes) → AreCounted p e
           → GoesOn p reads (pc + length (load_code globals layout owner s pc e)) rest (is_item_place e) (λ s at. store_code globals layout owner s at e) go
           → Does p reads pc (load_code globals layout owner s pc e ++ rest) [] (place_means globals call layout owner e go)
       place_does (leaf h) owner s pc rest go t k = local_place p reads (local_named h.op) pc layout.first s (λ s. push (kind_of globals layout (leaf h)) s) rest go k

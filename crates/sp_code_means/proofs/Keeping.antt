@@ -18,17 +18,17 @@ module _ (p : Plain) (shapes : Shapes) where
   pub shown_at : (at pc : ℕ) (s : Shape) → at ≡ pc → Shown p shapes at s → Shown p shapes pc s
   shown_at at pc s e h = subst (λ n. Shown p shapes n s) e h
 
-  shows_front : (pc : ℕ) (a b : List Marked) → Shows shapes.at pc (a ++ b) → Shows shapes.at pc a
+  pub shows_front : (pc : ℕ) (a b : List Marked) → Shows shapes.at pc (a ++ b) → Shows shapes.at pc a
   shows_front pc [] b h = tt
   shows_front pc (m ∷ a) b h = (h.0, shows_front (pc + 1) a b h.1)
 
-  shows_back : (pc : ℕ) (a b : List Marked) → Shows shapes.at pc (a ++ b) → Shows shapes.at (pc + length a) b
+  pub shows_back : (pc : ℕ) (a b : List Marked) → Shows shapes.at pc (a ++ b) → Shows shapes.at (pc + length a) b
   shows_back pc [] b h = let e : pc ≡ pc + 0 = omega arith in subst (λ n. Shows shapes.at n b) e h
   shows_back pc (m ∷ a) b h =
       let e : pc + 1 + length a ≡ pc + length (m ∷ a) = omega arith in
       subst (λ n. Shows shapes.at n b) e (shows_back (pc + 1) a b h.1)
 
-  keep_both : (pc : ℕ) (a b : List Marked) → AllKeep p shapes pc a → AllKeep p shapes (pc + length a) b → AllKeep p shapes pc (a ++ b)
+  pub keep_both : (pc : ℕ) (a b : List Marked) → AllKeep p shapes pc a → AllKeep p shapes (pc + length a) b → AllKeep p shapes pc (a ++ b)
   keep_both pc [] b h g = let e : pc + 0 ≡ pc = omega arith in subst (λ n. AllKeep p shapes n b) e g
   keep_both pc (m ∷ a) b h g =
       let e : pc + length (m ∷ a) ≡ pc + 1 + length a = omega arith in

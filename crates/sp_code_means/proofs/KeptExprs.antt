@@ -26,27 +26,27 @@ use Rattle.sp_code_means.proofs.KeptForms.{literal_keeps, one_keeps, load_keeps,
 
 module _ (globals : Globals) (layout : Layout) where
   -- the kinds of values on others, and how many they are
-  kinds_apart : (es : Exprs) (js ks : List Kind) → kinds_on globals layout es (js ++ ks) ≡ kinds_on globals layout es js ++ ks
+  pub kinds_apart : (es : Exprs) (js ks : List Kind) → kinds_on globals layout es (js ++ ks) ≡ kinds_on globals layout es js ++ ks
   kinds_apart none js ks = refl
   kinds_apart (more e es) js ks = kinds_apart es (kind_of globals layout e ∷ js) ks
 
-  kinds_counted : (es : Exprs) (ks : List Kind) → length (kinds_on globals layout es ks) ≡ length ks + count es
+  pub kinds_counted : (es : Exprs) (ks : List Kind) → length (kinds_on globals layout es ks) ≡ length ks + count es
   kinds_counted none ks = omega arith
   kinds_counted (more e es) ks = omega (arith, kinds_counted es (kind_of globals layout e ∷ ks))
 
   -- what waits below the value of a place changes the operands alone
-  over_pending : (e : Expr) (s : Shape) (P : List Kind → Option ℕ → Type 0) → P s.locals s.unit → P (pending globals layout s e).locals (pending globals layout s e).unit
+  pub over_pending : (e : Expr) (s : Shape) (P : List Kind → Option ℕ → Type 0) → P s.locals s.unit → P (pending globals layout s e).locals (pending globals layout s e).unit
   over_pending (two h a b) s P fits = over_pending a s P fits
   over_pending _ s P fits = fits
 
 module _ (p : Plain) (shapes : Shapes) (globals : Globals) (layout : Layout) where
   -- the owner of a member is kept, or it isn't, and is had again
-  keep_keeps : (owner : Option ℕ) (pc : ℕ) (s : Shape) (k : Kind) (ms : List Marked) → IsKept p shapes globals layout s.locals s.unit owner k → Leads p shapes pc ms s (push k s) → Leads p shapes pc (keep_code owner s k ms) s s
+  pub keep_keeps : (owner : Option ℕ) (pc : ℕ) (s : Shape) (k : Kind) (ms : List Marked) → IsKept p shapes globals layout s.locals s.unit owner k → Leads p shapes pc ms s (push k s) → Leads p shapes pc (keep_code owner s k ms) s s
   keep_keeps (Some l) pc s k ms fits h =
       behind p shapes pc ms (mark (push k s) (does.Store l) ∷ []) s (push k s) s h (does_keep p shapes (pc + length ms) (push k s) s (does.Store l) (λ shown. (k, fits, (s.operands, refl, shown))))
   keep_keeps None pc s k ms fits h = nothing p shapes pc s
 
-  owner_keeps : (owner : Option ℕ) (pc : ℕ) (s : Shape) (k : Kind) (ms : List Marked) → IsKept p shapes globals layout s.locals s.unit owner k → Leads p shapes pc ms s (push k s) → Leads p shapes pc (owner_code owner s ms) s (push k s)
+  pub owner_keeps : (owner : Option ℕ) (pc : ℕ) (s : Shape) (k : Kind) (ms : List Marked) → IsKept p shapes globals layout s.locals s.unit owner k → Leads p shapes pc ms s (push k s) → Leads p shapes pc (owner_code owner s ms) s (push k s)
   owner_keeps (Some l) pc s k ms fits h = load_keeps p shapes globals layout pc s l k fits
   owner_keeps None pc s k ms fits h = h
 
@@ -62,7 +62,7 @@ module _ (p : Plain) (shapes : Shapes) (globals : Globals) (layout : Layout) whe
       (behind p shapes q own (mark (push j s) (does.GetField m) ∷ []) s (push j s) (push k s) (moved p shapes at q own s (push j s) e (owner_keeps owner at s j ns kept g))
       (does_keep p shapes (q + length own) (push j s) (push k s) (does.GetField m) (λ shown. (fits.0, k, fits.2, (s.operands, ap (λ j. j ∷ s.operands) fits.1, shown)))))
 
-  member_stores : (owner : Option ℕ) (pc : ℕ) (s : Shape) (j k : Kind) (m : ℕ) (ns : List Marked) → IsKept p shapes globals layout s.locals s.unit owner j → (u : ℕ) × (j ≡ UnitOf u) × IsMember p shapes u m k
+  pub member_stores : (owner : Option ℕ) (pc : ℕ) (s : Shape) (j k : Kind) (m : ℕ) (ns : List Marked) → IsKept p shapes globals layout s.locals s.unit owner j → (u : ℕ) × (j ≡ UnitOf u) × IsMember p shapes u m k
       → Leads p shapes pc ns (push k s) (push j (push k s)) → Leads p shapes pc (owner_code owner (push k s) ns ++ mark (push j (push k s)) (does.SetField m) ∷ []) (push k s) s
   member_stores owner pc s j k m ns kept fits g =
       let own = owner_code owner (push k s) ns in
@@ -178,7 +178,7 @@ module _ (p : Plain) (shapes : Shapes) (globals : Globals) (layout : Layout) whe
     receiver_keeps es _ s pc k fits = tt
 
     -- a place is loaded, over what waits below its value, and stored
-    place_loads : (e : Expr) (owner : Option ℕ) (s : Shape) (pc : ℕ) → PlaceFits p shapes globals layout s.locals s.unit owner e
+    pub place_loads : (e : Expr) (owner : Option ℕ) (s : Shape) (pc : ℕ) → PlaceFits p shapes globals layout s.locals s.unit owner e
         → Leads p shapes pc (load_code globals layout owner s pc e) s (push (kind_of globals layout e) (pending globals layout s e))
     place_loads (leaf h) owner s pc fits = load_keeps p shapes globals layout pc s (place_local globals layout h.op) (kind_of_type globals.ranges h.ty) fits
     place_loads (one h a) owner s pc fits =
@@ -209,7 +209,7 @@ module _ (p : Plain) (shapes : Shapes) (globals : Globals) (layout : Layout) whe
     place_loads (three h c a b) owner s pc fits = absurd fits
     place_loads (many h es) owner s pc fits = absurd fits
 
-    place_stores : (e : Expr) (owner : Option ℕ) (s : Shape) (pc : ℕ) → PlaceFits p shapes globals layout s.locals s.unit owner e
+    pub place_stores : (e : Expr) (owner : Option ℕ) (s : Shape) (pc : ℕ) → PlaceFits p shapes globals layout s.locals s.unit owner e
         → Leads p shapes pc (store_code globals layout owner s pc e) (push (kind_of globals layout e) (pending globals layout s e)) s
     place_stores (leaf h) owner s pc fits =
         let k = kind_of_type globals.ranges h.ty in

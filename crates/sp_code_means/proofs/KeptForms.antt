@@ -32,7 +32,7 @@ use Rattle.sp_code_means.proofs.Keeping.{Leads, behind, does_keep, constant_keep
 
 module _ (p : Plain) (shapes : Shapes) where
   -- an equal kind on top
-  same_top : (pc : ℕ) (ms : List Marked) (s t : Shape) (j k : Kind) → k ≡ j → Leads p shapes pc ms s (push j t) → Leads p shapes pc ms s (push k t)
+  pub same_top : (pc : ℕ) (ms : List Marked) (s t : Shape) (j k : Kind) → k ≡ j → Leads p shapes pc ms s (push j t) → Leads p shapes pc ms s (push k t)
   same_top pc ms s t j k e h = subst (λ k. Leads p shapes pc ms s (push k t)) (sym e) h
 
   pub one_keeps : (pc : ℕ) (s : Shape) (j : Kind) (o : OneOp) (t : Ty) (k : Kind) → OneFits p shapes o j t k → Leads p shapes pc (one_code s j o t) (push j s) (push k s)

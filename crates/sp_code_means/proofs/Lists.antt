@@ -57,10 +57,10 @@ abbrev pub IsChanging : ManyOp → Type 0
 IsChanging (many_is.Method m slot) = changes m ≡ true
 IsChanging op = Unit {0}
 
-take_all : (us vs : List Val) (n : ℕ) → length us ≡ n → take n (us ++ vs) ≡ us
+pub take_all : (us vs : List Val) (n : ℕ) → length us ≡ n → take n (us ++ vs) ≡ us
 take_all us vs n e = subst (λ k. take k (us ++ vs) ≡ us) e (take-append_seam us vs)
 
-drop_all : (us vs : List Val) (n : ℕ) → length us ≡ n → drop n (us ++ vs) ≡ vs
+pub drop_all : (us vs : List Val) (n : ℕ) → length us ≡ n → drop n (us ++ vs) ≡ vs
 drop_all us vs n e = subst (λ k. drop k (us ++ vs) ≡ vs) e (drop-append_seam us vs)
 
 module _ (p : Plain) (reads : Reading → Ask → Read) where

@@ -97,7 +97,7 @@ module _ (p : Plain) (reads : Reading → Ask → Read) where
   owner_does (Some l) s pc ms ma h = gives p reads pc s (does.Load l) [] (λ st. local_of st l) (λ _ _ _. refl)
   owner_does None s pc ms ma h = h
 
-  puts_member : (pc : ℕ) (s : Shape) (m : ℕ) (u v : Val) → Does p reads pc (mark s (does.SetField m) ∷ []) (u ∷ v ∷ []) (put_member u m v)
+  pub puts_member : (pc : ℕ) (s : Shape) (m : ℕ) (u v : Val) → Does p reads pc (mark s (does.SetField m) ∷ []) (u ∷ v ∷ []) (put_member u m v)
   puts_member pc s m (unit n) v vs x st has = one p reads _ [] _ (act_at p reads pc (unit n ∷ v ∷ vs) x.frames st (does.SetField m) (has_instr p reads pc s (does.SetField m) [] has))
   puts_member pc s m u v vs x st has = one p reads _ [] _ (act_at p reads pc (u ∷ v ∷ vs) x.frames st (does.SetField m) (has_instr p reads pc s (does.SetField m) [] has))
 

@@ -39,7 +39,7 @@ pub keep_sized : (owner : Option ℕ) (s : Shape) (k : Kind) (ms : List Marked) 
 keep_sized (Some l) s k ms n h = omega (arith, length-append {A = Marked}, h)
 keep_sized None s k ms n h = refl
 
-owner_sized : (owner : Option ℕ) (s : Shape) (ms : List Marked) (n : ℕ) → length ms ≡ n → length (owner_code owner s ms) ≡ owner_size owner n
+pub owner_sized : (owner : Option ℕ) (s : Shape) (ms : List Marked) (n : ℕ) → length ms ≡ n → length (owner_code owner s ms) ≡ owner_size owner n
 owner_sized (Some l) s ms n h = refl
 owner_sized None s ms n h = h
 

@@ -26,7 +26,7 @@ module _ (p : Plain) (reads : Reading → Ask → Read) where
   then_reaches c d es fs (Waiting gs m) a h =
       record { pc = h.pc; operands = h.operands; frames = h.frames; state = h.state; mark = h.mark; comes = then_comes a h.comes; waits = h.waits; low = h.low }
 
-  after_runs : (c d : Config) (es : List What) (to : End → State → Spot) (r : Result) → Comes p reads c es d → Runs p reads d to r → Runs p reads c to (behind es r)
+  pub after_runs : (c d : Config) (es : List What) (to : End → State → Spot) (r : Result) → Comes p reads c es d → Runs p reads d to r → Runs p reads c to (behind es r)
   after_runs c d es to (Ends Unfinished gs st) a h = tt
   after_runs c d es to (Ends how gs st) a h = then_reaches c d es gs (to how st) a h
 

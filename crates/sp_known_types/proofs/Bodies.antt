@@ -74,18 +74,18 @@ module _ (k : Known) (wanted : Option Ty) (m : ℕ) where
       let p = and_parts (is_good e) (each_holds is_good es) g in
       and_from (holds is_right e) (each_holds (holds is_right) es) (value_whole e p.0 f.0) (values_whole subject es p.1 f.1.1.1)
 
-  abbrev Quiet : List Stmt → Type 0
+  abbrev pub Quiet : List Stmt → Type 0
   Quiet ss = list_all (is_quiet k wanted m) ss ≡ true
 
-  two_quiet : (ss ts : List Stmt) → Quiet (ss ++ ts) → Quiet ss × Quiet ts
+  pub two_quiet : (ss ts : List Stmt) → Quiet (ss ++ ts) → Quiet ss × Quiet ts
   two_quiet ss ts q =
       let test = list_all (is_quiet k wanted m) in
       and_parts (test ss) (test ts) (sym (list_all-append (is_quiet k wanted m) ss ts) ∙ q)
 
-  at_first : (s : Stmt) (ss : List Stmt) → Quiet (s ∷ ss) → Fine (stmt_tests k wanted m s)
+  pub at_first : (s : Stmt) (ss : List Stmt) → Quiet (s ∷ ss) → Fine (stmt_tests k wanted m s)
   at_first s ss q = fine (stmt_tests k wanted m s) (and_parts (is_quiet k wanted m s) (list_all (is_quiet k wanted m) ss) q).0
 
-  behind : (s : Stmt) (ss : List Stmt) → Quiet (s ∷ ss) → Quiet ss
+  pub behind : (s : Stmt) (ss : List Stmt) → Quiet (s ∷ ss) → Quiet ss
   behind s ss q = (and_parts (is_quiet k wanted m s) (list_all (is_quiet k wanted m) ss) q).1
 
   mutual

@@ -5,13 +5,14 @@ use Rattle.std.proofs.Common.{◌≡◌, inl, inr, refl, sym, ap, ◌∙◌}
 use Rattle.std.proofs.lemmas.Bool.{and_parts, and_from}
 use Rattle.sp_rules.specs.declared.fault.Fault.{Fault}
 use Rattle.sp_rules.specs.Least.{Among}
+use Rattle.sp_typed.specs.declared.words.OneOp.{OneOp}
 use Rattle.sp_typed.specs.Exprs.{Expr}
 use Rattle.sp_typed.specs.Nodes.{nodes, holds}
 use Rattle.sp_typed.proofs.Everywhere.{holds_everywhere}
 use Rattle.sp_body_rules.specs.Known.{Known}
 use Rattle.sp_body_rules.specs.ExprTests.{expr_tests}
 use Rattle.sp_body_rules.specs.Sweeps.{Breaks}
-use Rattle.sp_known_types.specs.Clear.{none_hold, names_something, names_types, is_clear}
+use Rattle.sp_known_types.specs.Clear.{none_hold, names_something, may_stand, is_clear}
 
 -- no test holds where no fault is found
 none_by : (b : Bool) (f : Fault) (cs : List (Bool × Fault)) → (((g : Fault) → Among cs (true, g) → ⊥) → none_hold cs ≡ true) → ((g : Fault) → Among ((b, f) ∷ cs) (true, g) → ⊥) → (not b && none_hold cs) ≡ true
@@ -39,9 +40,9 @@ among_all p (y ∷ xs) x e a =
 at_node : (p : Expr → Bool) (e n : Expr) → holds p e ≡ true → Among (nodes e) n → p n ≡ true
 at_node p e n h a = among_all p (nodes e) n (holds_everywhere p e ∙ h) a
 
-pub clear_where : (k : Known) (m : ℕ) (e : Expr) → holds names_something e ≡ true → holds names_types e ≡ true → ((f : Fault) → Breaks k m e f → ⊥) → holds (is_clear k m) e ≡ true
-clear_where k m e names types broken =
-    sym (holds_everywhere (is_clear k m) e)
-    ∙ all_from (is_clear k m) (nodes e) (λ n a.
-    and_from (names_something n) (names_types n && none_hold (expr_tests k m n)) (at_node names_something e n names a)
-    (and_from (names_types n) (none_hold (expr_tests k m n)) (at_node names_types e n types a) (none_from (expr_tests k m n) (λ f b. broken f (n, a, b)))))
+pub clear_where : (only : OneOp → Bool) (k : Known) (m : ℕ) (e : Expr) → holds names_something e ≡ true → holds (may_stand only) e ≡ true → ((f : Fault) → Breaks k m e f → ⊥) → holds (is_clear only k m) e ≡ true
+clear_where only k m e names types broken =
+    sym (holds_everywhere (is_clear only k m) e)
+    ∙ all_from (is_clear only k m) (nodes e) (λ n a.
+    and_from (names_something n) (may_stand only n && none_hold (expr_tests k m n)) (at_node names_something e n names a)
+    (and_from (may_stand only n) (none_hold (expr_tests k m n)) (at_node (may_stand only) e n types a) (none_from (expr_tests k m n) (λ f b. broken f (n, a, b)))))

@@ -12,6 +12,7 @@ use Rattle.sp_types.specs.declared.words.Word.{Word}
 use Rattle.sp_types.specs.declared.words.Word.TheVariants as word_is
 use Rattle.sp_types.specs.declared.words.Maker.TheVariants as maker_is
 use Rattle.sp_types.specs.Types.{Ty, Tys, word, made}
+use Rattle.sp_typed.specs.declared.words.OneOp.{OneOp}
 use Rattle.sp_typed.specs.declared.words.LeafOp.{LeafOp}
 use Rattle.sp_typed.specs.declared.words.LeafOp.TheVariants as leaf_is
 use Rattle.sp_typed.specs.declared.words.NewOf.{NewOf}
@@ -25,6 +26,7 @@ use Rattle.sp_typing.specs.Typing.{typed, typed_all, callee_op, name_of}
 use Rattle.sp_typing.specs.Typing as typing
 use Rattle.sp_body_rules.specs.Known.{Known}
 use Rattle.sp_known_types.specs.Full.{is_full, is_unknown}
+use Rattle.sp_known_types.specs.Trees.{is_expr}
 use Rattle.sp_known_types.specs.Given.{may_be, is_named, IsKnown}
 use Rattle.sp_known_types.proofs.Full.{never}
 use Rattle.sp_known_types.proofs.Functions.{function_op, function_of}
@@ -96,40 +98,40 @@ module _ (g : Around) where
   new_gives span path (Some u) a es n e = other n e
 
 -- what a function gives that stands before arguments
-pub gives : (g : Around) (k : Known) (m : ℕ) (is_type : Tree → Bool) → IsKnown g k m is_type → (t : Tree) (n : ℕ) → function_of (typed g t) ≡ Some n → is_full (g.result n) ≡ true
-gives g k m is_type known (node (form_is.Expr expr_is.Path) span (more path none)) n e = named_gives g (g.path span path) (known.path span path) n e
-gives g k m is_type known (node (form_is.Expr expr_is.Itself) span none) n e = named_gives g (g.itself span) (known.itself span) n e
-gives g k m is_type known (node (form_is.Expr expr_is.Current) span none) n e = named_gives g (g.current span) (known.current span) n e
-gives g k m is_type known (node (form_is.Expr expr_is.New) span (more path (more (row ts) none))) n e =
+pub gives : (g : Around) (only : OneOp → Bool) (k : Known) (m : ℕ) (is_type is_path : Tree → Bool) → IsKnown g only k m is_type is_path → (t : Tree) → is_expr is_type is_path t ≡ true → (n : ℕ) → function_of (typed g t) ≡ Some n → is_full (g.result n) ≡ true
+gives g only k m is_type is_path known (node (form_is.Expr expr_is.Path) span (more path none)) is n e = named_gives g (g.path span path) (known.path span path is) n e
+gives g only k m is_type is_path known (node (form_is.Expr expr_is.Itself) span none) is n e = named_gives g (g.itself span) (known.itself span) n e
+gives g only k m is_type is_path known (node (form_is.Expr expr_is.Current) span none) is n e = named_gives g (g.current span) (known.current span) n e
+gives g only k m is_type is_path known (node (form_is.Expr expr_is.New) span (more path (more (row ts) none))) is n e =
     let at = read.span_of path in
     new_gives g span at (typing.started (g.named at path)) (g.named at path) (typed_all g ts) n e
-gives g k m is_type known (node (form_is.Expr expr_is.Member) span (more a (more name none))) n e =
+gives g only k m is_type is_path known (node (form_is.Expr expr_is.Member) span (more a (more name none))) is n e =
     member_gives g span (read.span_of name) (g.member (seen (typed g a)) (name_of name)) (typed g a) n e
-gives g k m is_type known (node (form_is.Expr expr_is.SetMember) span (more a (more name none))) n e =
+gives g only k m is_type is_path known (node (form_is.Expr expr_is.SetMember) span (more a (more name none))) is n e =
     set_member_gives g span (read.span_of name) (g.member (seen (typed g a)) (name_of name)) (typed g a) n e
-gives g k m is_type known (node (form_is.Expr expr_is.Index) span (more a (more i none))) n e = index_gives g span (seen (typed g a)) (typed g a) (typed g i) n e
-gives g k m is_type known (node (form_is.Expr expr_is.Call) span (more (node (form_is.Expr expr_is.Member) member (more a (more name none))) (more (row ts) none))) n e =
+gives g only k m is_type is_path known (node (form_is.Expr expr_is.Index) span (more a (more i none))) is n e = index_gives g span (seen (typed g a)) (typed g a) (typed g i) n e
+gives g only k m is_type is_path known (node (form_is.Expr expr_is.Call) span (more (node (form_is.Expr expr_is.Member) member (more a (more name none))) (more (row ts) none))) is n e =
     let at = read.span_of name in
     let es = typed_all g ts in
     method_gives g span member at (g.method (seen (typed g a)) (name_of name) at (map seen es)) (typed g a) es n e
-gives g k m is_type known (node (form_is.Expr expr_is.Call) span (more callee (more (row ts) none))) n e =
+gives g only k m is_type is_path known (node (form_is.Expr expr_is.Call) span (more callee (more (row ts) none))) is n e =
     call_gives g span (typed g callee) (typed_all g ts) n e
-gives g k m is_type known (node (form_is.Expr (expr_is.Unary op)) span (more a none)) n e = other n e
-gives g k m is_type known (node (form_is.Expr (expr_is.Binary op)) span (more a (more b none))) n e =
+gives g only k m is_type is_path known (node (form_is.Expr (expr_is.Unary op)) span (more a none)) is n e = other n e
+gives g only k m is_type is_path known (node (form_is.Expr (expr_is.Binary op)) span (more a (more b none))) is n e =
     let x = typed g a in
     let y = typed g b in
     binary_gives g span op (typing.to_target (key_of (seen y)) x) y (typing.agreeing x y).0 (typing.agreeing x y).1 (typing.is_membership (sort_of op)) n e
-gives g k m is_type known (node (form_is.Expr expr_is.True) span none) n e = other n e
-gives g k m is_type known (node (form_is.Expr expr_is.False) span none) n e = other n e
-gives g k m is_type known (node (form_is.Expr (expr_is.Number i)) span none) n e = other n e
-gives g k m is_type known (node (form_is.Expr (expr_is.String text)) span none) n e = other n e
-gives g k m is_type known (node (form_is.Expr (expr_is.Bytes bytes)) span none) n e = other n e
-gives g k m is_type known (node (form_is.Expr (expr_is.Regex text)) span none) n e = other n e
-gives g k m is_type known (node (form_is.Expr expr_is.EmptyVector) span (more t none)) n e = other n e
-gives g k m is_type known (node (form_is.Expr expr_is.EmptySet) span (more t none)) n e = other n e
-gives g k m is_type known (node (form_is.Expr expr_is.EmptyMap) span (more s (more t none))) n e = other n e
-gives g k m is_type known (node (form_is.Expr (expr_is.TypedNumber w)) span (more i none)) n e = other n e
-gives g k m is_type known (node (form_is.Expr expr_is.Cast) span (more t (more a none))) n e = other n e
-gives g k m is_type known (node (form_is.Expr expr_is.Size) span (more a none)) n e = other n e
-gives g k m is_type known (node (form_is.Expr expr_is.Choice) span (more c (more a (more b none)))) n e = other n e
-gives g k m is_type known _ n e = other n e
+gives g only k m is_type is_path known (node (form_is.Expr expr_is.True) span none) is n e = other n e
+gives g only k m is_type is_path known (node (form_is.Expr expr_is.False) span none) is n e = other n e
+gives g only k m is_type is_path known (node (form_is.Expr (expr_is.Number i)) span none) is n e = other n e
+gives g only k m is_type is_path known (node (form_is.Expr (expr_is.String text)) span none) is n e = other n e
+gives g only k m is_type is_path known (node (form_is.Expr (expr_is.Bytes bytes)) span none) is n e = other n e
+gives g only k m is_type is_path known (node (form_is.Expr (expr_is.Regex text)) span none) is n e = other n e
+gives g only k m is_type is_path known (node (form_is.Expr expr_is.EmptyVector) span (more t none)) is n e = other n e
+gives g only k m is_type is_path known (node (form_is.Expr expr_is.EmptySet) span (more t none)) is n e = other n e
+gives g only k m is_type is_path known (node (form_is.Expr expr_is.EmptyMap) span (more s (more t none))) is n e = other n e
+gives g only k m is_type is_path known (node (form_is.Expr (expr_is.TypedNumber w)) span (more i none)) is n e = other n e
+gives g only k m is_type is_path known (node (form_is.Expr expr_is.Cast) span (more t (more a none))) is n e = other n e
+gives g only k m is_type is_path known (node (form_is.Expr expr_is.Size) span (more a none)) is n e = other n e
+gives g only k m is_type is_path known (node (form_is.Expr expr_is.Choice) span (more c (more a (more b none)))) is n e = other n e
+gives g only k m is_type is_path known _ is n e = other n e

@@ -17,7 +17,7 @@ use Rattle.sp_typing.specs.Typing.{one_at, widened, to_target, to_maybe, each_to
 use Rattle.sp_body_rules.specs.Known.{Known}
 use Rattle.sp_body_rules.specs.ExprTests.{leaf_tests, one_op_tests}
 use Rattle.sp_known_types.specs.Full.{is_full, is_right, is_bare}
-use Rattle.sp_known_types.specs.Clear.{none_hold, is_clear, names_path, leaf_types, one_types}
+use Rattle.sp_known_types.specs.Clear.{none_hold, is_clear, names_path}
 use Rattle.sp_known_types.proofs.Full.{never}
 use Rattle.sp_known_types.proofs.Tests.{Good, Clear, Holds, is_whole, bare_is_unknown}
 
@@ -39,10 +39,6 @@ number_names : (op : LeafOp) → number_leaf op ≡ true → names_path op ≡ t
 number_names (leaf_is.Number n) e = refl
 number_names _ e = never e
 
-number_types : (op : LeafOp) → number_leaf op ≡ true → leaf_types op ≡ true
-number_types (leaf_is.Number n) e = refl
-number_types _ e = never e
-
 number_tests : (m : ℕ) (x : Expr) (op : LeafOp) → number_leaf op ≡ true → none_hold (leaf_tests m x op) ≡ true
 number_tests m x (leaf_is.Number n) e = refl
 number_tests m x _ e = never e
@@ -50,10 +46,6 @@ number_tests m x _ e = never e
 number_value : (op : LeafOp) (w : Word) → number_leaf op ≡ true → IsInteger w → (not (word_leaf op) && is_full (word w)) ≡ true
 number_value (leaf_is.Number n) w e i = i
 number_value _ w e i = never e
-
-minus_types : (op : OneOp) → is_minus op ≡ true → one_types op ≡ true
-minus_types one_is.Negate e = refl
-minus_types _ e = never e
 
 minus_tests : (m : ℕ) (t u : Ty) (op : OneOp) (a : Expr) → is_minus op ≡ true → none_hold (one_op_tests m t op a) ≡ true → none_hold (one_op_tests m u op a) ≡ true
 minus_tests m t u one_is.Negate a e h = h
@@ -63,19 +55,18 @@ minus_value : (op : OneOp) (w : Word) → is_minus op ≡ true → IsInteger w �
 minus_value one_is.Negate w e i = i
 minus_value _ w e i = never e
 
-module _ (k : Known) (m : ℕ) where
+module _ (only : OneOp → Bool) (k : Known) (m : ℕ) where
   -- a literal is as clear as it is with another type
-  settled_clear : (t : Ty) (e : Expr) → is_literal e ≡ true → Clear k m (retyped t e) → Clear k m e
+  settled_clear : (t : Ty) (e : Expr) → is_literal e ≡ true → Clear only k m (retyped t e) → Clear only k m e
   settled_clear t (leaf h) l c =
-      and_from (names_path h.op) (leaf_types h.op && none_hold (leaf_tests m (leaf h) h.op)) (number_names h.op l)
-      (and_from (leaf_types h.op) (none_hold (leaf_tests m (leaf h) h.op)) (number_types h.op l) (number_tests m (leaf h) h.op l))
+      and_from (names_path h.op) (none_hold (leaf_tests m (leaf h) h.op)) (number_names h.op l) (number_tests m (leaf h) h.op l)
   settled_clear t (one h a) l c =
       let minus = (and_parts (is_minus h.op) (is_number a) l).0 in
       let new : Expr = one (record { span = h.span; ty = t; op = h.op }) a in
-      let p = and_parts (is_clear k m new) (holds (is_clear k m) a) c in
-      let q = and_parts (one_types h.op) (none_hold (one_op_tests m t h.op a)) p.0 in
-      and_from (is_clear k m (one h a)) (holds (is_clear k m) a)
-      (and_from (one_types h.op) (none_hold (one_op_tests m h.ty h.op a)) q.0 (minus_tests m t h.ty h.op a minus q.1)) p.1
+      let p = and_parts (is_clear only k m new) (holds (is_clear only k m) a) c in
+      let q = and_parts (only h.op) (none_hold (one_op_tests m t h.op a)) p.0 in
+      and_from (is_clear only k m (one h a)) (holds (is_clear only k m) a)
+      (and_from (only h.op) (none_hold (one_op_tests m h.ty h.op a)) q.0 (minus_tests m t h.ty h.op a minus q.1)) p.1
   settled_clear t _ l c = never l
 
   settled_good : (w : Word) (e : Expr) → is_literal e ≡ true → IsInteger w → Good e → Good (retyped (word w) e)
@@ -83,16 +74,16 @@ module _ (k : Known) (m : ℕ) where
   settled_good w (one h a) l i g = (g.0, inl (minus_value h.op w (and_parts (is_minus h.op) (is_number a) l).0 i))
   settled_good w _ l i g = never l
 
-  retyped_holds : (w : Word) (e : Expr) → is_literal e ≡ true → IsInteger w → Holds k m e → Holds k m (retyped (word w) e)
+  retyped_holds : (w : Word) (e : Expr) → is_literal e ≡ true → IsInteger w → Holds only k m e → Holds only k m (retyped (word w) e)
   retyped_holds w e l i h c = settled_good w e l i (h (settled_clear (word w) e l c))
 
-  pub settled_holds : (w : Word) (e : Expr) → IsInteger w → Holds k m e → Holds k m (settled w e)
-  settled_holds w e i h = by_bool (Holds k m) (is_literal e) (retyped (word w) e) e (λ l. retyped_holds w e l i h) h
+  pub settled_holds : (w : Word) (e : Expr) → IsInteger w → Holds only k m e → Holds only k m (settled w e)
+  settled_holds w e i h = by_bool (Holds only k m) (is_literal e) (retyped (word w) e) e (λ l. retyped_holds w e l i h) h
 
-  pub taken_holds : (t : Ty) (e : Expr) → Holds k m e → Holds k m (taken t e)
+  pub taken_holds : (t : Ty) (e : Expr) → Holds only k m e → Holds only k m (taken t e)
   taken_holds (word w) e h =
       let can = can_take w (is_negative e) (number_of e) in
-      by_bool (Holds k m) (is_literal e && can) (settled w e) e (λ b. settled_holds w e (taken_word w (is_negative e) (number_of e) (and_parts (is_literal e) can b).1) h) h
+      by_bool (Holds only k m) (is_literal e && can) (settled w e) e (λ b. settled_holds w e (taken_word w (is_negative e) (number_of e) (and_parts (is_literal e) can b).1) h) h
   taken_holds (made maker ts) e h = h
 
   -- what is widened goes to an integer type, and is of one
@@ -122,21 +113,21 @@ module _ (k : Known) (m : ℕ) where
     | inr b ↦ never (unknown_widens t (sym (ap (λ s. widens s t) (bare_seen e b)) ∙ w))
   ]
 
-  widened_holds : (t : Ty) (e : Expr) → Holds k m e → Holds k m (widened t e)
+  widened_holds : (t : Ty) (e : Expr) → Holds only k m e → Holds only k m (widened t e)
   widened_holds t e h =
       let wider = widens (seen e) t in
       let node = one_at (span_of e) t one_is.Widen e in
-      by_bool (Holds k m) (wider && not (same (seen e) t)) node e
-      (λ b c. widened_good t e (and_parts wider (not (same (seen e) t)) b).0 (h (and_parts (is_clear k m node) (holds (is_clear k m) e) c).1)) h
+      by_bool (Holds only k m) (wider && not (same (seen e) t)) node e
+      (λ b c. widened_good t e (and_parts wider (not (same (seen e) t)) b).0 (h (and_parts (is_clear only k m node) (holds (is_clear only k m) e) c).1)) h
 
-  pub target_holds : (t : Ty) (e : Expr) → Holds k m e → Holds k m (to_target t e)
+  pub target_holds : (t : Ty) (e : Expr) → Holds only k m e → Holds only k m (to_target t e)
   target_holds t e h = widened_holds t (taken t e) (taken_holds t e h)
 
-  pub maybe_holds : (t : Option Ty) (e : Expr) → Holds k m e → Holds k m (to_maybe t e)
+  pub maybe_holds : (t : Option Ty) (e : Expr) → Holds only k m e → Holds only k m (to_maybe t e)
   maybe_holds None e h = h
   maybe_holds (Some t) e h = target_holds t e h
 
-  maybe_taken_holds : (t : Option Ty) (e : Expr) → Holds k m e → Holds k m (maybe_taken t e)
+  maybe_taken_holds : (t : Option Ty) (e : Expr) → Holds only k m e → Holds only k m (maybe_taken t e)
   maybe_taken_holds None e h = h
   maybe_taken_holds (Some t) e h = taken_holds t e h
 
@@ -146,9 +137,9 @@ module _ (k : Known) (m : ℕ) where
   literal_integer false = refl
 
   abbrev Both : Expr × Expr → Type 0
-  Both p = Holds k m p.0 × Holds k m p.1
+  Both p = Holds only k m p.0 × Holds only k m p.1
 
-  pub agreeing_holds : (a b : Expr) → Holds k m a → Holds k m b → Both (agreeing a b)
+  pub agreeing_holds : (a b : Expr) → Holds only k m a → Holds only k m b → Both (agreeing a b)
   agreeing_holds a b g h =
       let w = literal_word (is_negative a || is_negative b) in
       let i = literal_integer (is_negative a || is_negative b) in
@@ -158,7 +149,7 @@ module _ (k : Known) (m : ℕ) where
   -- rows
   abbrev pub HoldsAll : List Expr → Type 0
   HoldsAll [] = Unit {0}
-  HoldsAll (e ∷ es) = Holds k m e × HoldsAll es
+  HoldsAll (e ∷ es) = Holds only k m e × HoldsAll es
 
   abbrev pub HoldsPairs : List (Expr × Expr) → Type 0
   HoldsPairs [] = Unit {0}

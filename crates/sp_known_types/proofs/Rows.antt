@@ -9,6 +9,7 @@ use Rattle.sp_types.specs.declared.words.Maker.{Maker}
 use Rattle.sp_types.specs.declared.words.Maker.TheVariants as maker_is
 use Rattle.sp_types.specs.Types.{Ty, word, made, tys, is_key}
 use Rattle.sp_types.specs.Types as types
+use Rattle.sp_typed.specs.declared.words.OneOp.{OneOp}
 use Rattle.sp_typed.specs.declared.words.OneOp.TheVariants as one_is
 use Rattle.sp_typed.specs.declared.words.LeafOp.{LeafOp}
 use Rattle.sp_typed.specs.declared.words.LeafOp.TheVariants as leaf_is
@@ -34,19 +35,19 @@ use Rattle.sp_known_types.proofs.Kept.{HoldsAll, HoldsPairs, each_holds, turn_ho
 use Rattle.sp_known_types.proofs.Nodes.{no_member}
 use Rattle.sp_known_types.proofs.Functions.{function_op, function_of}
 
-module _ (k : Known) (m : ℕ) where
+module _ (only : OneOp → Bool) (k : Known) (m : ℕ) where
   -- no rule is broken in some
   abbrev ClearAll : List Expr → Type 0
-  ClearAll es = all_hold (is_clear k m) (exprs es) ≡ true
+  ClearAll es = all_hold (is_clear only k m) (exprs es) ≡ true
 
-  first_of : (e : Expr) (es : List Expr) → ClearAll (e ∷ es) → Clear k m e
-  first_of e es c = (and_parts (holds (is_clear k m) e) (all_hold (is_clear k m) (exprs es)) c).0
+  first_of : (e : Expr) (es : List Expr) → ClearAll (e ∷ es) → Clear only k m e
+  first_of e es c = (and_parts (holds (is_clear only k m) e) (all_hold (is_clear only k m) (exprs es)) c).0
 
   rest_of : (e : Expr) (es : List Expr) → ClearAll (e ∷ es) → ClearAll es
-  rest_of e es c = (and_parts (holds (is_clear k m) e) (all_hold (is_clear k m) (exprs es)) c).1
+  rest_of e es c = (and_parts (holds (is_clear only k m) e) (all_hold (is_clear only k m) (exprs es)) c).1
 
-  parts_of : (span : Span) (t : Ty) (op : ManyOp) (es : List Expr) → Clear k m (many_at span t op es) → ClearAll es
-  parts_of span t op es c = (and_parts (is_clear k m (many_at span t op es)) (all_hold (is_clear k m) (exprs es)) c).1
+  parts_of : (span : Span) (t : Ty) (op : ManyOp) (es : List Expr) → Clear only k m (many_at span t op es) → ClearAll es
+  parts_of span t op es c = (and_parts (is_clear only k m (many_at span t op es)) (all_hold (is_clear only k m) (exprs es)) c).1
 
   -- values, one by one
   abbrev Values : List Expr → Type 0
@@ -61,25 +62,25 @@ module _ (k : Known) (m : ℕ) where
   many_good span t op es r w f = (r, inl (and_from (not (word_many op)) (is_full t) (ap not w) f))
 
   -- tuples
-  all_values : (es : List Expr) → HoldsAll k m es → ClearAll es → Fine (all_value_tests m (exprs es)) → Values es
+  all_values : (es : List Expr) → HoldsAll only k m es → ClearAll es → Fine (all_value_tests m (exprs es)) → Values es
   all_values [] h c f = tt
-  all_values (e ∷ es) h c f = (value_of k m e h.0 (first_of e es c) f.0 f.1.0, all_values es h.1 (rest_of e es c) f.1.1)
+  all_values (e ∷ es) h c f = (value_of only k m e h.0 (first_of e es c) f.0 f.1.0, all_values es h.1 (rest_of e es c) f.1.1)
 
   seen_all : (es : List Expr) → Values es → are_full (tys (map seen es)) ≡ true
   seen_all [] v = refl
   seen_all (e ∷ es) v = and_from (is_full (seen e)) (are_full (tys (map seen es))) (seen_full e v.0) (seen_all es v.1)
 
-  pub tuple_holds : (span : Span) (es : List Expr) → HoldsAll k m es → Holds k m (tuple_at span es)
+  pub tuple_holds : (span : Span) (es : List Expr) → HoldsAll only k m es → Holds only k m (tuple_at span es)
   tuple_holds span es h c =
       let t = made maker_is.Tuple (tys (map seen es)) in
-      let v = all_values es h (parts_of span t many_is.Tuple es c) (first_fine k m (tuple_at span es) c) in
+      let v = all_values es h (parts_of span t many_is.Tuple es c) (first_fine only k m (tuple_at span es) c) in
       many_good span t many_is.Tuple es (whole_all es v) refl (seen_all es v)
 
   -- vectors and sets
-  elements_values : (keyed : Bool) (first : Expr) (es : List Expr) → HoldsAll k m es → ClearAll es → Fine (elements_tests m keyed first (exprs es)) → Values es
+  elements_values : (keyed : Bool) (first : Expr) (es : List Expr) → HoldsAll only k m es → ClearAll es → Fine (elements_tests m keyed first (exprs es)) → Values es
   elements_values keyed first [] h c f = tt
   elements_values keyed first (e ∷ es) h c f =
-      (value_of k m e h.0 (first_of e es c) f.0 f.1.0, elements_values keyed first es h.1 (rest_of e es c) f.1.1.1.1)
+      (value_of only k m e h.0 (first_of e es c) f.0 f.1.0, elements_values keyed first es h.1 (rest_of e es c) f.1.1.1.1)
 
   row_good : (span : Span) (maker : Maker) (op : ManyOp) (es : List Expr) → Values es → word_many op ≡ false → is_full (made maker (types.more (first_seen es) types.none)) ≡ true → Good (row_at span maker op es)
   row_good span maker op es v w f = many_good span (made maker (types.more (first_seen es) types.none)) op es (whole_all es v) w f
@@ -87,45 +88,45 @@ module _ (k : Known) (m : ℕ) where
   one_part : (t : Ty) → is_full t ≡ true → (is_full t && true) ≡ true
   one_part t f = and_from (is_full t) true f refl
 
-  row_values : (keyed : Bool) (span : Span) (es : List Expr) → HoldsAll k m es → ClearAll es → Fine (row_tests m keyed span (exprs es)) → Values es × (is_full (first_seen es) ≡ true)
+  row_values : (keyed : Bool) (span : Span) (es : List Expr) → HoldsAll only k m es → ClearAll es → Fine (row_tests m keyed span (exprs es)) → Values es × (is_full (first_seen es) ≡ true)
   row_values keyed span [] h c f = never (sym f.0)
   row_values keyed span (e ∷ es) h c f =
       let v = elements_values keyed e (e ∷ es) h c f in
       (v, seen_full e v.0)
 
-  pub vector_holds : (span : Span) (es : List Expr) → HoldsAll k m es → Holds k m (row_at span maker_is.Vector many_is.Vector es)
+  pub vector_holds : (span : Span) (es : List Expr) → HoldsAll only k m es → Holds only k m (row_at span maker_is.Vector many_is.Vector es)
   vector_holds span es h c =
       let t = made maker_is.Vector (types.more (first_seen es) types.none) in
-      let v = row_values false span es h (parts_of span t many_is.Vector es c) (first_fine k m (row_at span maker_is.Vector many_is.Vector es) c) in
+      let v = row_values false span es h (parts_of span t many_is.Vector es c) (first_fine only k m (row_at span maker_is.Vector many_is.Vector es) c) in
       row_good span maker_is.Vector many_is.Vector es v.0 refl (one_part (first_seen es) v.1)
 
-  pub set_holds : (span : Span) (es : List Expr) → HoldsAll k m es → Holds k m (row_at span maker_is.Set many_is.Set es)
+  pub set_holds : (span : Span) (es : List Expr) → HoldsAll only k m es → Holds only k m (row_at span maker_is.Set many_is.Set es)
   set_holds span es h c =
       let t = made maker_is.Set (types.more (first_seen es) types.none) in
-      let v = row_values true span es h (parts_of span t many_is.Set es c) (first_fine k m (row_at span maker_is.Set many_is.Set es) c) in
+      let v = row_values true span es h (parts_of span t many_is.Set es c) (first_fine only k m (row_at span maker_is.Set many_is.Set es) c) in
       row_good span maker_is.Set many_is.Set es v.0 refl (one_part (first_seen es) v.1)
 
   -- maps
-  entries_values : (keyed : Bool) (key value : Expr) (es : List Expr) → HoldsAll k m es → ClearAll es → Fine (entries_tests m keyed key value (exprs es)) → Values es
+  entries_values : (keyed : Bool) (key value : Expr) (es : List Expr) → HoldsAll only k m es → ClearAll es → Fine (entries_tests m keyed key value (exprs es)) → Values es
   entries_values keyed key value [] h c f = tt
   entries_values keyed key value (e ∷ es) h c f =
-      (value_of k m e h.0 (first_of e es c) f.0 f.1.0, entries_values (not keyed) key value es h.1 (rest_of e es c) f.1.1.1.1)
+      (value_of only k m e h.0 (first_of e es c) f.0 f.1.0, entries_values (not keyed) key value es h.1 (rest_of e es c) f.1.1.1.1)
 
-  map_values : (span : Span) (es : List Expr) → HoldsAll k m es → ClearAll es → Fine (map_tests m span (exprs es)) → Values es × ((is_full (first_seen es) && (is_full (second_seen es) && true)) ≡ true)
+  map_values : (span : Span) (es : List Expr) → HoldsAll only k m es → ClearAll es → Fine (map_tests m span (exprs es)) → Values es × ((is_full (first_seen es) && (is_full (second_seen es) && true)) ≡ true)
   map_values span [] h c f = never (sym f.0)
   map_values span (e ∷ []) h c f = never (sym f.0)
   map_values span (e ∷ d ∷ es) h c f =
       let v = entries_values true e d (e ∷ d ∷ es) h c f in
       (v, and_from (is_full (seen e)) (is_full (seen d) && true) (seen_full e v.0) (one_part (seen d) (seen_full d v.1.0)))
 
-  map_holds : (span : Span) (es : List Expr) → HoldsAll k m es → Holds k m (map_of span es)
+  map_holds : (span : Span) (es : List Expr) → HoldsAll only k m es → Holds only k m (map_of span es)
   map_holds span es h c =
       let t = made maker_is.Map (types.more (first_seen es) (types.more (second_seen es) types.none)) in
-      let v = map_values span es h (parts_of span t many_is.Map es c) (first_fine k m (map_of span es) c) in
+      let v = map_values span es h (parts_of span t many_is.Map es c) (first_fine only k m (map_of span es) c) in
       many_good span t many_is.Map es (whole_all es v.0) refl v.1
 
-  pub pairs_hold : (span : Span) (ps : List (Expr × Expr)) → HoldsPairs k m ps → Holds k m (map_at span ps)
-  pairs_hold span ps h = map_holds span (in_turn (lead_half false ps) (lead_half true ps) ps) (turn_holds k m (lead_half false ps) (lead_half true ps) ps h)
+  pub pairs_hold : (span : Span) (ps : List (Expr × Expr)) → HoldsPairs only k m ps → Holds only k m (map_at span ps)
+  pairs_hold span ps h = map_holds span (in_turn (lead_half false ps) (lead_half true ps) ps) (turn_holds only k m (lead_half false ps) (lead_half true ps) ps h)
 
   -- arguments: of those that are right without a value of their own there are none
   bare_argument : (starts : Bool) (e : Expr) → is_bare e ≡ true → (is_no_value e && not (starts && is_new (type_of e))) ≡ true
@@ -136,7 +137,7 @@ module _ (k : Known) (m : ℕ) where
       by true = refl
       by false = refl
 
-  arguments_right : (starts : Bool) (es : List Expr) → HoldsAll k m es → ClearAll es → Fine (argument_tests m starts (exprs es)) → all_hold is_right (exprs es) ≡ true
+  arguments_right : (starts : Bool) (es : List Expr) → HoldsAll only k m es → ClearAll es → Fine (argument_tests m starts (exprs es)) → all_hold is_right (exprs es) ≡ true
   arguments_right starts [] h c f = refl
   arguments_right starts (e ∷ es) h c f =
       let g = h.0 (first_of e es c) in
@@ -147,88 +148,88 @@ module _ (k : Known) (m : ℕ) where
       and_from (holds is_right e) (all_hold is_right (exprs es)) (is_whole is_right e g.0 r) (arguments_right starts es h.1 (rest_of e es c) f.1)
 
   -- what can't be called
-  pub no_call_holds : (span : Span) (callee : Expr) (es : List Expr) → Holds k m callee → Holds k m (no_call span callee es)
+  pub no_call_holds : (span : Span) (callee : Expr) (es : List Expr) → Holds only k m callee → Holds only k m (no_call span callee es)
   no_call_holds span callee es h c =
-      let f = first_fine k m (no_call span callee es) c in
-      let v = value_of k m callee h (first_of callee es (parts_of span unknown many_is.NoCall (callee ∷ es) c)) f.0 f.1.0 in
+      let f = first_fine only k m (no_call span callee es) c in
+      let v = value_of only k m callee h (first_of callee es (parts_of span unknown many_is.NoCall (callee ∷ es) c)) f.0 f.1.0 in
       never (sym f.1.1.0 ∙ knows_it callee v)
 
   -- calls of functions, conversions to enums, and units that are started
-  word_call_holds : (g : Around) (span : Span) (w : Word) (callee : Expr) (es : List Expr) → Holds k m callee → HoldsAll k m es → Holds k m (call_by g span (callee_op (leaf_is.TypeName w)) callee es)
+  word_call_holds : (g : Around) (span : Span) (w : Word) (callee : Expr) (es : List Expr) → Holds only k m callee → HoldsAll only k m es → Holds only k m (call_by g span (callee_op (leaf_is.TypeName w)) callee es)
   word_call_holds g span (word_is.Enum n) callee es h hs c =
       let t = word (word_is.Enum n) in
       let all = each_to (g.target (many_is.Convert n) unknown) 0 es in
-      let hold = each_holds k m (g.target (many_is.Convert n) unknown) 0 es hs in
-      let f = first_fine k m (many_at span t (many_is.Convert n) all) c in
+      let hold = each_holds only k m (g.target (many_is.Convert n) unknown) 0 es hs in
+      let f = first_fine only k m (many_at span t (many_is.Convert n) all) c in
       many_good span t (many_is.Convert n) all (arguments_right false all hold (parts_of span t (many_is.Convert n) all c) f.1) refl refl
   word_call_holds g span _ callee es h hs c = no_call_holds span callee es h c
 
-  leaf_call_holds : (g : Around) (span : Span) (op : LeafOp) (callee : Expr) (es : List Expr) → ((n : ℕ) → function_op op ≡ Some n → is_full (g.result n) ≡ true) → Holds k m callee → HoldsAll k m es → Holds k m (call_by g span (callee_op op) callee es)
+  leaf_call_holds : (g : Around) (span : Span) (op : LeafOp) (callee : Expr) (es : List Expr) → ((n : ℕ) → function_op op ≡ Some n → is_full (g.result n) ≡ true) → Holds only k m callee → HoldsAll only k m es → Holds only k m (call_by g span (callee_op op) callee es)
   leaf_call_holds g span (leaf_is.Function n) callee es gives h hs c =
       let all = each_to (g.target (many_is.Call n) unknown) 0 es in
-      let hold = each_holds k m (g.target (many_is.Call n) unknown) 0 es hs in
-      let f = first_fine k m (many_at span (g.result n) (many_is.Call n) all) c in
+      let hold = each_holds only k m (g.target (many_is.Call n) unknown) 0 es hs in
+      let f = first_fine only k m (many_at span (g.result n) (many_is.Call n) all) c in
       many_good span (g.result n) (many_is.Call n) all (arguments_right false all hold (parts_of span (g.result n) (many_is.Call n) all c) f.1) refl (gives n refl)
   leaf_call_holds g span (leaf_is.TypeName w) callee es gives h hs c = word_call_holds g span w callee es h hs c
   leaf_call_holds g span _ callee es gives h hs c = no_call_holds span callee es h c
 
-  pub call_holds : (g : Around) (span : Span) (callee : Expr) (es : List Expr) → ((n : ℕ) → function_of callee ≡ Some n → is_full (g.result n) ≡ true) → Holds k m callee → HoldsAll k m es → Holds k m (call_at g span callee es)
+  pub call_holds : (g : Around) (span : Span) (callee : Expr) (es : List Expr) → ((n : ℕ) → function_of callee ≡ Some n → is_full (g.result n) ≡ true) → Holds only k m callee → HoldsAll only k m es → Holds only k m (call_at g span callee es)
   call_holds g span (leaf i) es gives h hs = leaf_call_holds g span i.op (leaf i) es gives h hs
   call_holds g span (one i a) es gives h hs = no_call_holds span (one i a) es h
   call_holds g span (two i a b) es gives h hs = no_call_holds span (two i a b) es h
   call_holds g span (three i x a b) es gives h hs = no_call_holds span (three i x a b) es h
   call_holds g span (many i fs) es gives h hs = no_call_holds span (many i fs) es h
 
-  pub new_holds : (g : Around) (span path : Span) (callee : Expr) (es : List Expr) → Holds k m callee → HoldsAll k m es → Holds k m (new_at g span path callee es)
+  pub new_holds : (g : Around) (span path : Span) (callee : Expr) (es : List Expr) → Holds only k m callee → HoldsAll only k m es → Holds only k m (new_at g span path callee es)
   new_holds g span path callee es h hs = by (started callee)
     where
-      by : (o : Option NewOf) → Holds k m (new_by g span path o callee es)
+      by : (o : Option NewOf) → Holds only k m (new_by g span path o callee es)
       by None c = no_call_holds span callee es h c
       by (Some u) c =
           let op = many_is.New u path in
           let t = word word_is.New in
           let all = each_to (g.target op unknown) 0 es in
-          let hold = each_holds k m (g.target op unknown) 0 es hs in
-          let f = first_fine k m (many_at span t op all) c in
+          let hold = each_holds only k m (g.target op unknown) 0 es hs in
+          let f = first_fine only k m (many_at span t op all) c in
           many_good span t op all (arguments_right false all hold (parts_of span t op all c) f.1) refl refl
 
   -- methods
-  right_holds : (es : List Expr) → all_hold is_right (exprs es) ≡ true → HoldsAll k m es
+  right_holds : (es : List Expr) → all_hold is_right (exprs es) ≡ true → HoldsAll only k m es
   right_holds [] r = tt
   right_holds (e ∷ es) r =
       let p = and_parts (holds is_right e) (all_hold is_right (exprs es)) r in
       (λ c. (inside is_right e p.0, inl (at_first is_right e p.0)), right_holds es p.1)
 
-  method_good : (span : Span) (t : Ty) (op : ManyOp) (object : Expr) (es : List Expr) → is_method_op op ≡ true → (Value object → is_full t ≡ true) → Holds k m object → HoldsAll k m es → Holds k m (many_at span t op (object ∷ es))
+  method_good : (span : Span) (t : Ty) (op : ManyOp) (object : Expr) (es : List Expr) → is_method_op op ≡ true → (Value object → is_full t ≡ true) → Holds only k m object → HoldsAll only k m es → Holds only k m (many_at span t op (object ∷ es))
   method_good span t (many_is.Method method slot) object es is full h hs c =
       let op = many_is.Method method slot in
-      let f = first_fine k m (many_at span t op (object ∷ es)) c in
+      let f = first_fine only k m (many_at span t op (object ∷ es)) c in
       let all = parts_of span t op (object ∷ es) c in
-      let v = value_of k m object h (first_of object es all) f.0 f.1.0 in
+      let v = value_of only k m object h (first_of object es all) f.0 f.1.0 in
       let r = arguments_right false es hs (rest_of object es all) f.1.1.1.1 in
       many_good span t op (object ∷ es) (and_from (holds is_right object) (all_hold is_right (exprs es)) (whole_of object v) r) refl (full v)
   method_good span t (many_is.OfUnit method name) object es is full h hs c =
       let op = many_is.OfUnit method name in
-      let f = first_fine k m (many_at span t op (object ∷ es)) c in
+      let f = first_fine only k m (many_at span t op (object ∷ es)) c in
       let all = parts_of span t op (object ∷ es) c in
-      let v = value_of k m object h (first_of object es all) f.0 f.1.0 in
+      let v = value_of only k m object h (first_of object es all) f.0 f.1.0 in
       let r = arguments_right (connects op) es hs (rest_of object es all) f.1.1.1.1 in
       many_good span t op (object ∷ es) (and_from (holds is_right object) (all_hold is_right (exprs es)) (whole_of object v) r) refl (full v)
   method_good span t (many_is.OfSink method) object es is full h hs c =
       let op = many_is.OfSink method in
-      let f = first_fine k m (many_at span t op (object ∷ es)) c in
+      let f = first_fine only k m (many_at span t op (object ∷ es)) c in
       let all = parts_of span t op (object ∷ es) c in
-      let v = value_of k m object h (first_of object es all) f.0 f.1.0 in
+      let v = value_of only k m object h (first_of object es all) f.0 f.1.0 in
       let r = arguments_right (connects op) es hs (rest_of object es all) f.1.1.1 in
       many_good span t op (object ∷ es) (and_from (holds is_right object) (all_hold is_right (exprs es)) (whole_of object v) r) refl (full v)
   method_good span t _ object es is full h hs c = never is
 
-  pub method_holds : (g : Around) → ((op : ManyOp) (span : Span) (n : ℕ) → all_hold is_right (exprs (g.left_out op span n)) ≡ true) → (span member name : Span) (o : Option Callable) (object : Expr) (es : List Expr) → ((x : Callable) → o ≡ Some x → (is_method_op x.op ≡ true) × (is_full (seen object) ≡ true → is_full x.ty ≡ true)) → Holds k m object → HoldsAll k m es → Holds k m (method_of g span member name o object es)
+  pub method_holds : (g : Around) → ((op : ManyOp) (span : Span) (n : ℕ) → all_hold is_right (exprs (g.left_out op span n)) ≡ true) → (span member name : Span) (o : Option Callable) (object : Expr) (es : List Expr) → ((x : Callable) → o ≡ Some x → (is_method_op x.op ≡ true) × (is_full (seen object) ≡ true → is_full x.ty ≡ true)) → Holds only k m object → HoldsAll only k m es → Holds only k m (method_of g span member name o object es)
   method_holds g left_out span member name None object es is h hs =
-      no_call_holds span (one_at member unknown (one_is.NoMember name) object) es (no_member k m member unknown name object h)
+      no_call_holds span (one_at member unknown (one_is.NoMember name) object) es (no_member only k m member unknown name object h)
   method_holds g left_out span member name (Some x) object es is h hs =
       let given = each_to (g.target x.op (seen object)) 0 es in
       let others = g.left_out x.op span (length es) in
-      let hold = joined_holds k m given others (each_holds k m (g.target x.op (seen object)) 0 es hs) (right_holds others (left_out x.op span (length es))) in
+      let hold = joined_holds only k m given others (each_holds only k m (g.target x.op (seen object)) 0 es hs) (right_holds others (left_out x.op span (length es))) in
       let p = is x refl in
       method_good span x.ty x.op object (given ++ others) p.0 (λ v. p.1 (seen_full object v)) h hold

@@ -5,6 +5,7 @@ use Rattle.std.proofs.lemmas.Bool.{and_parts, and_from}
 use Rattle.sp_base.specs.declared.places.Span.{Span}
 use Rattle.sp_rules.specs.declared.fault.Fault.{Fault}
 use Rattle.sp_types.specs.Types.{is_known}
+use Rattle.sp_typed.specs.declared.words.OneOp.{OneOp}
 use Rattle.sp_typed.specs.declared.words.LeafOp.{LeafOp}
 use Rattle.sp_typed.specs.declared.words.LeafOp.TheVariants as leaf_is
 use Rattle.sp_typed.specs.Exprs.{Expr, leaf, one, two, three, many, type_of, is_literal}
@@ -15,7 +16,7 @@ use Rattle.sp_body_rules.specs.Known.{Known}
 use Rattle.sp_body_rules.specs.Values.{names_no_value, is_no_value, is_past, knows, is_valueless, is_set_key, misplaced_at}
 use Rattle.sp_body_rules.specs.ExprTests.{expr_tests, leaf_tests}
 use Rattle.sp_known_types.specs.Full.{is_full, is_right, is_bare, is_unknown, holds_inside}
-use Rattle.sp_known_types.specs.Clear.{none_hold, is_clear, names_something, names_types}
+use Rattle.sp_known_types.specs.Clear.{none_hold, is_clear, names_something, may_stand}
 use Rattle.sp_known_types.proofs.Full.{never, full_is_known, unknown_is}
 
 -- none of some tests holds, one by one
@@ -79,30 +80,30 @@ inside p (many h es) r = (and_parts (p (many h es)) (all_hold p es) r).1
 abbrev pub Good : Expr → Type 0
 Good e = (holds_inside is_right e ≡ true) × ((is_right e ≡ true) ⊎ (is_bare e ≡ true))
 
-module _ (k : Known) (m : ℕ) where
+module _ (only : OneOp → Bool) (k : Known) (m : ℕ) where
   abbrev pub Clear : Expr → Type 0
-  Clear e = holds (is_clear k m) e ≡ true
+  Clear e = holds (is_clear only k m) e ≡ true
 
   -- so it is where no rule is broken
   abbrev pub Holds : Expr → Type 0
   Holds e = Clear e → Good e
 
-  pub tests_of : (e : Expr) → is_clear k m e ≡ true → Fine (expr_tests k m e)
+  pub tests_of : (e : Expr) → is_clear only k m e ≡ true → Fine (expr_tests k m e)
   tests_of e c =
-      let p = and_parts (names_something e) (names_types e && none_hold (expr_tests k m e)) c in
-      fine (expr_tests k m e) (and_parts (names_types e) (none_hold (expr_tests k m e)) p.1).1
+      let p = and_parts (names_something e) (may_stand only e && none_hold (expr_tests k m e)) c in
+      fine (expr_tests k m e) (and_parts (may_stand only e) (none_hold (expr_tests k m e)) p.1).1
 
   -- no test holds at the first node
   pub first_fine : (e : Expr) → Clear e → Fine (expr_tests k m e)
-  first_fine e c = tests_of e (at_first (is_clear k m) e c)
+  first_fine e c = tests_of e (at_first (is_clear only k m) e c)
 
   pub first_names : (e : Expr) → Clear e → names_something e ≡ true
-  first_names e c = (and_parts (names_something e) (names_types e && none_hold (expr_tests k m e)) (at_first (is_clear k m) e c)).0
+  first_names e c = (and_parts (names_something e) (may_stand only e && none_hold (expr_tests k m e)) (at_first (is_clear only k m) e c)).0
 
-  pub first_types : (e : Expr) → Clear e → names_types e ≡ true
-  first_types e c =
-      let p = and_parts (names_something e) (names_types e && none_hold (expr_tests k m e)) (at_first (is_clear k m) e c) in
-      (and_parts (names_types e) (none_hold (expr_tests k m e)) p.1).0
+  pub first_stands : (e : Expr) → Clear e → may_stand only e ≡ true
+  first_stands e c =
+      let p = and_parts (names_something e) (may_stand only e && none_hold (expr_tests k m e)) (at_first (is_clear only k m) e c) in
+      (and_parts (may_stand only e) (none_hold (expr_tests k m e)) p.1).0
 
   -- a number whose type is written isn't past it
   typed_within : (e : Expr) (op : LeafOp) → typed_leaf op ≡ true → Fine (leaf_tests m e op) → is_over e ≡ false
@@ -154,10 +155,10 @@ right_of e g n = elim g.1 [
   | inr b ↦ never (sym n ∙ bare_is_none e b)
 ]
 
-pub value_of : (k : Known) (m : ℕ) (e : Expr) → Holds k m e → Clear k m e → is_no_value e ≡ false → is_past e ≡ false → Value e
-value_of k m e h c n p =
+pub value_of : (only : OneOp → Bool) (k : Known) (m : ℕ) (e : Expr) → Holds only k m e → Clear only k m e → is_no_value e ≡ false → is_past e ≡ false → Value e
+value_of only k m e h c n p =
     let g = h c in
-    record { right = right_of e g n; within = not_over k m e c p; inside = g.0 }
+    record { right = right_of e g n; within = not_over only k m e c p; inside = g.0 }
 
 pub full_of : (e : Expr) → Value e → is_full (type_of e) ≡ true
 full_of e v = (and_parts (not (is_word e)) (is_full (type_of e)) v.right).1

@@ -9,6 +9,7 @@ use Rattle.sp_ast.specs.Trees as read
 use Rattle.sp_ast.specs.declared.forms.Form.TheVariants as form_is
 use Rattle.sp_ast.specs.declared.forms.ExprForm.TheVariants as expr_is
 use Rattle.sp_types.specs.Types.{Ty, word, is_known}
+use Rattle.sp_typed.specs.declared.words.OneOp.{OneOp}
 use Rattle.sp_typed.specs.declared.words.LeafOp.{LeafOp}
 use Rattle.sp_typed.specs.declared.words.LeafOp.TheVariants as leaf_is
 use Rattle.sp_typed.specs.Exprs.{Expr, Exprs, leaf, type_of}
@@ -27,7 +28,7 @@ use Rattle.sp_known_types.specs.Trees.{is_expr, are_exprs, are_pairs}
 use Rattle.sp_known_types.specs.Clear.{names_path}
 use Rattle.sp_known_types.specs.Given.{may_be, is_named, IsKnown}
 use Rattle.sp_known_types.proofs.Full.{never, full_is_known}
-use Rattle.sp_known_types.proofs.Tests.{Fine, Clear, Holds, first_fine, first_names, first_types, right_of, is_whole, not_misplaced}
+use Rattle.sp_known_types.proofs.Tests.{Fine, Clear, Holds, first_fine, first_names, right_of, is_whole, not_misplaced}
 use Rattle.sp_known_types.proofs.Kept.{HoldsAll, HoldsPairs, led_holds}
 use Rattle.sp_known_types.proofs.Nodes.{unary_holds, size_holds, cast_holds, binary_holds, choice_holds, member_holds, set_member_holds, index_holds}
 use Rattle.sp_known_types.proofs.Callees.{gives}
@@ -66,18 +67,18 @@ int_full int.Int16 = refl
 int_full int.Int32 = refl
 int_full int.Int64 = refl
 
-module _ (g : Around) (k : Known) (m : ℕ) (is_type : Tree → Bool) (known : IsKnown g k m is_type) where
-  named_holds : (e : Expr) → is_named g.result e ≡ true → Holds k m e
-  named_holds (leaf h) b c = (refl, stands_known g.result m (leaf h) h.op h.ty b (first_names k m (leaf h) c) (first_fine k m (leaf h) c))
+module _ (g : Around) (only : OneOp → Bool) (k : Known) (m : ℕ) (is_type is_path : Tree → Bool) (known : IsKnown g only k m is_type is_path) where
+  named_holds : (e : Expr) → is_named g.result e ≡ true → Holds only k m e
+  named_holds (leaf h) b c = (refl, stands_known g.result m (leaf h) h.op h.ty b (first_names only k m (leaf h) c) (first_fine only k m (leaf h) c))
   named_holds _ b c = never b
 
   -- a type that is written
-  full_type : (t : Tree) → is_type t ≡ true → is_none (g.written t).unnamed ≡ true → is_none (g.written t).misplaced ≡ true → (is_full (g.type_in t) && true) ≡ true
-  full_type t is n p = and_from (is_full (g.type_in t)) true (known.type_in t is n p) refl
+  full_type : (t : Tree) → is_type t ≡ true → is_none (g.written t).misplaced ≡ true → (is_full (g.type_in t) && true) ≡ true
+  full_type t is p = and_from (is_full (g.type_in t)) true (known.type_in t is p) refl
 
   mutual
-    pub typed_holds : (t : Tree) → is_expr is_type t ≡ true → Holds k m (typed g t)
-    typed_holds (node (form_is.Expr expr_is.Path) span (more path none)) is = named_holds (g.path span path) (known.path span path)
+    pub typed_holds : (t : Tree) → is_expr is_type is_path t ≡ true → Holds only k m (typed g t)
+    typed_holds (node (form_is.Expr expr_is.Path) span (more path none)) is = named_holds (g.path span path) (known.path span path is)
     typed_holds (node (form_is.Expr expr_is.Itself) span none) is = named_holds (g.itself span) (known.itself span)
     typed_holds (node (form_is.Expr expr_is.Current) span none) is = named_holds (g.current span) (known.current span)
     typed_holds (node (form_is.Expr expr_is.True) span none) is = λ c. (refl, inl refl)
@@ -86,72 +87,73 @@ module _ (g : Around) (k : Known) (m : ℕ) (is_type : Tree → Bool) (known : I
     typed_holds (node (form_is.Expr (expr_is.String text)) span none) is = λ c. (refl, inl refl)
     typed_holds (node (form_is.Expr (expr_is.Bytes bytes)) span none) is = λ c. (refl, inl refl)
     typed_holds (node (form_is.Expr (expr_is.Regex text)) span none) is = λ c. (refl, inl refl)
-    typed_holds (node (form_is.Expr expr_is.Tuple) span ts) is = tuple_holds k m span (typed_all g ts) (all_hold_in ts is)
+    typed_holds (node (form_is.Expr expr_is.Tuple) span ts) is = tuple_holds only k m span (typed_all g ts) (all_hold_in ts is)
     typed_holds (node (form_is.Expr expr_is.Vector) span ts) is =
-        vector_holds k m span (led (typed_all g ts)) (led_holds k m (typed_all g ts) (all_hold_in ts is))
+        vector_holds only k m span (led (typed_all g ts)) (led_holds only k m (typed_all g ts) (all_hold_in ts is))
     typed_holds (node (form_is.Expr expr_is.Set) span ts) is =
-        set_holds k m span (led (typed_all g ts)) (led_holds k m (typed_all g ts) (all_hold_in ts is))
-    typed_holds (node (form_is.Expr expr_is.Map) span ts) is = pairs_hold k m span (pairs_typed g ts) (pairs_hold_in ts is)
+        set_holds only k m span (led (typed_all g ts)) (led_holds only k m (typed_all g ts) (all_hold_in ts is))
+    typed_holds (node (form_is.Expr expr_is.Map) span ts) is = pairs_hold only k m span (pairs_typed g ts) (pairs_hold_in ts is)
     typed_holds (node (form_is.Expr expr_is.EmptyVector) span (more t none)) is =
         let e = typed g (node (form_is.Expr expr_is.EmptyVector) span (more t none)) in
-        λ c. (refl, inl (full_type t is (first_types k m e c) (not_misplaced m (g.written t).misplaced (first_fine k m e c))))
+        λ c. (refl, inl (full_type t is (not_misplaced m (g.written t).misplaced (first_fine only k m e c))))
     typed_holds (node (form_is.Expr expr_is.EmptySet) span (more t none)) is =
         let e = typed g (node (form_is.Expr expr_is.EmptySet) span (more t none)) in
-        λ c. (refl, inl (full_type t is (first_types k m e c) (not_misplaced m (g.written t).misplaced (first_fine k m e c))))
+        λ c. (refl, inl (full_type t is (not_misplaced m (g.written t).misplaced (first_fine only k m e c))))
     typed_holds (node (form_is.Expr expr_is.EmptyMap) span (more s (more t none))) is =
         let e = typed g (node (form_is.Expr expr_is.EmptyMap) span (more s (more t none))) in
         let are = and_parts (is_type s) (is_type t) is in
         λ c. (
-        let n = none_else (g.written s).unnamed (g.written t).unnamed (first_types k m e c) in
-        let p = none_else (g.written s).misplaced (g.written t).misplaced (not_misplaced m (or_else (g.written s).misplaced (g.written t).misplaced) (first_fine k m e c)) in
-        (refl, inl (and_from (is_full (g.type_in s)) (is_full (g.type_in t) && true) (known.type_in s are.0 n.0 p.0) (full_type t are.1 n.1 p.1)))
+        let p = none_else (g.written s).misplaced (g.written t).misplaced (not_misplaced m (or_else (g.written s).misplaced (g.written t).misplaced) (first_fine only k m e c)) in
+        (refl, inl (and_from (is_full (g.type_in s)) (is_full (g.type_in t) && true) (known.type_in s are.0 p.0) (full_type t are.1 p.1)))
         )
     typed_holds (node (form_is.Expr (expr_is.TypedNumber w)) span (more n none)) is = λ c. (refl, inl (int_full w))
     typed_holds (node (form_is.Expr expr_is.Cast) span (more t (more e none))) is =
-        cast_holds k m span (typing.cast_type (g.type_in t)) (g.written t) (typed g e) (typed_holds e (and_parts (is_type t) (is_expr is_type e) is).1)
+        let p = and_parts (is_type t) (is_expr is_type is_path e) is in
+        cast_holds only k m span (typing.cast_type (g.type_in t)) (g.written t) (typed g e) (known.names_types t p.0) (typed_holds e p.1)
     typed_holds (node (form_is.Expr expr_is.New) span (more path (more (row ts) none))) is =
         let at = read.span_of path in
-        new_holds k m g span at (g.named at path) (typed_all g ts) (named_holds (g.named at path) (known.named at path)) (all_hold_in ts is)
-    typed_holds (node (form_is.Expr expr_is.Size) span (more e none)) is = size_holds k m span (typed g e) (typed_holds e is)
+        let p = and_parts (is_path path) (are_exprs is_type is_path ts) is in
+        new_holds only k m g span at (g.named at path) (typed_all g ts) (named_holds (g.named at path) (known.named at path p.0)) (all_hold_in ts p.1)
+    typed_holds (node (form_is.Expr expr_is.Size) span (more e none)) is = size_holds only k m span (typed g e) (typed_holds e is)
     typed_holds (node (form_is.Expr expr_is.Choice) span (more c (more a (more b none)))) is =
-        let p = and_parts (is_expr is_type c) (is_expr is_type a && is_expr is_type b) is in
-        let q = and_parts (is_expr is_type a) (is_expr is_type b) p.1 in
-        choice_holds k m span (typed g c) (typed g a) (typed g b) (typed_holds c p.0) (typed_holds a q.0) (typed_holds b q.1)
+        let p = and_parts (is_expr is_type is_path c) (is_expr is_type is_path a && is_expr is_type is_path b) is in
+        let q = and_parts (is_expr is_type is_path a) (is_expr is_type is_path b) p.1 in
+        choice_holds only k m span (typed g c) (typed g a) (typed g b) (typed_holds c p.0) (typed_holds a q.0) (typed_holds b q.1)
     typed_holds (node (form_is.Expr expr_is.Member) span (more e (more name none))) is =
         let x = name_of name in
-        member_holds k m span (read.span_of name) (g.member (seen (typed g e)) x) (typed g e) (known.member (seen (typed g e)) x) (typed_holds e is)
+        member_holds only k m span (read.span_of name) (g.member (seen (typed g e)) x) (typed g e) (known.member (seen (typed g e)) x) (typed_holds e is)
     typed_holds (node (form_is.Expr expr_is.SetMember) span (more e (more name none))) is =
-        set_member_holds k m span (read.span_of name) (g.member (seen (typed g e)) (name_of name)) (typed g e) (typed_holds e is)
+        set_member_holds only k m span (read.span_of name) (g.member (seen (typed g e)) (name_of name)) (typed g e) (typed_holds e is)
     typed_holds (node (form_is.Expr expr_is.Index) span (more e (more i none))) is =
-        let p = and_parts (is_expr is_type e) (is_expr is_type i) is in
-        index_holds k m g span (seen (typed g e)) (typed g e) (typed g i) (known.index i p.1) refl (typed_holds e p.0) (typed_holds i p.1)
+        let p = and_parts (is_expr is_type is_path e) (is_expr is_type is_path i) is in
+        index_holds only k m g span (seen (typed g e)) (typed g e) (typed g i) (known.index i p.1) refl (typed_holds e p.0) (typed_holds i p.1)
     typed_holds (node (form_is.Expr expr_is.Call) span (more (node (form_is.Expr expr_is.Member) member (more e (more name none))) (more (row ts) none))) is =
-        let p = and_parts (is_expr is_type e) (are_exprs is_type ts) is in
+        let p = and_parts (is_expr is_type is_path e) (are_exprs is_type is_path ts) is in
         let x = name_of name in
         let at = read.span_of name in
         let types = map seen (typed_all g ts) in
         let of = seen (typed g e) in
-        method_holds k m g known.left_out span member at (g.method of x at types) (typed g e) (typed_all g ts) (λ y found. (known.method of x at types y found, known.gives of x at types y found)) (typed_holds e p.0) (all_hold_in ts p.1)
+        method_holds only k m g known.left_out span member at (g.method of x at types) (typed g e) (typed_all g ts) (λ y found. (known.method of x at types y found, known.gives of x at types y found)) (typed_holds e p.0) (all_hold_in ts p.1)
     typed_holds (node (form_is.Expr expr_is.Call) span (more callee (more (row ts) none))) is =
-        let p = and_parts (is_expr is_type callee) (are_exprs is_type ts) is in
-        call_holds k m g span (typed g callee) (typed_all g ts) (gives g k m is_type known callee) (typed_holds callee p.0) (all_hold_in ts p.1)
-    typed_holds (node (form_is.Expr (expr_is.Unary op)) span (more e none)) is = unary_holds k m span op (typed g e) (typed_holds e is)
+        let p = and_parts (is_expr is_type is_path callee) (are_exprs is_type is_path ts) is in
+        call_holds only k m g span (typed g callee) (typed_all g ts) (gives g only k m is_type is_path known callee p.0) (typed_holds callee p.0) (all_hold_in ts p.1)
+    typed_holds (node (form_is.Expr (expr_is.Unary op)) span (more e none)) is = unary_holds only k m span op (typed g e) (typed_holds e is)
     typed_holds (node (form_is.Expr (expr_is.Binary op)) span (more a (more b none))) is =
-        let p = and_parts (is_expr is_type a) (is_expr is_type b) is in
-        binary_holds k m span op (typed g a) (typed g b) (typed_holds a p.0) (typed_holds b p.1)
+        let p = and_parts (is_expr is_type is_path a) (is_expr is_type is_path b) is in
+        binary_holds only k m span op (typed g a) (typed g b) (typed_holds a p.0) (typed_holds b p.1)
     typed_holds _ is = never is
 
-    all_hold_in : (ts : Trees) → are_exprs is_type ts ≡ true → HoldsAll k m (typed_all g ts)
+    all_hold_in : (ts : Trees) → are_exprs is_type is_path ts ≡ true → HoldsAll only k m (typed_all g ts)
     all_hold_in none is = tt
     all_hold_in (more t ts) is =
-        let p = and_parts (is_expr is_type t) (are_exprs is_type ts) is in
+        let p = and_parts (is_expr is_type is_path t) (are_exprs is_type is_path ts) is in
         (typed_holds t p.0, all_hold_in ts p.1)
 
-    pairs_hold_in : (ts : Trees) → are_pairs is_type ts ≡ true → HoldsPairs k m (pairs_typed g ts)
+    pairs_hold_in : (ts : Trees) → are_pairs is_type is_path ts ≡ true → HoldsPairs only k m (pairs_typed g ts)
     pairs_hold_in none is = tt
     pairs_hold_in (more (node form_is.Pair span (more s (more t none))) ts) is =
-        let p = and_parts (is_expr is_type s) (is_expr is_type t && are_pairs is_type ts) is in
-        let q = and_parts (is_expr is_type t) (are_pairs is_type ts) p.1 in
+        let p = and_parts (is_expr is_type is_path s) (is_expr is_type is_path t && are_pairs is_type is_path ts) is in
+        let q = and_parts (is_expr is_type is_path t) (are_pairs is_type is_path ts) p.1 in
         ((typed_holds s p.0, typed_holds t q.0), pairs_hold_in ts q.1)
     pairs_hold_in _ is = never is
 
@@ -191,8 +193,8 @@ mutual
       let p = and_parts (holds is_right e) (all_hold is_right es) r in
       and_from (holds is_sound e) (all_hold is_sound es) (sound e p.0) (all_sound es p.1)
 
-pub whole_value : (g : Around) (k : Known) (m : ℕ) (is_type : Tree → Bool) (t : Tree) → IsKnown g k m is_type → is_expr is_type t ≡ true → Clear k m (typed g t) → is_no_value (typed g t) ≡ false → IsWhole (typed g t)
-whole_value g k m is_type t known is c n =
+pub whole_value : (g : Around) (only : OneOp → Bool) (k : Known) (m : ℕ) (is_type is_path : Tree → Bool) (t : Tree) → IsKnown g only k m is_type is_path → is_expr is_type is_path t ≡ true → Clear only k m (typed g t) → is_no_value (typed g t) ≡ false → IsWhole (typed g t)
+whole_value g only k m is_type is_path t known is c n =
     let e = typed g t in
-    let good = typed_holds g k m is_type known t is c in
+    let good = typed_holds g only k m is_type is_path known t is c in
     holds_everywhere is_sound e ∙ sound e (is_whole is_right e good.0 (right_of e good n))

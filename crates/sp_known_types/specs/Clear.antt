@@ -1,10 +1,9 @@
 -- Nodes at which no rule is broken.
-use Rattle.std.specs.Prelude.{ℕ, Bool, true, false, not, ◌&&◌, List, [], ◌∷◌, is_none}
+use Rattle.std.specs.Prelude.{ℕ, Bool, true, false, not, ◌&&◌, List, [], ◌∷◌}
 use Rattle.sp_rules.specs.declared.fault.Fault.{Fault}
 use Rattle.sp_typed.specs.declared.words.LeafOp.{LeafOp}
 use Rattle.sp_typed.specs.declared.words.LeafOp.TheVariants as leaf_is
 use Rattle.sp_typed.specs.declared.words.OneOp.{OneOp}
-use Rattle.sp_typed.specs.declared.words.OneOp.TheVariants as one_is
 use Rattle.sp_typed.specs.Exprs.{Expr, leaf, one}
 use Rattle.sp_body_rules.specs.Known.{Known}
 use Rattle.sp_body_rules.specs.ExprTests.{expr_tests}
@@ -19,24 +18,19 @@ abbrev pub names_path : LeafOp → Bool
 names_path (leaf_is.Nothing name) = false
 names_path _ = true
 
--- whether each name in a type that is written in a node names something
-abbrev pub leaf_types : LeafOp → Bool
-leaf_types (leaf_is.Empty w) = is_none w.unnamed
-leaf_types _ = true
-
-abbrev pub one_types : OneOp → Bool
-one_types (one_is.Cast w) = is_none w.unnamed
-one_types _ = true
-
-abbrev pub names_types : Expr → Bool
-names_types (leaf h) = leaf_types h.op
-names_types (one h a) = one_types h.op
-names_types _ = true
+-- whether what is done to one value may be done where the node stands: a test says so of each operator, cast and member
+abbrev pub may_stand : (OneOp → Bool) → Expr → Bool
+may_stand only (one h a) = only h.op
+may_stand only _ = true
 
 abbrev pub names_something : Expr → Bool
 names_something (leaf h) = names_path h.op
 names_something _ = true
 
--- whether no rule on names and no rule of bodies is broken at a node
-abbrev pub is_clear : Known → ℕ → Expr → Bool
-is_clear k m e = names_something e && (names_types e && none_hold (expr_tests k m e))
+-- whether no rule on names and no rule of bodies is broken at a node that may stand there
+abbrev pub is_clear : (OneOp → Bool) → Known → ℕ → Expr → Bool
+is_clear only k m e = names_something e && (may_stand only e && none_hold (expr_tests k m e))
+
+-- where all that can be done to a value may be done
+abbrev pub any_op : OneOp → Bool
+any_op op = true

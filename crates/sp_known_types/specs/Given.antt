@@ -63,17 +63,19 @@ is_method_op _ = false
 abbrev pub is_decided : Constancy → Bool
 is_decided c = is_constant c || is_not_constant c
 
--- All that can be named is known: what paths are, and what `self` and `$$`; the types that are written and that the test lets
--- through, where each name in them names something and each part may stand where it does; members, and what methods of values of full types give; what stands
--- for arguments that were left out; and whether an index is constant, where no rule is broken in it.
-pub record IsKnown (g : Around) (k : Known) (m : ℕ) (is_type : Tree → Bool) : Type 0 where
-  pub path : (span : Span) (path : Tree) → IsTrue (is_named g.result (g.path span path))
-  pub named : (span : Span) (path : Tree) → IsTrue (is_named g.result (g.named span path))
+-- All that can be named is known: what the paths are that one test lets through, and what `self` and `$$`; the types that are
+-- written and that another test lets through: each name in them names something, and where each part may stand where it does,
+-- they are full; the members that may be taken of a value, and what methods of values of full types give; what stands for
+-- arguments that were left out; and whether an index is constant, where no rule is broken in it.
+pub record IsKnown (g : Around) (only : OneOp → Bool) (k : Known) (m : ℕ) (is_type is_path : Tree → Bool) : Type 0 where
+  pub path : (span : Span) (path : Tree) → IsTrue (is_path path) → IsTrue (is_named g.result (g.path span path))
+  pub named : (span : Span) (path : Tree) → IsTrue (is_path path) → IsTrue (is_named g.result (g.named span path))
   pub itself : (span : Span) → IsTrue (is_named g.result (g.itself span))
   pub current : (span : Span) → IsTrue (is_named g.result (g.current span))
-  pub type_in : (t : Tree) → IsTrue (is_type t) → IsTrue (is_none (g.written t).unnamed) → IsTrue (is_none (g.written t).misplaced) → IsTrue (is_full (g.type_in t))
-  pub member : (t : Ty) (name : List ℕ) (found : Member) → g.member t name ≡ Some found → IsTrue (is_member found)
+  pub names_types : (t : Tree) → IsTrue (is_type t) → IsTrue (is_none (g.written t).unnamed)
+  pub type_in : (t : Tree) → IsTrue (is_type t) → IsTrue (is_none (g.written t).misplaced) → IsTrue (is_full (g.type_in t))
+  pub member : (t : Ty) (name : List ℕ) (found : Member) → g.member t name ≡ Some found → IsTrue (only found.op) → IsTrue (is_member found)
   pub method : (t : Ty) (name : List ℕ) (span : Span) (ts : List Ty) (found : Callable) → g.method t name span ts ≡ Some found → IsTrue (is_method_op found.op)
   pub gives : (t : Ty) (name : List ℕ) (span : Span) (ts : List Ty) (found : Callable) → g.method t name span ts ≡ Some found → IsTrue (is_full t) → IsTrue (is_full found.ty)
   pub left_out : (op : ManyOp) (span : Span) (n : ℕ) → IsTrue (all_hold is_right (exprs (g.left_out op span n)))
-  pub index : (i : Tree) → IsTrue (is_expr is_type i) → IsTrue (holds (is_clear k m) (typed g i)) → IsTrue (holds is_right (typed g i)) → IsTrue (is_unsigned (type_of (typed g i))) → IsTrue (is_decided (k.constancy (typed g i)))
+  pub index : (i : Tree) → IsTrue (is_expr is_type is_path i) → IsTrue (holds (is_clear only k m) (typed g i)) → IsTrue (holds is_right (typed g i)) → IsTrue (is_unsigned (type_of (typed g i))) → IsTrue (is_decided (k.constancy (typed g i)))

@@ -24,9 +24,9 @@ use Rattle.sp_typing.specs.Operands.{unknown, boolean}
 use Rattle.sp_typing.specs.Typing.{leaf_at, one_at, two_at, many_at}
 use Rattle.sp_body_rules.specs.Known.{nothing_known}
 use Rattle.sp_known_types.specs.Full.{is_full, is_right, is_bare, holds_inside}
-use Rattle.sp_known_types.specs.Trees.{is_expr, types_hold}
+use Rattle.sp_known_types.specs.Trees.{is_expr, written_hold}
 use Rattle.sp_known_types.specs.Given.{IsKnown}
-use Rattle.sp_known_types.specs.Clear.{is_clear, names_types}
+use Rattle.sp_known_types.specs.Clear.{is_clear, any_op}
 
 abbrev here : Span
 here = record { from = 0; to = 0 }
@@ -57,26 +57,26 @@ truth = expr expr_is.True []
 abbrev name : Tree
 name = expr expr_is.Path (tree form_is.Path here [] ∷ [])
 
-call_is_expr : is_expr (λ t. true) (expr expr_is.Call (name ∷ in_row (truth ∷ []) ∷ [])) ≡ true
+call_is_expr : is_expr (λ t. true) (λ t. true) (expr expr_is.Call (name ∷ in_row (truth ∷ []) ∷ [])) ≡ true
 call_is_expr = refl
 
-block_is_none : is_expr (λ t. true) (expr expr_is.Call (name ∷ in_row (tree form_is.Block here [] ∷ []) ∷ [])) ≡ false
+block_is_none : is_expr (λ t. true) (λ t. true) (expr expr_is.Call (name ∷ in_row (tree form_is.Block here [] ∷ []) ∷ [])) ≡ false
 block_is_none = refl
 
-operand_is_missing : is_expr (λ t. true) (expr (expr_is.Binary op_is.Add) (truth ∷ [])) ≡ false
+operand_is_missing : is_expr (λ t. true) (λ t. true) (expr (expr_is.Binary op_is.Add) (truth ∷ [])) ≡ false
 operand_is_missing = refl
 
 -- `vector<bool>()`, where no type may be written
 abbrev no_elements : Tree
 no_elements = expr expr_is.EmptyVector (tree (form_is.Type type_is.Bool) here [] ∷ [])
 
-type_is_no_expr : is_expr (λ t. false) no_elements ≡ false
+type_is_no_expr : is_expr (λ t. false) (λ t. true) no_elements ≡ false
 type_is_no_expr = refl
 
-type_is_written : types_hold (λ t. false) (expr expr_is.Tuple (truth ∷ no_elements ∷ [])) ≡ false
+type_is_written : written_hold (λ t. false) (λ t. true) (expr expr_is.Tuple (truth ∷ no_elements ∷ [])) ≡ false
 type_is_written = refl
 
-no_type_is_written : types_hold (λ t. false) (expr expr_is.Tuple (truth ∷ truth ∷ [])) ≡ true
+no_type_is_written : written_hold (λ t. false) (λ t. true) (expr expr_is.Tuple (truth ∷ truth ∷ [])) ≡ true
 no_type_is_written = refl
 
 -- `x`, the name of a function, `s[x]` and `|f|`
@@ -101,24 +101,24 @@ key_is_bare = refl
 key_is_right_inside : holds_inside is_right key ≡ true
 key_is_right_inside = refl
 
-key_is_clear : holds (is_clear nothing_known 0) key ≡ true
+key_is_clear : holds (is_clear any_op nothing_known 0) key ≡ true
 key_is_clear = refl
 
-size_of_function : holds (is_clear nothing_known 0) (one_at here byte one_is.Size function) ≡ false
+size_of_function : holds (is_clear any_op nothing_known 0) (one_at here byte one_is.Size function) ≡ false
 size_of_function = refl
 
--- what names nothing, and a type with a name of nothing
-names_nothing : holds (is_clear nothing_known 0) (leaf_at here unknown (leaf_is.Nothing here)) ≡ false
+-- what names nothing, and what may not stand
+names_nothing : holds (is_clear any_op nothing_known 0) (leaf_at here unknown (leaf_is.Nothing here)) ≡ false
 names_nothing = refl
 
-type_of_nothing : names_types (one_at here byte (one_is.Cast (record { span = here; unnamed = Some here; misplaced = None })) local_x) ≡ false
-type_of_nothing = refl
+cast_of_none : holds (is_clear (λ op. false) nothing_known 0) (one_at here byte one_is.Widen local_x) ≡ false
+cast_of_none = refl
 
 -- what is past its type and called, and a row without members
-past_call : holds (is_clear nothing_known 0) (many_at here unknown many_is.NoCall (leaf_at here byte (leaf_is.Number 300) ∷ [])) ≡ false
+past_call : holds (is_clear any_op nothing_known 0) (many_at here unknown many_is.NoCall (leaf_at here byte (leaf_is.Number 300) ∷ [])) ≡ false
 past_call = refl
 
-no_members : holds (is_clear nothing_known 0) (many_at here (made maker_is.Vector (types.more unknown types.none)) many_is.Vector []) ≡ false
+no_members : holds (is_clear any_op nothing_known 0) (many_at here (made maker_is.Vector (types.more unknown types.none)) many_is.Vector []) ≡ false
 no_members = refl
 
 -- where paths are locals, functions give truths, and nothing has members, all is known
@@ -141,14 +141,15 @@ locals_alone = record {
 none_found : {X : Type 0} {Y : Type 0} (x : X) → None ≡ Some x → Y
 none_found x e = absurd (let b : ⊥ = (cc) in b)
 
-all_is_known : IsKnown locals_alone nothing_known 0 (λ t. true)
+all_is_known : IsKnown locals_alone any_op nothing_known 0 (λ t. true) (λ t. true)
 all_is_known = record {
-  path = λ span path. refl;
-  named = λ span path. refl;
+  path = λ span path is. refl;
+  named = λ span path is. refl;
   itself = λ span. refl;
   current = λ span. refl;
-  type_in = λ t is named placed. refl;
-  member = λ t name found at. none_found found at;
+  names_types = λ t is. refl;
+  type_in = λ t is placed. refl;
+  member = λ t name found at may. none_found found at;
   method = λ t name span ts found at. none_found found at;
   gives = λ t name span ts found at full. none_found found at;
   left_out = λ op span n. refl;

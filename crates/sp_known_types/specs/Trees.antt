@@ -1,4 +1,5 @@
--- Trees of expressions: each alternative has its parts, and the types that are written in them are such as a test lets through.
+-- Trees of expressions: each alternative has its parts, and the types and the paths that are written in them are such as two
+-- tests let through.
 use Rattle.std.specs.Prelude.{Bool, true, false, ◌&&◌, if◌then◌else◌}
 use Rattle.sp_ast.specs.Trees.{Tree, Trees, absent, row, node, none, more}
 use Rattle.sp_ast.specs.Groups.{is_of}
@@ -6,11 +7,11 @@ use Rattle.sp_ast.specs.declared.groups.Group.TheVariants as group_is
 use Rattle.sp_ast.specs.declared.forms.Form.TheVariants as form_is
 use Rattle.sp_ast.specs.declared.forms.ExprForm.TheVariants as expr_is
 
-module _ (is_type : Tree → Bool) where
+module _ (is_type is_path : Tree → Bool) where
   -- an expression, a line for each alternative
   abbrev mutual
     pub is_expr : Tree → Bool
-    is_expr (node (form_is.Expr expr_is.Path) span (more path none)) = true
+    is_expr (node (form_is.Expr expr_is.Path) span (more path none)) = is_path path
     is_expr (node (form_is.Expr expr_is.Itself) span none) = true
     is_expr (node (form_is.Expr expr_is.Current) span none) = true
     is_expr (node (form_is.Expr expr_is.True) span none) = true
@@ -28,7 +29,7 @@ module _ (is_type : Tree → Bool) where
     is_expr (node (form_is.Expr expr_is.EmptyMap) span (more k (more v none))) = is_type k && is_type v
     is_expr (node (form_is.Expr (expr_is.TypedNumber w)) span (more n none)) = true
     is_expr (node (form_is.Expr expr_is.Cast) span (more t (more e none))) = is_type t && is_expr e
-    is_expr (node (form_is.Expr expr_is.New) span (more path (more (row ts) none))) = are_exprs ts
+    is_expr (node (form_is.Expr expr_is.New) span (more path (more (row ts) none))) = is_path path && are_exprs ts
     is_expr (node (form_is.Expr expr_is.Size) span (more e none)) = is_expr e
     is_expr (node (form_is.Expr expr_is.Choice) span (more c (more a (more b none)))) = is_expr c && (is_expr a && is_expr b)
     is_expr (node (form_is.Expr expr_is.Member) span (more e (more name none))) = is_expr e
@@ -49,13 +50,13 @@ module _ (is_type : Tree → Bool) where
     are_pairs (more (node form_is.Pair span (more k (more v none))) ts) = is_expr k && (is_expr v && are_pairs ts)
     are_pairs (more t ts) = false
 
-  -- whether the test holds of each type that is written in a tree
+  -- whether the tests hold of each type and of each path that is written in a tree
   abbrev mutual
-    pub types_hold : Tree → Bool
-    types_hold absent = true
-    types_hold (row ts) = all_types_hold ts
-    types_hold (node form span ts) = if is_of group_is.Types (node form span ts) then is_type (node form span ts) else all_types_hold ts
+    pub written_hold : Tree → Bool
+    written_hold absent = true
+    written_hold (row ts) = all_written_hold ts
+    written_hold (node form span ts) = if is_of group_is.Types (node form span ts) then is_type (node form span ts) else (if is_of group_is.Paths (node form span ts) then is_path (node form span ts) else all_written_hold ts)
 
-    pub all_types_hold : Trees → Bool
-    all_types_hold none = true
-    all_types_hold (more t ts) = types_hold t && all_types_hold ts
+    pub all_written_hold : Trees → Bool
+    all_written_hold none = true
+    all_written_hold (more t ts) = written_hold t && all_written_hold ts

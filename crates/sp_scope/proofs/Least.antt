@@ -8,7 +8,7 @@ use Rattle.sp_typed_list.specs.Settled.{Answers}
 use Rattle.sp_scope.specs.Rules.{name_tests, BreaksName, IsTyped, IsAnswered}
 
 -- the tests under some answers are those under any
-least_of_one : {A : Type 0} (tests : A → List (Bool × Fault)) (a : A) → ((b : A) → tests b ≡ tests a) → (o : Option Fault) → IsLeast (λ f. Among (tests a) (true, f)) o → IsLeast (λ f. (b : A) × Among (tests b) (true, f)) o
+pub least_of_one : {A : Type 0} (tests : A → List (Bool × Fault)) (a : A) → ((b : A) → tests b ≡ tests a) → (o : Option Fault) → IsLeast (λ f. Among (tests a) (true, f)) o → IsLeast (λ f. (b : A) × Among (tests b) (true, f)) o
 least_of_one tests a same None least = λ f w. least f (subst (λ ts. Among ts (true, f)) (same w.0) w.1)
 least_of_one tests a same (Some f) least =
     ((a, least.0), λ g w. least.1 g (subst (λ ts. Among ts (true, g)) (same w.0) w.1))

@@ -1,0 +1,4 @@
+pub mod Slots
+pub mod Decided
+pub mod Trees
+pub mod Rows

@@ -1,0 +1,8 @@
+mod Mentions
+mod Types
+mod Declared
+mod Heads
+mod None
+mod Blind
+mod Functions
+mod Modules

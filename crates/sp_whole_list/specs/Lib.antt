@@ -1,0 +1,5 @@
+pub mod Types
+pub mod Trees
+pub mod Whole
+pub mod Known
+pub mod Rows
