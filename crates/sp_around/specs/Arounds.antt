@@ -20,7 +20,7 @@ use Rattle.sp_typed_units.specs.declared.declarations.MemberKind.{MemberKind}
 use Rattle.sp_typed_units.specs.declared.declarations.MemberKind.TheVariants as kind_is
 use Rattle.sp_typing.specs.declared.context.Member.{Member}
 use Rattle.sp_typing.specs.Contexts.{Around}
-use Rattle.sp_typing.specs.Operands.{unknown}
+use Rattle.sp_operands.specs.Operands.{unknown}
 use Rattle.sp_typing.specs.Typing.{leaf_at}
 use Rattle.sp_names.specs.declared.sort.DeclSort.{DeclSort}
 use Rattle.sp_names.specs.declared.sort.DeclSort.TheVariants as sort_is

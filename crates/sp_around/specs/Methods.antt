@@ -17,7 +17,7 @@ use Rattle.sp_typed.specs.declared.words.ManyOp.TheVariants as many_is
 use Rattle.sp_typed.specs.declared.words.LeafOp.TheVariants as leaf_is
 use Rattle.sp_typed.specs.Exprs.{Expr}
 use Rattle.sp_typing.specs.declared.context.Callable.{Callable}
-use Rattle.sp_typing.specs.Operands.{unknown, first_type}
+use Rattle.sp_operands.specs.Operands.{unknown, first_type}
 use Rattle.sp_typing.specs.Typing.{leaf_at, second_type}
 
 abbrev pub number : Ty

@@ -29,7 +29,7 @@ use Rattle.sp_typed.specs.declared.words.NewOf.TheVariants as new_is
 use Rattle.sp_typed.specs.declared.words.Written.{Written}
 use Rattle.sp_typed_units.specs.declared.declarations.MemberKind.TheVariants as kind_is
 use Rattle.sp_typing.specs.Contexts.{Around}
-use Rattle.sp_typing.specs.Operands.{unknown, boolean}
+use Rattle.sp_operands.specs.Operands.{unknown, boolean}
 use Rattle.sp_typing.specs.Typing.{leaf_at}
 use Rattle.sp_solver.specs.Rounds.{round}
 use Rattle.sp_names.specs.Aliases.{tries}

@@ -4,7 +4,7 @@ ghost use Rattle.sp_types.specs.Types.{Ty};
 ghost use Rattle.sp_typed.specs.Exprs.{Expr as Data};
 ghost use Rattle.sp_typed.specs.declared.words.LeafOp.TheVariants as leaf_is;
 ghost use Rattle.sp_names.specs.Declarations.{sort_at};
-ghost use Rattle.sp_typing.specs.Operands.{unknown};
+ghost use Rattle.sp_operands.specs.Operands.{unknown};
 ghost use Rattle.sp_typing.specs.Typing.{leaf_at};
 ghost use Rattle.sp_solver.specs.Told.{told};
 ghost use Rattle.sp_around.specs.Arounds.{stored_by, type_leaf, declared_at, path_at, member_of, new_takes, target_of, left_out_by};

@@ -5,7 +5,7 @@ use Rattle.sp_rules.specs.declared.rule.Rule.TheVariants as rule_is
 use Rattle.sp_rules.specs.declared.fault.Fault.{Fault}
 use Rattle.sp_words.specs.declared.operators.UnaryOp.TheVariants as unary_is
 use Rattle.sp_words.specs.Methods.{changes}
-use Rattle.sp_types.specs.Types.{Ty, word, made, same, is_key, goes}
+use Rattle.sp_types.specs.Types.{Ty, word, made, same, is_known, is_key, goes}
 use Rattle.sp_types.specs.declared.words.Maker.TheVariants as maker_is
 use Rattle.sp_typed.specs.declared.heads.One.{One}
 use Rattle.sp_typed.specs.declared.heads.Two.{Two}
@@ -25,14 +25,14 @@ use Rattle.sp_typed.specs.declared.words.UnitMethod.TheVariants as unit_is
 use Rattle.sp_typed.specs.declared.words.SinkMethod.TheVariants as sink_is
 use Rattle.sp_typed.specs.declared.words.Written.{Written}
 use Rattle.sp_typed.specs.Exprs.{Expr, Exprs, leaf, one, two, three, many, none, more, type_of, span_of, is_number}
-use Rattle.sp_typing.specs.declared.operators.OperatorSort.{OperatorSort}
-use Rattle.sp_typing.specs.declared.operators.OperatorSort.TheVariants as sort_is
-use Rattle.sp_typing.specs.Operands.{unknown, is_unsigned, is_signed, is_integer, is_enum, sort_of, stands_before, stands_behind, agree, stands_alone, has_size, key_of}
-use Rattle.sp_typing.specs.Literals.{is_over, seen}
+use Rattle.sp_operands.specs.declared.operators.OperatorSort.{OperatorSort}
+use Rattle.sp_operands.specs.declared.operators.OperatorSort.TheVariants as sort_is
+use Rattle.sp_operands.specs.Operands.{unknown, is_unsigned, is_signed, is_integer, is_enum, sort_of, stands_before, stands_behind, agree, stands_alone, has_size, key_of}
+use Rattle.sp_operands.specs.Literals.{is_over, seen}
 use Rattle.sp_body_rules.specs.declared.facts.Constancy.{Constancy}
 use Rattle.sp_body_rules.specs.declared.facts.Constancy.TheVariants as constancy_is
 use Rattle.sp_body_rules.specs.Known.{Known}
-use Rattle.sp_body_rules.specs.Values.{at, is_valueless, is_new, is_no_value, knows, is_past, value_goes, value_tests, wrong, right_tests, condition_tests, written_tests}
+use Rattle.sp_body_rules.specs.Values.{at, is_valueless, is_new, is_no_value, knows, is_past, value_goes, value_span, value_tests, wrong, right_tests, condition_tests, written_tests}
 
 abbrev pub is_unmeant : Standing → Bool
 is_unmeant stands.Unmeant = true
@@ -96,7 +96,7 @@ disagree sort a b =
 -- an operator between two operands
 abbrev pub operand_tests : ℕ → OperatorSort → Expr → Expr → List (Bool × Fault)
 operand_tests m sort a b =
-    right_tests m (stands_before sort (type_of a)) a ++ (right_tests m (stands_behind sort (type_of b)) b ++ ((disagree sort a b, at m rule_is.TypeMismatch (span_of (disagreeing sort a b))) ∷ []))
+    right_tests m (stands_before sort (type_of a)) a ++ (right_tests m (stands_behind sort (type_of b)) b ++ ((disagree sort a b, at m rule_is.TypeMismatch (value_span (disagreeing sort a b))) ∷ []))
 
 -- an index of a tuple that is no constant, or is past its members
 abbrev pub is_constant : Constancy → Bool
@@ -109,11 +109,11 @@ is_not_constant _ = false
 
 abbrev pub item_tests : ℕ → Constancy → Expr → List (Bool × Fault)
 item_tests m c i =
-    (knows i && (not (is_unsigned (type_of i)) || is_constant c), at m rule_is.TypeMismatch (span_of i)) ∷ ((knows i && is_not_constant c, at m rule_is.NotConstant (span_of i)) ∷ [])
+    (knows i && (not (is_unsigned (type_of i)) || is_constant c), at m rule_is.TypeMismatch (value_span i)) ∷ ((knows i && is_not_constant c, at m rule_is.NotConstant (span_of i)) ∷ [])
 
 -- the first type of the keys of what is indexed
 abbrev pub key_tests : ℕ → Ty → Expr → List (Bool × Fault)
-key_tests m t i = (not (value_goes t i), at m rule_is.TypeMismatch (span_of i)) ∷ []
+key_tests m t i = (not (value_goes t i), at m rule_is.TypeMismatch (value_span i)) ∷ []
 
 -- What stands between brackets: the place in a vector, the member of a tuple, a key.
 abbrev pub index_tests : Known → ℕ → Ty → Expr → Expr → List (Bool × Fault)
@@ -138,7 +138,7 @@ unlike a b = knows a && knows b && not (same (type_of a) (type_of b))
 -- `c ? a : b`: both of one type
 abbrev pub choice_tests : ℕ → Expr → Expr → Expr → List (Bool × Fault)
 choice_tests m c a b =
-    condition_tests m c ++ (value_tests m a ++ (value_tests m b ++ ((unlike a b, at m rule_is.TypeMismatch (span_of b)) ∷ [])))
+    condition_tests m c ++ (value_tests m a ++ (value_tests m b ++ ((unlike a b, at m rule_is.TypeMismatch (value_span b)) ∷ [])))
 
 abbrev pub all_value_tests : ℕ → Exprs → List (Bool × Fault)
 all_value_tests m none = []
@@ -147,7 +147,7 @@ all_value_tests m (more e es) = value_tests m e ++ all_value_tests m es
 -- an element of a vector or a set, a key or a value of a map: it has the type of the first of them, and a key one of keys
 abbrev pub element_tests : ℕ → Bool → Expr → Expr → List (Bool × Fault)
 element_tests m keyed first e =
-    value_tests m e ++ (wrong m (not keyed || is_key (type_of e)) e ∷ ((unlike first e, at m rule_is.TypeMismatch (span_of e)) ∷ []))
+    value_tests m e ++ (wrong m (not keyed || is_key (type_of e)) e ∷ ((unlike first e, at m rule_is.TypeMismatch (value_span e)) ∷ []))
 
 abbrev pub elements_tests : ℕ → Bool → Expr → Exprs → List (Bool × Fault)
 elements_tests m keyed first none = []
@@ -170,7 +170,7 @@ map_tests m span _ = (true, at m rule_is.TypeMismatch span) ∷ []
 
 -- Whether an argument goes to its parameter. A literal past its type doesn't; of what has no value nothing is asked.
 abbrev pub argument_goes : Ty → Expr → Bool
-argument_goes t e = not (is_past e) && (is_over e || is_valueless (type_of e) || goes (type_of e) t)
+argument_goes t e = not (is_past e) && (is_valueless (type_of e) || goes (type_of e) t)
 
 abbrev pub argument_fits : Option Ty → Expr → Bool
 argument_fits None e = false
@@ -191,11 +191,11 @@ connects _ = false
 abbrev pub argument_tests : ℕ → Bool → Exprs → List (Bool × Fault)
 argument_tests m starts none = []
 argument_tests m starts (more e es) =
-    (is_no_value e && not (starts && is_new (type_of e)), at m rule_is.TypeMismatch (span_of e)) ∷ argument_tests m starts es
+    (is_no_value e && not (starts && is_new (type_of e)), at m rule_is.TypeMismatch (value_span e)) ∷ argument_tests m starts es
 
 -- The number that becomes a value of an enum may be of any integer type.
 abbrev pub is_convertible : Expr → Bool
-is_convertible e = not (is_past e) && (is_over e || is_valueless (type_of e) || not (knows e) || is_integer (type_of e))
+is_convertible e = not (is_past e) && (not (is_known (type_of e)) || is_valueless (type_of e) || is_integer (type_of e))
 
 abbrev pub converts : Exprs → Bool
 converts none = false
@@ -267,7 +267,7 @@ method_tests k m op span (more e es) = value_tests m e ++ (receiver_tests k m op
 -- what can't be called, and the arguments behind it
 abbrev pub uncalled_tests : ℕ → Exprs → List (Bool × Fault)
 uncalled_tests m none = []
-uncalled_tests m (more e es) = value_tests m e ++ ((knows e, at m rule_is.TypeMismatch (span_of e)) ∷ all_value_tests m es)
+uncalled_tests m (more e es) = value_tests m e ++ ((knows e, at m rule_is.TypeMismatch (value_span e)) ∷ all_value_tests m es)
 
 abbrev pub many_op_tests : Known → ℕ → ManyOp → Span → Exprs → List (Bool × Fault)
 many_op_tests k m many_is.Tuple span es = all_value_tests m es

@@ -5,7 +5,7 @@ use Rattle.sp_rules.specs.declared.rule.Rule.TheVariants as rule_is
 use Rattle.sp_rules.specs.declared.fault.Fault.{Fault}
 use Rattle.sp_words.specs.declared.operators.AssignOp.{AssignOp}
 use Rattle.sp_words.specs.declared.operators.AssignOp.TheVariants as assign_is
-use Rattle.sp_types.specs.Types.{Ty, Tys, word, made}
+use Rattle.sp_types.specs.Types.{Ty, Tys, word, made, is_known, is_plain}
 use Rattle.sp_types.specs.Types as types
 use Rattle.sp_types.specs.declared.words.Word.{Word}
 use Rattle.sp_types.specs.declared.words.Word.TheVariants as word_is
@@ -19,10 +19,10 @@ use Rattle.sp_typed.specs.declared.words.TwoOp.{TwoOp}
 use Rattle.sp_typed.specs.declared.words.TwoOp.TheVariants as two_is
 use Rattle.sp_typed.specs.Exprs.{Expr, Exprs, two, none, more, type_of, span_of}
 use Rattle.sp_typed.specs.Stmts.{Stmt, Branches, Cases, bare, valued, assign, print, block, branch, while_loop, for_loop, switch, no_branches, more_branches, no_cases, more_cases}
-use Rattle.sp_typing.specs.declared.operators.OperatorSort.TheVariants as sort_is
-use Rattle.sp_typing.specs.Operands.{is_integer, is_bytes, is_text, stands_before, agree}
-use Rattle.sp_typing.specs.Literals.{seen}
-use Rattle.sp_body_rules.specs.Values.{at, is_void, is_set, is_no_value, knows, is_past, wrong, right_tests, condition_tests, target_tests, written_tests}
+use Rattle.sp_operands.specs.declared.operators.OperatorSort.TheVariants as sort_is
+use Rattle.sp_operands.specs.Operands.{is_integer, is_bytes, is_text, stands_before, agree}
+use Rattle.sp_operands.specs.Literals.{seen}
+use Rattle.sp_body_rules.specs.Values.{at, is_void, is_set, is_no_value, knows, is_past, value_span, wrong, right_tests, condition_tests, target_tests, written_tests}
 use Rattle.sp_body_rules.specs.Known.{Known}
 use Rattle.sp_body_rules.specs.ExprTests.{may_change}
 
@@ -38,15 +38,19 @@ abbrev pub is_map : Ty → Bool
 is_map (made maker_is.Map ts) = true
 is_map _ = false
 
+-- what a local may hold: a value of a plain type, or a unit
+abbrev pub holds_none : Ty → Bool
+holds_none t = is_known t && not (is_plain t || is_unit t)
+
 -- a local without a value: one of a unit needs a value
 abbrev pub bare_local_tests : ℕ → Ty → Option Written → List (Bool × Fault)
 bare_local_tests m t None = []
-bare_local_tests m t (Some w) = written_tests m w ++ ((is_unit t, at m rule_is.TypeMismatch w.span) ∷ [])
+bare_local_tests m t (Some w) = written_tests m w ++ ((is_unit t || holds_none t, at m rule_is.TypeMismatch w.span) ∷ [])
 
 -- a local and its value, which goes to the type that is written; without one it can't be a sink
 abbrev pub local_tests : ℕ → Ty → Option Written → Expr → List (Bool × Fault)
 local_tests m t None e = right_tests m (not (is_sink (type_of e))) e
-local_tests m t (Some w) e = written_tests m w ++ target_tests m t e
+local_tests m t (Some w) e = written_tests m w ++ ((holds_none t, at m rule_is.TypeMismatch w.span) ∷ target_tests m t e)
 
 -- a word that stands where it means nothing
 abbrev pub bare_op_tests : Option Ty → ℕ → Span → BareOp → List (Bool × Fault)
@@ -60,7 +64,7 @@ bare_op_tests wanted m span (bare_is.Reject meant) = (not meant, at m rule_is.Se
 
 -- what is returned goes to the type of the result, where there is one
 abbrev pub return_tests : Option Ty → ℕ → Expr → List (Bool × Fault)
-return_tests None m e = (is_no_value e, at m rule_is.TypeMismatch (span_of e)) ∷ ((true, at m rule_is.NotAssignable (span_of e)) ∷ [])
+return_tests None m e = (is_no_value e, at m rule_is.TypeMismatch (value_span e)) ∷ ((true, at m rule_is.NotAssignable (span_of e)) ∷ [])
 return_tests (Some t) m e = target_tests m t e
 
 -- `add s[k]`, `delete s[k]` and `delete m[k]`: the key of a set, or of a map
@@ -79,7 +83,7 @@ change_tests k m deletes e = (true, at m rule_is.TypeMismatch (span_of e)) ∷ [
 -- an expression as a statement, which need not have a value
 abbrev pub alone_tests : ℕ → Expr → List (Bool × Fault)
 alone_tests m e =
-    (is_no_value e && not (is_void (type_of e)), at m rule_is.TypeMismatch (span_of e)) ∷ ((is_past e, at m rule_is.LiteralRange (span_of e)) ∷ [])
+    (is_no_value e && not (is_void (type_of e)), at m rule_is.TypeMismatch (value_span e)) ∷ ((is_past e, at m rule_is.LiteralRange (span_of e)) ∷ [])
 
 abbrev pub valued_op_tests : Known → Option Ty → ℕ → ValuedOp → Expr → List (Bool × Fault)
 valued_op_tests k wanted m (valued_is.Local l) e = local_tests m l.ty l.written e
@@ -98,7 +102,7 @@ takes_target assign_is.Subtract t = is_integer t
 
 abbrev pub assign_tests : Known → ℕ → AssignOp → Expr → Expr → List (Bool × Fault)
 assign_tests k m op target value =
-    (is_no_value target, at m rule_is.TypeMismatch (span_of target)) ∷ (wrong m (takes_target op (type_of target)) target ∷ ((not (may_change k target), at m rule_is.NotAssignable (span_of target)) ∷ target_tests m (seen target) value))
+    (is_no_value target, at m rule_is.TypeMismatch (value_span target)) ∷ (wrong m (takes_target op (type_of target)) target ∷ ((not (may_change k target), at m rule_is.NotAssignable (span_of target)) ∷ target_tests m (seen target) value))
 
 -- what can be printed: all but places of the input, sinks and what is no value, also inside others
 abbrev pub is_printable_word : Word → Bool

@@ -1,5 +1,5 @@
 -- What is no value, what type is asked of an expression, and whether a value goes to a target.
-use Rattle.std.specs.Prelude.{ℕ, Bool, true, false, not, ◌&&◌, ◌||◌, List, [], ◌∷◌, ◌++◌, Option, Some, None}
+use Rattle.std.specs.Prelude.{ℕ, Bool, true, false, not, ◌&&◌, ◌||◌, if◌then◌else◌, List, [], ◌∷◌, ◌++◌, Option, Some, None}
 use Rattle.sp_base.specs.declared.places.Span.{Span}
 use Rattle.sp_rules.specs.declared.rule.Rule.{Rule}
 use Rattle.sp_rules.specs.declared.rule.Rule.TheVariants as rule_is
@@ -13,8 +13,8 @@ use Rattle.sp_typed.specs.declared.words.LeafOp.TheVariants as leaf_is
 use Rattle.sp_typed.specs.declared.words.TwoOp.{TwoOp}
 use Rattle.sp_typed.specs.declared.words.TwoOp.TheVariants as two_is
 use Rattle.sp_typed.specs.declared.words.Written.{Written}
-use Rattle.sp_typing.specs.Operands.{is_boolean}
-use Rattle.sp_typing.specs.Literals.{is_over}
+use Rattle.sp_operands.specs.Operands.{is_boolean}
+use Rattle.sp_operands.specs.Literals.{is_over}
 
 -- the fault of a rule in a module, on a slice of its text
 abbrev pub at : ℕ → Rule → Span → Fault
@@ -26,6 +26,10 @@ is_valueless (word word_is.Void) = true
 is_valueless (word word_is.Regex) = true
 is_valueless (word word_is.New) = true
 is_valueless _ = false
+
+abbrev pub is_regex : Ty → Bool
+is_regex (word word_is.Regex) = true
+is_regex _ = false
 
 abbrev pub is_void : Ty → Bool
 is_void (word word_is.Void) = true
@@ -60,25 +64,35 @@ is_no_value (two h a b) = is_set_key h.op (type_of a) || is_valueless h.ty
 is_no_value (three h a b c) = is_valueless h.ty
 is_no_value (many h es) = is_valueless h.ty
 
--- Whether the type of an expression is known. What breaks a rule has none, and so has a number past its type.
-abbrev pub knows : Expr → Bool
-knows e = is_known (type_of e) && not (is_over e)
-
 -- a literal past the type of its place
 abbrev pub is_past : Expr → Bool
 is_past e = is_literal e && is_over e
 
+-- Whether the type of an expression is known. What breaks a rule has none, and so has a literal past its type; a number whose type
+-- is written before it has that type.
+abbrev pub knows : Expr → Bool
+knows e = is_known (type_of e) && not (is_past e)
+
 -- Whether a value goes to a target of a type: of a value of unknown type nothing is asked.
 abbrev pub value_goes : Ty → Expr → Bool
-value_goes t e = not (is_past e) && (is_over e || goes (type_of e) t)
+value_goes t e = not (is_past e) && goes (type_of e) t
+
+-- Where it is said that an expression has no value, or one of a wrong type. Of two of a type without values behind `?` each has none, so it
+-- is said where the first of them stands.
+abbrev pub value_span : Expr → Span
+value_span (three h c a b) = if is_valueless h.ty then value_span a else h.span
+value_span (leaf h) = h.span
+value_span (one h a) = h.span
+value_span (two h a b) = h.span
+value_span (many h es) = h.span
 
 -- an expression that stands as a value
 abbrev pub value_tests : ℕ → Expr → List (Bool × Fault)
-value_tests m e = (is_no_value e, at m rule_is.TypeMismatch (span_of e)) ∷ ((is_past e, at m rule_is.LiteralRange (span_of e)) ∷ [])
+value_tests m e = (is_no_value e, at m rule_is.TypeMismatch (value_span e)) ∷ ((is_past e, at m rule_is.LiteralRange (span_of e)) ∷ [])
 
 -- a value whose type is known, and is not right
 abbrev pub wrong : ℕ → Bool → Expr → Bool × Fault
-wrong m right e = (knows e && not right, at m rule_is.TypeMismatch (span_of e))
+wrong m right e = (knows e && not right, at m rule_is.TypeMismatch (value_span e))
 
 -- a value of which something is asked
 abbrev pub right_tests : ℕ → Bool → Expr → List (Bool × Fault)
@@ -90,7 +104,7 @@ condition_tests m e = right_tests m (is_boolean (type_of e)) e
 -- A value that goes to a target of a type. A literal past that type doesn't go there, and breaks no other rule.
 abbrev pub target_tests : ℕ → Ty → Expr → List (Bool × Fault)
 target_tests m t e =
-    (is_no_value e, at m rule_is.TypeMismatch (span_of e)) ∷ ((is_known t && not (value_goes t e), at m rule_is.NotAssignable (span_of e)) ∷ ((not (is_known t) && is_past e, at m rule_is.LiteralRange (span_of e)) ∷ []))
+    (is_no_value e, at m rule_is.TypeMismatch (value_span e)) ∷ ((is_known t && not (value_goes t e), at m rule_is.NotAssignable (value_span e)) ∷ ((not (is_known t) && is_past e, at m rule_is.LiteralRange (span_of e)) ∷ []))
 
 -- what can't stand in a type that is written
 abbrev pub misplaced_at : ℕ → Option Span → List (Bool × Fault)

@@ -8,17 +8,19 @@ ghost use Rattle.sp_body_rules.specs.ExprTests.{argument_goes, argument_fits, ar
 
 use crate::facts::Facts;
 use crate::rows::note_values;
-use crate::values::{is_new, is_no_value, is_past, is_valueless, knows, note_at, note_value};
+use crate::values::{
+    is_new, is_no_value, is_past, is_valueless, knows, note_at, note_value, value_span,
+};
 use sp_base::{NoMemory, Span};
+use sp_operands::{is_integer, seen};
 use sp_rules::{Fault, Rule};
 use sp_typed::{Expr, ExprLevel, LeafOp, ManyOp, OneOp, SinkMethod, TwoOp, UnitMethod};
 use sp_types::{Level, Maker, Type};
-use sp_typing::{is_integer, is_over, seen};
 
 fn argument_goes(to: &Type, e: &Expr) -> bool
     ensures { result ≡ argument_goes to.now e.now }
 {
-    !is_past(e) && (is_over(e) || is_valueless(e.ty()) || e.ty().goes(to))
+    !is_past(e) && (is_valueless(e.ty()) || e.ty().goes(to))
 }
 
 fn argument_fits(to: Option<Type>, e: &Expr) -> bool
@@ -61,7 +63,7 @@ fn note_arguments(owner: u32, starts: bool, arguments: &[Expr], least: &mut Opti
 {
     for e in arguments {
         let test = is_no_value(e) && !(starts && is_new(e.ty()));
-        note_at(test, owner, Rule::TypeMismatch, e.span(), least);
+        note_at(test, owner, Rule::TypeMismatch, value_span(e), least);
     }
 }
 
@@ -69,7 +71,7 @@ fn note_arguments(owner: u32, starts: bool, arguments: &[Expr], least: &mut Opti
 fn is_convertible(e: &Expr) -> bool
     ensures { result ≡ is_convertible e.now }
 {
-    !is_past(e) && (is_over(e) || is_valueless(e.ty()) || !knows(e) || is_integer(e.ty()))
+    !is_past(e) && (!e.ty().is_known() || is_valueless(e.ty()) || is_integer(e.ty()))
 }
 
 /// Whether these are one such expression.
@@ -227,7 +229,7 @@ pub(crate) fn note_uncalled(owner: u32, parts: &[Expr], least: &mut Option<Fault
 {
     if let Some((e, arguments)) = parts.split_first() {
         note_value(owner, e, least);
-        note_at(knows(e), owner, Rule::TypeMismatch, e.span(), least);
+        note_at(knows(e), owner, Rule::TypeMismatch, value_span(e), least);
         note_values(owner, arguments, least);
     }
 }

@@ -20,9 +20,11 @@ pub use calls::note_call;
 pub use ends::ends_well;
 pub use facts::{Constancy, Facts};
 pub use laws::least_of_broken;
+pub use rows::unlike;
 pub use stmts::{is_sink, is_unit, note_case};
 pub use sweep::note_expr;
 pub use types::{is_bytes, is_unsigned};
 pub use values::{
-    is_void, note_at, note_condition, note_right, note_target, note_value, note_written, value_goes,
+    is_regex, note_at, note_condition, note_right, note_target, note_value, note_written,
+    value_goes, value_span,
 };

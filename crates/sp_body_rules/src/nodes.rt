@@ -3,7 +3,7 @@ ghost use Rattle.std.specs.Prelude.{◌≡◌, ◌&&◌, ◌||◌, not, if◌the
 ghost use Rattle.sp_rules.specs.Least.{better, checked};
 ghost use Rattle.sp_types.specs.Types.{is_key};
 ghost use Rattle.sp_typed.specs.Exprs.{type_of, span_of, exprs};
-ghost use Rattle.sp_typing.specs.Operands.{is_unsigned, stands_before, stands_behind};
+ghost use Rattle.sp_operands.specs.Operands.{is_unsigned, stands_before, stands_behind};
 ghost use Rattle.sp_body_rules.specs.Known.{Known};
 ghost use Rattle.sp_body_rules.specs.Values.{at};
 ghost use Rattle.sp_body_rules.specs.ExprTests.{is_unmeant, leaf_tests, negates, takes_no_cast, cast_tests, no_member_tests, one_tests, disagreeing, is_past_key, disagree, operand_tests, is_constant, is_not_constant, item_tests, key_tests, index_tests, two_tests, unlike, choice_tests, many_tests, expr_tests};
@@ -14,13 +14,13 @@ use crate::rows::{note_map, note_row, note_values, unlike};
 use crate::types::{is_enum, is_signed, is_unsigned};
 use crate::values::{
     is_past, knows, note_at, note_condition, note_right, note_value, note_written, note_wrong,
-    value_goes,
+    value_goes, value_span,
 };
 use sp_base::{NoMemory, Span};
+use sp_operands::{OperatorSort, has_size, is_integer, is_over, sort_of, stands_alone};
 use sp_rules::{Fault, Rule};
 use sp_typed::{Expr, ExprLevel, LeafOp, Many, ManyOp, One, OneOp, Standing, Two, TwoOp, Written};
 use sp_types::{Level, Maker, Type, Word};
-use sp_typing::{OperatorSort, has_size, is_integer, is_over, sort_of, stands_alone};
 use sp_words::UnaryOp;
 use std::alloc::Global;
 
@@ -139,7 +139,7 @@ fn note_operands(
     let apart = disagree(sort, a, b)?;
     note_right(sort.stands_before(a.ty()), owner, a, least);
     note_right(sort.stands_behind(b.ty()), owner, b, least);
-    let span = disagreeing(sort, a, b).span();
+    let span = value_span(disagreeing(sort, a, b));
     note_at(apart, owner, Rule::TypeMismatch, span, least);
     Ok(())
 }
@@ -161,7 +161,7 @@ fn note_item(owner: u32, constancy: Constancy, index: &Expr, least: &mut Option<
 {
     let known = knows(index);
     let past = known && (!is_unsigned(index.ty()) || is_constant(constancy));
-    note_at(past, owner, Rule::TypeMismatch, index.span(), least);
+    note_at(past, owner, Rule::TypeMismatch, value_span(index), least);
     let open = known && is_not_constant(constancy);
     note_at(open, owner, Rule::NotConstant, index.span(), least);
 }
@@ -170,7 +170,7 @@ fn note_key(owner: u32, to: &Type, index: &Expr, least: &mut Option<Fault>)
     ensures { least.new ≡ checked least.old (key_tests owner to.now index.now) }
 {
     let stays = !value_goes(to, index);
-    note_at(stays, owner, Rule::TypeMismatch, index.span(), least);
+    note_at(stays, owner, Rule::TypeMismatch, value_span(index), least);
 }
 
 fn note_index<F: Facts>(
@@ -235,7 +235,13 @@ fn note_choice(owner: u32, c: &Expr, a: &Expr, b: &Expr, least: &mut Option<Faul
     note_condition(owner, c, least);
     note_value(owner, a, least);
     note_value(owner, b, least);
-    note_at(unlike(a, b), owner, Rule::TypeMismatch, b.span(), least);
+    note_at(
+        unlike(a, b),
+        owner,
+        Rule::TypeMismatch,
+        value_span(b),
+        least,
+    );
 }
 
 fn note_many<F: Facts>(

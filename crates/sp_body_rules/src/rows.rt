@@ -5,13 +5,13 @@ ghost use Rattle.sp_typed.specs.Exprs.{exprs};
 ghost use Rattle.sp_body_rules.specs.Values.{at};
 ghost use Rattle.sp_body_rules.specs.ExprTests.{unlike, all_value_tests, element_tests, elements_tests, row_tests, entries_tests, map_tests};
 
-use crate::values::{knows, note_at, note_value, note_wrong};
+use crate::values::{knows, note_at, note_value, note_wrong, value_span};
 use sp_base::Span;
 use sp_rules::{Fault, Rule};
 use sp_typed::Expr;
 
 /// Whether two are of known types that are not the same.
-pub(crate) fn unlike(a: &Expr, b: &Expr) -> bool
+pub fn unlike(a: &Expr, b: &Expr) -> bool
     ensures { result ≡ unlike a.now b.now }
 {
     knows(a) && knows(b) && !a.ty().same(b.ty())
@@ -31,7 +31,13 @@ fn note_element(owner: u32, keyed: bool, first: &Expr, e: &Expr, least: &mut Opt
 {
     note_value(owner, e, least);
     note_wrong(!keyed || e.ty().is_key(), owner, e, least);
-    note_at(unlike(first, e), owner, Rule::TypeMismatch, e.span(), least);
+    note_at(
+        unlike(first, e),
+        owner,
+        Rule::TypeMismatch,
+        value_span(e),
+        least,
+    );
 }
 
 fn note_elements(owner: u32, keyed: bool, first: &Expr, parts: &[Expr], least: &mut Option<Fault>)

@@ -5,11 +5,11 @@ ghost use Rattle.sp_types.specs.Types.{tys};
 ghost use Rattle.sp_typed.specs.Exprs.{exprs};
 ghost use Rattle.sp_typed.specs.Stmts.{branch_row, case_row};
 ghost use Rattle.sp_typed.specs.Exprs.{type_of};
-ghost use Rattle.sp_typing.specs.Operands.{stands_before};
-ghost use Rattle.sp_typing.specs.declared.operators.OperatorSort.TheVariants as sort_is;
+ghost use Rattle.sp_operands.specs.Operands.{stands_before};
+ghost use Rattle.sp_operands.specs.declared.operators.OperatorSort.TheVariants as sort_is;
 ghost use Rattle.sp_body_rules.specs.Known.{Known};
 ghost use Rattle.sp_body_rules.specs.Values.{at, right_tests};
-ghost use Rattle.sp_body_rules.specs.StmtTests.{is_unit, is_sink, is_map, bare_local_tests, local_tests, bare_op_tests, return_tests, has_changed_keys, key_change_tests, change_tests, alone_tests, valued_op_tests, takes_target, assign_tests, print_tests, branches_tests, is_sequence, differs, case_tests, cases_tests, stmt_tests};
+ghost use Rattle.sp_body_rules.specs.StmtTests.{is_unit, is_sink, is_map, holds_none, bare_local_tests, local_tests, bare_op_tests, return_tests, has_changed_keys, key_change_tests, change_tests, alone_tests, valued_op_tests, takes_target, assign_tests, print_tests, branches_tests, is_sequence, differs, case_tests, cases_tests, stmt_tests};
 ghost use Rattle.sp_typed.specs.StmtViews.{stmt_of};
 
 use crate::calls::may_change;
@@ -18,13 +18,13 @@ use crate::printable::is_printable;
 use crate::types::{is_bytes, is_text};
 use crate::values::{
     is_no_value, is_past, is_set, is_void, knows, note_at, note_condition, note_right, note_target,
-    note_written, note_wrong,
+    note_written, note_wrong, value_span,
 };
 use sp_base::{NoMemory, Span};
+use sp_operands::{OperatorSort, is_integer, seen};
 use sp_rules::{Fault, Rule};
 use sp_typed::{BareOp, Expr, ExprLevel, Local, Stmt, StmtNode, TwoOp, ValuedOp, Written};
 use sp_types::{Level, Maker, Type, Word};
-use sp_typing::{OperatorSort, is_integer, seen};
 use sp_words::AssignOp;
 
 /// Whether a type is that of a unit.
@@ -47,13 +47,26 @@ fn is_map(t: &Type) -> bool
     matches!(t.level(), Level::Made(Maker::Map, _))
 }
 
+/// Whether a type is one of which a local holds no values: it is neither plain nor that of a unit.
+fn holds_none(t: &Type) -> bool
+    ensures { result ≡ holds_none t.now }
+{
+    t.is_known() && !(t.is_plain() || is_unit(t))
+}
+
 #[tactic(auto, using(crate::proofs::Swept::checked_more))]
 fn note_bare_local(owner: u32, ty: &Type, written: &Option<Written>, least: &mut Option<Fault>)
     ensures { least.new ≡ checked least.old (bare_local_tests owner ty.now written.now) }
 {
     if let Some(written) = written {
         note_written(owner, written, least);
-        note_at(is_unit(ty), owner, Rule::TypeMismatch, written.span, least);
+        note_at(
+            is_unit(ty) || holds_none(ty),
+            owner,
+            Rule::TypeMismatch,
+            written.span,
+            least,
+        );
     }
 }
 
@@ -71,6 +84,13 @@ fn note_local(
         None => note_right(!is_sink(value.ty()), owner, value, least),
         Some(written) => {
             note_written(owner, written, least);
+            note_at(
+                holds_none(ty),
+                owner,
+                Rule::TypeMismatch,
+                written.span,
+                least,
+            );
             note_target(owner, ty, value, least);
         }
     }
@@ -98,7 +118,13 @@ fn note_return(wanted: &Option<Type>, owner: u32, e: &Expr, least: &mut Option<F
 {
     match wanted {
         None => {
-            note_at(is_no_value(e), owner, Rule::TypeMismatch, e.span(), least);
+            note_at(
+                is_no_value(e),
+                owner,
+                Rule::TypeMismatch,
+                value_span(e),
+                least,
+            );
             note_at(true, owner, Rule::NotAssignable, e.span(), least);
         }
         Some(to) => note_target(owner, to, e, least),
@@ -154,7 +180,7 @@ fn note_alone(owner: u32, e: &Expr, least: &mut Option<Fault>)
     ensures { least.new ≡ checked least.old (alone_tests owner e.now) }
 {
     let test = is_no_value(e) && !is_void(e.ty());
-    note_at(test, owner, Rule::TypeMismatch, e.span(), least);
+    note_at(test, owner, Rule::TypeMismatch, value_span(e), least);
     note_at(is_past(e), owner, Rule::LiteralRange, e.span(), least);
 }
 
@@ -202,14 +228,19 @@ fn note_assign<F: Facts>(
         ≡ checked least.old (assign_tests (F.known facts.now) owner op target.now value.now)) }
 {
     let to = seen(target)?;
-    let span = target.span();
-    note_at(is_no_value(target), owner, Rule::TypeMismatch, span, least);
+    note_at(
+        is_no_value(target),
+        owner,
+        Rule::TypeMismatch,
+        value_span(target),
+        least,
+    );
     note_wrong(takes_target(op, target.ty()), owner, target, least);
     note_at(
         !may_change(facts, target),
         owner,
         Rule::NotAssignable,
-        span,
+        target.span(),
         least,
     );
     note_target(owner, &to, value, least);

@@ -1,6 +1,6 @@
 // Types by their words.
 ghost use Rattle.std.specs.Prelude.{◌≡◌};
-ghost use Rattle.sp_typing.specs.Operands.{is_unsigned, is_signed, is_boolean, is_bytes, is_text, is_enum};
+ghost use Rattle.sp_operands.specs.Operands.{is_unsigned, is_signed, is_boolean, is_bytes, is_text, is_enum};
 
 use sp_types::{Level, Type, Word};
 

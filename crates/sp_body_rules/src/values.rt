@@ -1,14 +1,14 @@
 // What is no value, what type is asked of an expression, and whether a value goes to a target.
 ghost use Rattle.std.specs.Prelude.{◌≡◌, if◌then◌else◌};
 ghost use Rattle.sp_rules.specs.Least.{better, checked};
-ghost use Rattle.sp_body_rules.specs.Values.{at, is_valueless, is_void, is_new, is_set, names_no_value, is_set_key, is_no_value, knows, is_past, value_goes, value_tests, wrong, right_tests, condition_tests, target_tests, misplaced_at, written_tests};
+ghost use Rattle.sp_body_rules.specs.Values.{at, is_valueless, is_regex, is_void, is_new, is_set, names_no_value, is_set_key, is_no_value, knows, is_past, value_goes, value_span, value_tests, wrong, right_tests, condition_tests, target_tests, misplaced_at, written_tests};
 
 use crate::types::is_boolean;
 use sp_base::Span;
+use sp_operands::is_over;
 use sp_rules::{Fault, Rule, note_if};
 use sp_typed::{Expr, ExprLevel, LeafOp, TwoOp, Written};
 use sp_types::{Level, Maker, Type, Word};
-use sp_typing::is_over;
 
 /// Notes a rule that is broken where the test holds, on a slice of the text of a module.
 pub fn note_at(test: bool, owner: u32, rule: Rule, span: Span, least: &mut Option<Fault>)
@@ -28,8 +28,15 @@ pub(crate) fn is_valueless(t: &Type) -> bool
     matches!(t.level(), Level::Word(Word::Void | Word::Regex | Word::New))
 }
 
+/// Whether a type is that of a regular expression.
+pub fn is_regex(t: &Type) -> bool
+    ensures { result ≡ is_regex t.now }
+{
+    matches!(t.level(), Level::Word(Word::Regex))
+}
+
 /// Whether a type is that of what gives nothing.
-pub fn is_void(t: &Type) -> bool
+pub(crate) fn is_void(t: &Type) -> bool
     ensures { result ≡ is_void t.now }
 {
     matches!(t.level(), Level::Word(Word::Void))
@@ -82,7 +89,7 @@ pub(crate) fn is_no_value(e: &Expr) -> bool
 pub(crate) fn knows(e: &Expr) -> bool
     ensures { result ≡ knows e.now }
 {
-    e.ty().is_known() && !is_over(e)
+    e.ty().is_known() && !is_past(e)
 }
 
 /// Whether it is a literal past the type of its place.
@@ -96,14 +103,36 @@ pub(crate) fn is_past(e: &Expr) -> bool
 pub fn value_goes(to: &Type, e: &Expr) -> bool
     ensures { result ≡ value_goes to.now e.now }
 {
-    !is_past(e) && (is_over(e) || e.ty().goes(to))
+    !is_past(e) && e.ty().goes(to)
+}
+
+/// Where it is said that an expression has no value, or one of a wrong type.
+pub fn value_span(e: &Expr) -> Span
+    ensures { result ≡ value_span e.now }
+{
+    match e.level() {
+        ExprLevel::Three(head, _, a, _) => {
+            if is_valueless(&head.ty) {
+                value_span(a)
+            } else {
+                head.span
+            }
+        }
+        _ => e.span(),
+    }
 }
 
 /// Notes what is wrong with an expression that stands as a value: that it has none, or that it is a literal past its type.
 pub fn note_value(owner: u32, e: &Expr, least: &mut Option<Fault>)
     ensures { least.new ≡ checked least.old (value_tests owner e.now) }
 {
-    note_at(is_no_value(e), owner, Rule::TypeMismatch, e.span(), least);
+    note_at(
+        is_no_value(e),
+        owner,
+        Rule::TypeMismatch,
+        value_span(e),
+        least,
+    );
     note_at(is_past(e), owner, Rule::LiteralRange, e.span(), least);
 }
 
@@ -117,7 +146,7 @@ pub(crate) fn note_wrong(right: bool, owner: u32, e: &Expr, least: &mut Option<F
         knows(e) && !right,
         owner,
         Rule::TypeMismatch,
-        e.span(),
+        value_span(e),
         least,
     );
 }
@@ -143,8 +172,14 @@ pub fn note_target(owner: u32, to: &Type, e: &Expr, least: &mut Option<Fault>)
 {
     let known = to.is_known();
     let stays = known && !value_goes(to, e);
-    note_at(is_no_value(e), owner, Rule::TypeMismatch, e.span(), least);
-    note_at(stays, owner, Rule::NotAssignable, e.span(), least);
+    note_at(
+        is_no_value(e),
+        owner,
+        Rule::TypeMismatch,
+        value_span(e),
+        least,
+    );
+    note_at(stays, owner, Rule::NotAssignable, value_span(e), least);
     note_at(
         !known && is_past(e),
         owner,

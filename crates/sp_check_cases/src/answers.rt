@@ -1,9 +1,10 @@
 // What the checker answers to a list, in the form of the lines.
 use sp_ast::Module;
 use sp_base::{MKind, Place, Span, place_of};
+use sp_check_unit::check;
 use sp_lex::{ReadFault, lex};
 use sp_read_unit::read_module;
-use sp_scope::{CheckFault, resolve};
+use sp_scope::CheckFault;
 use std::alloc::{AllocError, Global};
 
 /// The line and column of a byte, or 0:0 where there is none.
@@ -58,7 +59,7 @@ fn modules_of(alloc: Global, texts: &[String]) -> Result<Result<Vec<Module>, Str
 
 /// What the checker says of the modules.
 fn checked(alloc: Global, modules: &[Module]) -> Result<(), CheckFault> {
-    resolve(alloc, modules)?;
+    let _ = check(alloc, modules)?;
     Ok(())
 }
 
@@ -75,22 +76,4 @@ pub fn answer(alloc: Global, texts: &[String]) -> Result<String, AllocError> {
         }
         Err(CheckFault::NoMemory) => Err(AllocError),
     }
-}
-
-/// Whether the rule of a refusal may not be asked here. Of members and of other names it is one number.
-fn may_pass(wanted: &str) -> bool {
-    let rule = match wanted.split_once(" ") {
-        Some((_, rule)) => rule,
-        None => wanted,
-    };
-    let number = match rule.split_once(" ") {
-        Some((number, _)) => number,
-        None => rule,
-    };
-    !matches!(number, "M6" | "M7" | "M21")
-}
-
-/// Whether the answer is right where that one is wanted.
-pub fn is_right(wanted: &str, got: &str) -> bool {
-    got == wanted || (got == "ok" && may_pass(wanted))
 }

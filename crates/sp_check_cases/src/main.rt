@@ -1,13 +1,13 @@
 // Reads lists of modules with the answers that the checker must have, and tells which have another. A line of `@` and an
 // answer begins a list, and a line of `@` alone a further module of it; all other lines are the texts of the modules. What
 // stands before the first list is for readers. The answer is `ok`, or the refusal as `MODULE:LINE:COLUMN: NUMBER NAME`,
-// modules counted from 1 in the order of the list. A list that breaks only rules that are not asked here is answered by `ok`.
+// modules counted from 1 in the order of the list.
 #![tactic(auto)]
 
 mod answers;
 mod lists;
 
-use answers::{answer, is_right};
+use answers::answer;
 use lists::{List, Lists};
 use std::alloc::{AllocError, Global};
 use std::io;
@@ -16,7 +16,7 @@ use std::io;
 fn difference(alloc: Global, list: &List) -> Result<Option<String>, AllocError> {
     let wanted = list.wanted();
     let got = answer(alloc, list.texts())?;
-    if is_right(wanted, got.as_str()) {
+    if got.as_str() == wanted {
         return Ok(None);
     }
     let line = list.line();

@@ -110,6 +110,13 @@ impl<'a> Checked<'a> {
         &self.typed
     }
 
+    /// What is typed of the list, moved.
+    pub fn into_typed(self) -> Typed
+        ensures { result ≡ self.entry.typed }
+    {
+        self.typed
+    }
+
     /// The number of the parser of a path, as `M::U`: a public unit without parameters that is no filter. Takes no memory.
     pub fn parser(&self, path: &str) -> Option<u32>
         ensures { result ≡ parser_from path.now 0 self.now.typed.units }

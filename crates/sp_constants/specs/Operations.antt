@@ -1,5 +1,5 @@
 -- What operators make of constants. Where an operator doesn't take the values, another rule is broken, and nothing is known.
-use Rattle.std.specs.Prelude.{ℕ, ℤ, pos, neg_ℤ, Bool, true, false, List, [], ◌∷◌, Option, Some, None, Result, Ok, Err, slice_get, if◌then◌else◌}
+use Rattle.std.specs.Prelude.{ℕ, ◌==◌, ℤ, pos, neg_ℤ, Bool, true, false, List, [], ◌∷◌, Option, Some, None, Result, Ok, Err, slice_get, if◌then◌else◌}
 use Rattle.sp_base.specs.declared.kinds.PKind.{PKind}
 use Rattle.sp_base.specs.declared.kinds.PKind.TheVariants.{CastRange}
 use Rattle.sp_numbers.specs.declared.width.Width.TheVariants.{W64}
@@ -52,8 +52,17 @@ literal (word (word_is.Uint w)) n = if_within (uint w) (unsigned_or CastRange w 
 literal (word (word_is.Int w)) n = if_within (int w) (signed_or CastRange w (pos n))
 literal _ n = Unknown
 
--- and a literal with a minus sign
+-- a number whose type is written before it is an error past that type
+abbrev pub or_error_past : Outcome → Outcome
+or_error_past Unknown = Error
+or_error_past o = o
+
+abbrev pub typed_number : Ty → ℕ → Outcome
+typed_number t n = or_error_past (literal t n)
+
+-- and a literal with a minus sign; an unsigned type has none of these but a zero
 abbrev pub negative_literal : Ty → ℕ → Outcome
+negative_literal (word (word_is.Uint w)) n = if n == 0 then literal (word (word_is.Uint w)) 0 else Unknown
 negative_literal (word (word_is.Int w)) n = if_within (int w) (signed_or CastRange w (neg_ℤ (pos n)))
 negative_literal _ n = Unknown
 

@@ -128,8 +128,17 @@ least_byte = refl
 past_least : value_of known (minus (word (word_is.Int W8)) 129) ≡ Unknown
 past_least = refl
 
-past_byte : value_of known (small 256) ≡ Unknown
+past_byte : value_of known (leaf_of byte (leaf_is.Number 256)) ≡ Unknown
 past_byte = refl
+
+typed_past_byte : value_of known (small 256) ≡ Error
+typed_past_byte = refl
+
+signed_zero : value_of known (minus byte 0) ≡ Value (uint W8 0)
+signed_zero = refl
+
+below_zero : value_of known (minus byte 1) ≡ Unknown
+below_zero = refl
 
 too_wide : value_of known (one (record { span = here; ty = byte; op = one_is.Widen }) (number 65535)) ≡ Error
 too_wide = refl

@@ -18,14 +18,14 @@ use Rattle.sp_constants.specs.declared.outcome.Outcome.{Outcome}
 use Rattle.sp_constants.specs.declared.outcome.Outcome.TheVariants.{Value, Regex, NotConstant, Error, Unknown}
 use Rattle.sp_constants.specs.Known.{Known}
 use Rattle.sp_constants.specs.Outcomes.{of_one, of_two, of_all, both_hold, either_holds, chosen, if_constant, used}
-use Rattle.sp_constants.specs.Operations.{operated, operated_on, sized, cast_to, literal, negative_literal, empty, indexed, member, makes_row, row_of}
+use Rattle.sp_constants.specs.Operations.{operated, operated_on, sized, cast_to, literal, typed_number, negative_literal, empty, indexed, member, makes_row, row_of}
 
 -- what has no parts
 abbrev pub leaf_value : Known → Ty → LeafOp → Outcome
 leaf_value k t leaf_is.True = Value (bool true)
 leaf_value k t leaf_is.False = Value (bool false)
 leaf_value k t (leaf_is.Number n) = literal t n
-leaf_value k t (leaf_is.TypedNumber n) = literal t n
+leaf_value k t (leaf_is.TypedNumber n) = typed_number t n
 leaf_value k t (leaf_is.Text text) = Value (str text)
 leaf_value k t (leaf_is.Bytes b) = Value (bytes b)
 leaf_value k t (leaf_is.Regex text) = Regex text

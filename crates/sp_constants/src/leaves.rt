@@ -5,7 +5,7 @@ ghost use Rattle.sp_value.specs.Val.{uint, int, str, bytes};
 ghost use Rattle.sp_constants.specs.declared.outcome.Outcome.TheVariants as outcome_is;
 ghost use Rattle.sp_numbers.specs.Numbers.{fits_signed, unsigned_or, signed_or};
 ghost use Rattle.sp_constants.specs.Outcomes.{used};
-ghost use Rattle.sp_constants.specs.Operations.{if_within, literal, negative_literal, empty};
+ghost use Rattle.sp_constants.specs.Operations.{if_within, literal, typed_number, negative_literal, empty};
 ghost use Rattle.sp_constants.specs.Values.{leaf_value};
 
 use crate::constants::Constants;
@@ -48,6 +48,16 @@ fn literal(ty: &Type, n: u64) -> Outcome
     }
 }
 
+/// A number whose type is written before it: an error past that type.
+fn typed_number(ty: &Type, n: u64) -> Outcome
+    ensures { result ≡ typed_number ty.now n }
+{
+    match literal(ty, n) {
+        Outcome::Unknown => Outcome::Error,
+        found => found,
+    }
+}
+
 /// A number with a minus sign as a signed integer of the width.
 fn negated(width: Width, n: u64) -> Result<i64, PKind>
     ensures value { result ≡ signed_or CastRange width (neg_ℤ (pos n)) }
@@ -76,6 +86,7 @@ pub(crate) fn negative_literal(ty: &Type, n: u64) -> Outcome
     ensures { result ≡ negative_literal ty.now n }
 {
     match ty.level() {
+        Level::Word(Word::Uint(width)) if n == 0 => unsigned_literal(width, 0),
         Level::Word(Word::Int(width)) => negative_of(width, n),
         _ => Outcome::Unknown,
     }
@@ -127,7 +138,8 @@ pub(crate) fn leaf_value<C: Constants>(
     match op {
         LeafOp::True => Ok(Measured::small(Outcome::Value(Value::bool(true)))),
         LeafOp::False => Ok(Measured::small(Outcome::Value(Value::bool(false)))),
-        LeafOp::Number(n) | LeafOp::TypedNumber(n) => Ok(Measured::small(literal(ty, *n))),
+        LeafOp::Number(n) => Ok(Measured::small(literal(ty, *n))),
+        LeafOp::TypedNumber(n) => Ok(Measured::small(typed_number(ty, *n))),
         LeafOp::Text(text) => text_value(text),
         LeafOp::Bytes(list) => bytes_value(list),
         LeafOp::Regex(text) => Ok(Measured::small(Outcome::Regex(text.copy()?))),

@@ -23,7 +23,7 @@ use Rattle.sp_typed.specs.Exprs.{Expr, Exprs, is_minus, is_number}
 use Rattle.sp_typed.specs.Exprs as expr
 use Rattle.sp_typing.specs.declared.context.Callable.{Callable}
 use Rattle.sp_typing.specs.Contexts.{Around}
-use Rattle.sp_typing.specs.Literals.{seen}
+use Rattle.sp_operands.specs.Literals.{seen}
 use Rattle.sp_typing.specs.Typing.{typed, typed_all, pairs_typed}
 use Rattle.sp_typing.specs.Typing as typing
 use Rattle.sp_names.specs.declared.sort.DeclSort.{DeclSort}

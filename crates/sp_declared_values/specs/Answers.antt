@@ -8,8 +8,8 @@ use Rattle.sp_typed.specs.Exprs.{Expr}
 use Rattle.sp_solver.specs.Told.{told}
 use Rattle.sp_names.specs.Declarations.{library_enums}
 use Rattle.sp_typing.specs.Contexts.{Around}
-use Rattle.sp_typing.specs.Operands.{unknown}
-use Rattle.sp_typing.specs.Literals.{seen, unsigned_literal}
+use Rattle.sp_operands.specs.Operands.{unknown}
+use Rattle.sp_operands.specs.Literals.{seen, unsigned_literal}
 use Rattle.sp_typing.specs.Typing.{typed, to_target, to_maybe}
 use Rattle.sp_around.specs.Arounds.{Facts, stored_by, around}
 use Rattle.sp_constants.specs.declared.outcome.Outcome.{Outcome}

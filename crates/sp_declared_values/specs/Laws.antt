@@ -17,7 +17,7 @@ use Rattle.sp_names.specs.declared.sort.Meaning.TheVariants as meaning_is
 use Rattle.sp_names.specs.Declarations.{sort_at, number_at, all_of, type_tree_of, library_enums}
 use Rattle.sp_names.specs.Names.{declaration_of, enum_labels, labels_of, own_labels, path_means}
 use Rattle.sp_names.specs.Types.{one_or_none}
-use Rattle.sp_typing.specs.Literals.{unsigned_literal}
+use Rattle.sp_operands.specs.Literals.{unsigned_literal}
 use Rattle.sp_typing.specs.Typing.{typed, to_maybe, to_target}
 use Rattle.sp_constants.specs.declared.outcome.Outcome.{Outcome}
 use Rattle.sp_constants.specs.Values.{value_of}

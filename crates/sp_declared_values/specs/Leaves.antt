@@ -17,8 +17,8 @@ use Rattle.sp_typed.specs.Exprs.{Expr, Exprs, leaf, one, two, three, many, none,
 use Rattle.sp_typing.specs.declared.context.Member.{Member}
 use Rattle.sp_typing.specs.declared.context.Callable.{Callable}
 use Rattle.sp_typing.specs.Contexts.{Around}
-use Rattle.sp_typing.specs.Operands.{unknown, first_type, key_of, sort_of}
-use Rattle.sp_typing.specs.Literals.{number_of, is_negative, can_take, taken, seen, literal_word}
+use Rattle.sp_operands.specs.Operands.{unknown, first_type, key_of, sort_of}
+use Rattle.sp_operands.specs.Literals.{is_negative, can_take, taken, seen, literal_word}
 use Rattle.sp_typing.specs.Typing as typing
 
 module _ (Is : LeafOp → Type 0) where
@@ -58,7 +58,7 @@ module _ (Is : LeafOp → Type 0) where
   settled_holds w e h = by_bool (is_literal e) (retyped (word w) e) e (retyped_holds (word w) e h) h
 
   taken_holds : (t : Ty) (e : Expr) → Holds e → Holds (taken t e)
-  taken_holds (word w) e h = by_bool (is_literal e && can_take w (is_negative e) (number_of e)) (settled w e) e (settled_holds w e h) h
+  taken_holds (word w) e h = by_bool (is_literal e && can_take w) (settled w e) e (settled_holds w e h) h
   taken_holds (made m ts) e h = h
 
   widened_holds : (t : Ty) (e : Expr) → Holds e → Holds (typing.widened t e)

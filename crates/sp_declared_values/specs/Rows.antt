@@ -18,7 +18,7 @@ use Rattle.sp_types.specs.declared.words.Word.TheVariants as word_is
 use Rattle.sp_solver.specs.Rounds.{round}
 use Rattle.sp_dependencies.specs.Tries.{tries}
 use Rattle.sp_names.specs.Aliases.{tries as type_tries}
-use Rattle.sp_typing.specs.Operands.{unknown, boolean}
+use Rattle.sp_operands.specs.Operands.{unknown, boolean}
 use Rattle.sp_constants.specs.declared.outcome.Outcome.TheVariants.{Value, NotConstant, Unknown}
 use Rattle.sp_declared_values.specs.declared.answer.Answer.{Answer}
 use Rattle.sp_declared_values.specs.Valued.{valued, label_place, needs}

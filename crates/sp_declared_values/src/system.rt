@@ -19,9 +19,10 @@ use sp_base::NoMemory;
 use sp_constants::{Measured, constant_value, first_label, label_value, next_label, value_of};
 use sp_dependencies::{Dependent, answers_of};
 use sp_numbers::Width;
+use sp_operands::seen;
 use sp_typed::Expr;
 use sp_types::{Type, Word};
-use sp_typing::{seen, to_maybe, to_target, typed};
+use sp_typing::{to_maybe, to_target, typed};
 use std::alloc::Global;
 
 /// The type of a constant: the one that is written, else that of its value.

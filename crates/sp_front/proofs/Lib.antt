@@ -1,3 +1,5 @@
 pub mod Missing
 pub mod Following
 pub mod Noting
+pub mod Single
+pub mod FirstNamed

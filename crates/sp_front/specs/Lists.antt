@@ -1,6 +1,6 @@
 -- The list of modules: the named files in order, then each further import in the order of its first mention, the list being gone
 -- through from its front.
-use Rattle.std.specs.Prelude.{◌≡◌, ◌⊎◌, ◌<◌, ◌≤◌, ℕ, Bool, true, false, ◌||◌, not, nat_le, List, [], ◌∷◌, ◌++◌, length, filter, take, drop, Option, Some, None}
+use Rattle.std.specs.Prelude.{◌≡◌, ◌⊎◌, ◌<◌, ◌≤◌, ℕ, Bool, true, false, ◌||◌, not, nat_le, List, [], ◌∷◌, ◌++◌, length, filter, take, drop, Option, Some, None, map}
 use Rattle.sp_base.specs.declared.kinds.MKind.{MKind}
 use Rattle.sp_base.specs.declared.kinds.MKind.TheVariants.{ModuleNotFound, ModuleTwice, TooMany}
 use Rattle.sp_base.specs.declared.places.Place.{Place}
@@ -153,6 +153,13 @@ AreEntries files names dirs es = (named more : List Entry) × AreNamedFiles file
 abbrev pub entries_of : List ModuleFile → List Entry
 entries_of [] = []
 entries_of (f ∷ fs) = Held f ∷ entries_of fs
+
+-- the paths of the files of a list
+abbrev pub path_of : ModuleFile → List ℕ
+path_of f = f.path
+
+abbrev pub paths_in : List ModuleFile → List (List ℕ)
+paths_in fs = map path_of fs
 
 -- These files are the list: all named files and all imports are modules, and none is missing.
 abbrev pub IsList : Files → List (List ℕ) → List (List ℕ) → List ModuleFile → Type 0

@@ -4,12 +4,16 @@
 mod entries;
 mod follow;
 mod imports;
+mod laws;
 mod list;
 mod named;
 mod paths;
+mod places;
 mod seen;
 #[cfg(test)]
 mod tests;
 
 pub use entries::ModuleFile;
+pub use laws::{list_is_one, named_files_come_first};
 pub use list::read_list;
+pub use places::place_in;

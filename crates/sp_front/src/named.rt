@@ -4,7 +4,7 @@ ghost use Rattle.sp_command.specs.Files.{Holds};
 ghost use Rattle.sp_names.specs.Declarations.{module_name};
 ghost use Rattle.sp_names.specs.Faults.{is_reserved};
 ghost use Rattle.sp_read_file.specs.Loads.{UnreadCause};
-ghost use Rattle.sp_read_file.specs.Files.{place_in, refused_at};
+ghost use Rattle.sp_read_file.specs.Files.{refused_at};
 ghost use Rattle.sp_front.specs.declared.entries.Entry.{Entry};
 ghost use Rattle.sp_front.specs.declared.entries.Entry.TheVariants as entry_is;
 ghost use Rattle.sp_front.specs.Lists.{Files, at, is_taken, most_modules, name_place, nowhere, IsNamed, AreNamedFiles};
@@ -13,9 +13,10 @@ ghost use Rattle.sp_front.specs.inside.Seen.{AreSeen};
 
 use crate::entries::{Entry, ModuleFile};
 use crate::paths::read;
+use crate::places::place_in;
 use crate::seen::Seen;
 use sp_ast::Module;
-use sp_base::{ByteList, MKind, NoMemory, Place, Text, place_of};
+use sp_base::{ByteList, MKind, NoMemory, Place, Text};
 use sp_command::Refusal;
 use sp_io::Modules;
 use sp_read_file::{Unread, read_text};
@@ -36,21 +37,6 @@ pub(crate) fn is_reserved(name: &str) -> bool
     ensures { result ≡ is_reserved name.now }
 {
     name == "spicy" || name == "filter"
-}
-
-/// The line and the column of a byte of a text; behind its end, those of the end.
-fn place_in(text: &[u8], at: u32) -> Result<Place, NoMemory>
-    ensures { IfOk result (λ place. place ≡ place_in text.now at) }
-{
-    if at == u32::MAX {
-        return Err(NoMemory);
-    }
-    let inside = if (at as usize) < text.len() {
-        at
-    } else {
-        text.len() as u32
-    };
-    Ok(place_of(text, inside))
 }
 
 /// A refusal at a place in the text of a file.

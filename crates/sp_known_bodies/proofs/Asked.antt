@@ -15,18 +15,18 @@ use Rattle.sp_typed.specs.declared.words.ManyOp.{ManyOp}
 use Rattle.sp_typed.specs.declared.words.ManyOp.TheVariants as many_is
 use Rattle.sp_typed.specs.Exprs.{Expr, Exprs, leaf, one, two, three, many, none, more, type_of, span_of, is_number, is_literal}
 use Rattle.sp_typed.specs.Nodes.{word_many}
-use Rattle.sp_typing.specs.declared.operators.OperatorSort.{OperatorSort}
-use Rattle.sp_typing.specs.declared.operators.OperatorSort.TheVariants as sort_is
-use Rattle.sp_typing.specs.Operands.{unknown, is_unsigned, is_signed, is_integer, is_enum, sort_of, stands_before, stands_behind, stands_alone, agree, has_size, key_of}
-use Rattle.sp_typing.specs.Literals.{is_over, seen}
+use Rattle.sp_operands.specs.declared.operators.OperatorSort.{OperatorSort}
+use Rattle.sp_operands.specs.declared.operators.OperatorSort.TheVariants as sort_is
+use Rattle.sp_operands.specs.Operands.{unknown, is_unsigned, is_signed, is_integer, is_enum, sort_of, stands_before, stands_behind, stands_alone, agree, has_size, key_of}
+use Rattle.sp_operands.specs.Literals.{is_over, seen}
 use Rattle.sp_typing_stmts.specs.Owners.{with_slot_of}
 use Rattle.sp_body_rules.specs.declared.facts.Constancy.{Constancy}
 use Rattle.sp_body_rules.specs.Known.{Known}
-use Rattle.sp_body_rules.specs.Values.{at, is_no_value, is_valueless, is_new, written_tests, value_tests}
+use Rattle.sp_body_rules.specs.Values.{at, is_no_value, is_valueless, is_new, value_span, written_tests, value_tests}
 use Rattle.sp_body_rules.specs.ExprTests.{takes_no_cast, one_op_tests, disagreeing, is_past_key, operand_tests, is_constant, is_not_constant, index_tests, two_op_tests, choice_tests, all_value_tests, element_tests, elements_tests, row_tests, entries_tests, map_tests, argument_fits, arguments_fit, connects, argument_tests, converts, convert_tests, call_tests, is_element, may_change, is_of_self, receiver_tests, method_tests, uncalled_tests, many_op_tests, expr_tests}
 use Rattle.sp_words.specs.Methods.{changes}
 use Rattle.sp_known_bodies.specs.Slots.{plain, all_plain, IsBlind}
-use Rattle.sp_known_bodies.proofs.Slots.{type_plain, span_plain, no_value_plain, is_number_plain, literal_plain, over_plain, itself_plain}
+use Rattle.sp_known_bodies.proofs.Slots.{type_plain, span_plain, value_span_plain, no_value_plain, is_number_plain, literal_plain, over_plain, itself_plain}
 
 -- what most rules ask of an expression
 record Shown : Type 0 where
@@ -34,30 +34,35 @@ record Shown : Type 0 where
   literal : Bool
   over : Bool
   number : Bool
+  first : Span
   span : Span
   ty : Ty
 
-abbrev shown_by : Bool → Bool → Bool → Bool → Span → Ty → Shown
-shown_by v l o n s t = record { no_value = v; literal = l; over = o; number = n; span = s; ty = t }
+abbrev shown_by : Bool → Bool → Bool → Bool → Span → Span → Ty → Shown
+shown_by v l o n f s t = record { no_value = v; literal = l; over = o; number = n; first = f; span = s; ty = t }
 
 abbrev shown : Expr → Shown
-shown e = shown_by (is_no_value e) (is_literal e) (is_over e) (is_number e) (span_of e) (type_of e)
+shown e = shown_by (is_no_value e) (is_literal e) (is_over e) (is_number e) (span_of e) (value_span e) (type_of e)
 
 shown_plain : (e : Expr) → shown (plain e) ≡ shown e
 shown_plain e =
-    ap (λ b. shown_by b (is_literal (plain e)) (is_over (plain e)) (is_number (plain e)) (span_of (plain e)) (type_of (plain e))) (no_value_plain e)
-    ∙ ap (λ b. shown_by (is_no_value e) b (is_over (plain e)) (is_number (plain e)) (span_of (plain e)) (type_of (plain e))) (literal_plain e)
-    ∙ ap (λ b. shown_by (is_no_value e) (is_literal e) b (is_number (plain e)) (span_of (plain e)) (type_of (plain e))) (over_plain e)
-    ∙ ap (λ b. shown_by (is_no_value e) (is_literal e) (is_over e) b (span_of (plain e)) (type_of (plain e))) (is_number_plain e)
-    ∙ ap (λ p. shown_by (is_no_value e) (is_literal e) (is_over e) (is_number e) p (type_of (plain e))) (span_plain e)
-    ∙ ap (λ t. shown_by (is_no_value e) (is_literal e) (is_over e) (is_number e) (span_of e) t) (type_plain e)
+    ap (λ b. shown_by b (is_literal (plain e)) (is_over (plain e)) (is_number (plain e)) (span_of (plain e)) (value_span (plain e)) (type_of (plain e))) (no_value_plain e)
+    ∙ ap (λ b. shown_by (is_no_value e) b (is_over (plain e)) (is_number (plain e)) (span_of (plain e)) (value_span (plain e)) (type_of (plain e))) (literal_plain e)
+    ∙ ap (λ b. shown_by (is_no_value e) (is_literal e) b (is_number (plain e)) (span_of (plain e)) (value_span (plain e)) (type_of (plain e))) (over_plain e)
+    ∙ ap (λ b. shown_by (is_no_value e) (is_literal e) (is_over e) b (span_of (plain e)) (value_span (plain e)) (type_of (plain e))) (is_number_plain e)
+    ∙ ap (λ p. shown_by (is_no_value e) (is_literal e) (is_over e) (is_number e) p (value_span (plain e)) (type_of (plain e))) (span_plain e)
+    ∙ ap (λ p. shown_by (is_no_value e) (is_literal e) (is_over e) (is_number e) (span_of e) p (type_of (plain e))) (value_span_plain e)
+    ∙ ap (λ t. shown_by (is_no_value e) (is_literal e) (is_over e) (is_number e) (span_of e) (value_span e) t) (type_plain e)
 
 -- tests by what is shown
+abbrev past_by : Shown → Bool
+past_by s = s.literal && s.over
+
 abbrev value_by : ℕ → Shown → List (Bool × Fault)
-value_by m s = (s.no_value, at m rule_is.TypeMismatch s.span) ∷ ((s.literal && s.over, at m rule_is.LiteralRange s.span) ∷ [])
+value_by m s = (s.no_value, at m rule_is.TypeMismatch s.span) ∷ ((past_by s, at m rule_is.LiteralRange s.first) ∷ [])
 
 abbrev knows_by : Shown → Bool
-knows_by s = is_known s.ty && not s.over
+knows_by s = is_known s.ty && not (past_by s)
 
 abbrev wrong_by : ℕ → Bool → Shown → Bool × Fault
 wrong_by m right s = (knows_by s && not right, at m rule_is.TypeMismatch s.span)
@@ -66,10 +71,10 @@ abbrev right_by : ℕ → Bool → Shown → List (Bool × Fault)
 right_by m right s = value_by m s ++ (wrong_by m right s ∷ [])
 
 abbrev goes_by : Ty → Shown → Bool
-goes_by t s = not (s.literal && s.over) && (s.over || goes s.ty t)
+goes_by t s = not (past_by s) && goes s.ty t
 
 abbrev seen_by : Shown → Ty
-seen_by s = if s.over then unknown else s.ty
+seen_by s = if past_by s then unknown else s.ty
 
 abbrev unlike_by : Shown → Shown → Bool
 unlike_by s t = knows_by s && knows_by t && not (same s.ty t.ty)
@@ -91,12 +96,12 @@ one_plain m t _ e = ap (value_by m) (shown_plain e)
 
 -- what is done to two
 past_key_plain : (sort : OperatorSort) (e : Expr) → is_past_key sort (plain e) ≡ is_past_key sort e
-past_key_plain sort_is.Member e = ap (λ (s : Shown). s.literal && s.over) (shown_plain e)
+past_key_plain sort_is.Member e = ap past_by (shown_plain e)
 past_key_plain _ e = refl
 
-disagreeing_plain : (sort : OperatorSort) (a b : Expr) → span_of (disagreeing sort (plain a) (plain b)) ≡ span_of (disagreeing sort a b)
-disagreeing_plain sort_is.Member a b = span_plain a
-disagreeing_plain _ a b = span_plain b
+disagreeing_plain : (sort : OperatorSort) (a b : Expr) → value_span (disagreeing sort (plain a) (plain b)) ≡ value_span (disagreeing sort a b)
+disagreeing_plain sort_is.Member a b = value_span_plain a
+disagreeing_plain _ a b = value_span_plain b
 
 abbrev operands_by : ℕ → OperatorSort → Shown → Shown → Bool → Span → List (Bool × Fault)
 operands_by m sort s t past at_fault =
@@ -105,7 +110,7 @@ operands_by m sort s t past at_fault =
 operands_plain : (m : ℕ) (sort : OperatorSort) (a b : Expr) → operand_tests m sort (plain a) (plain b) ≡ operand_tests m sort a b
 operands_plain m sort a b =
     let past = is_past_key sort (plain a) in
-    let place = span_of (disagreeing sort (plain a) (plain b)) in
+    let place = value_span (disagreeing sort (plain a) (plain b)) in
     ap (λ (s : Shown). operands_by m sort s (shown (plain b)) past place) (shown_plain a)
     ∙ ap (λ (t : Shown). operands_by m sort (shown a) t past place) (shown_plain b)
     ∙ ap (λ p. operands_by m sort (shown a) (shown b) p place) (past_key_plain sort a)
@@ -113,7 +118,7 @@ operands_plain m sort a b =
 
 abbrev item_by : ℕ → Constancy → Shown → List (Bool × Fault)
 item_by m c s =
-    (knows_by s && (not (is_unsigned s.ty) || is_constant c), at m rule_is.TypeMismatch s.span) ∷ ((knows_by s && is_not_constant c, at m rule_is.NotConstant s.span) ∷ [])
+    (knows_by s && (not (is_unsigned s.ty) || is_constant c), at m rule_is.TypeMismatch s.span) ∷ ((knows_by s && is_not_constant c, at m rule_is.NotConstant s.first) ∷ [])
 
 abbrev choice_by : ℕ → Shown → Shown → Shown → List (Bool × Fault)
 choice_by m c s t =
@@ -161,7 +166,7 @@ map_plain m span (more key (more value es)) = entries_plain m true key value (mo
 -- calls
 fits_plain : (o : Option Ty) (e : Expr) → argument_fits o (plain e) ≡ argument_fits o e
 fits_plain None e = refl
-fits_plain (Some t) e = ap (λ (s : Shown). not (s.literal && s.over) && (s.over || is_valueless s.ty || goes s.ty t)) (shown_plain e)
+fits_plain (Some t) e = ap (λ (s : Shown). not (past_by s) && (is_valueless s.ty || goes s.ty t)) (shown_plain e)
 
 all_fit_plain : (f g : ℕ → Option Ty) → ((n : ℕ) → f n ≡ g n) → (n : ℕ) (es : Exprs) → arguments_fit f n (all_plain es) ≡ arguments_fit g n es
 all_fit_plain f g is n none = ap is_none (is n)
@@ -174,11 +179,11 @@ arguments_plain : (m : ℕ) (starts : Bool) (es : Exprs) → argument_tests m st
 arguments_plain m starts none = refl
 arguments_plain m starts (more e es) =
     ap (λ (s : Shown). (s.no_value && not (starts && is_new s.ty), at m rule_is.TypeMismatch s.span) ∷ argument_tests m starts (all_plain es)) (shown_plain e)
-    ∙ ap (λ r. (is_no_value e && not (starts && is_new (type_of e)), at m rule_is.TypeMismatch (span_of e)) ∷ r) (arguments_plain m starts es)
+    ∙ ap (λ r. (is_no_value e && not (starts && is_new (type_of e)), at m rule_is.TypeMismatch (value_span e)) ∷ r) (arguments_plain m starts es)
 
 converts_plain : (es : Exprs) → converts (all_plain es) ≡ converts es
 converts_plain none = refl
-converts_plain (more e none) = ap (λ (s : Shown). not (s.literal && s.over) && (s.over || is_valueless s.ty || not (knows_by s) || is_integer s.ty)) (shown_plain e)
+converts_plain (more e none) = ap (λ (s : Shown). not (past_by s) && (not (is_known s.ty) || is_valueless s.ty || is_integer s.ty)) (shown_plain e)
 converts_plain (more e (more f es)) = refl
 
 convert_plain : (m : ℕ) (span : Span) (es : Exprs) → convert_tests m span (all_plain es) ≡ convert_tests m span es
@@ -193,7 +198,7 @@ uncalled_plain : (m : ℕ) (es : Exprs) → uncalled_tests m (all_plain es) ≡ 
 uncalled_plain m none = refl
 uncalled_plain m (more e es) =
     ap (λ (s : Shown). value_by m s ++ ((knows_by s, at m rule_is.TypeMismatch s.span) ∷ all_value_tests m (all_plain es))) (shown_plain e)
-    ∙ ap (λ r. value_tests m e ++ ((is_known (type_of e) && not (is_over e), at m rule_is.TypeMismatch (span_of e)) ∷ r)) (values_plain m es)
+    ∙ ap (λ r. value_tests m e ++ ((knows_by (shown e), at m rule_is.TypeMismatch (value_span e)) ∷ r)) (values_plain m es)
 
 pub word_slot : (op : ManyOp) → word_many (with_slot_of op None) ≡ word_many op
 word_slot (many_is.Method m old) = refl

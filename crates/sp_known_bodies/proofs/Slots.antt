@@ -1,14 +1,15 @@
 -- The slots of owners change nothing that a rule asks of an expression.
 use Rattle.std.specs.Prelude.{ℕ, Bool, false, not, ◌&&◌, ◌||◌, if◌then◌else◌, Option, None}
 use Rattle.std.proofs.Common.{◌≡◌, refl, ap, ◌∙◌}
+use Rattle.sp_base.specs.declared.places.Span.{Span}
 use Rattle.sp_types.specs.Types.{Ty}
 use Rattle.sp_typed.specs.declared.words.ManyOp.{ManyOp}
 use Rattle.sp_typed.specs.declared.words.ManyOp.TheVariants as many_is
 use Rattle.sp_typed.specs.Exprs.{Expr, Exprs, leaf, one, two, three, many, none, more, exprs, type_of, span_of, is_number, is_literal, is_minus}
-use Rattle.sp_typing.specs.Literals.{number_of, is_negative, type_has, is_typed_number, is_over}
+use Rattle.sp_operands.specs.Literals.{number_of, is_negative, type_has, is_typed_number, is_over}
 use Rattle.sp_typing_stmts.specs.Scopes.{Scope}
 use Rattle.sp_typing_stmts.specs.Owners.{with_slot_of, owner_slot, changed_owner, kept, all_kept}
-use Rattle.sp_body_rules.specs.Values.{is_no_value, is_set_key, is_valueless}
+use Rattle.sp_body_rules.specs.Values.{is_no_value, is_set_key, is_valueless, value_span}
 use Rattle.sp_body_rules.specs.ExprTests.{is_itself}
 use Rattle.sp_known_bodies.specs.Slots.{plain, all_plain}
 
@@ -56,6 +57,13 @@ span_plain (one h a) = refl
 span_plain (two h a b) = refl
 span_plain (three h a b c) = refl
 span_plain (many h es) = refl
+
+pub value_span_plain : (e : Expr) → value_span (plain e) ≡ value_span e
+value_span_plain (leaf h) = refl
+value_span_plain (one h a) = refl
+value_span_plain (two h a b) = refl
+value_span_plain (three h c a b) = ap (λ (s : Span). if is_valueless h.ty then s else h.span) (value_span_plain a)
+value_span_plain (many h es) = refl
 
 pub no_value_plain : (e : Expr) → is_no_value (plain e) ≡ is_no_value e
 no_value_plain (leaf h) = refl

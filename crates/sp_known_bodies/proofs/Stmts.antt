@@ -18,8 +18,8 @@ use Rattle.sp_typed.specs.Nodes.{holds, all_hold}
 use Rattle.sp_typed.specs.Stmts.{Stmt, block, branch, while_loop, for_loop, switch, stmts, branch_row}
 use Rattle.sp_typed.specs.StmtNodes.{stmts_in, stmts_in_all, stmts_in_branches, stmts_in_cases, nodes_hold, stmts_hold, branches_hold, cases_hold}
 use Rattle.sp_typing.specs.Contexts.{Around}
-use Rattle.sp_typing.specs.Operands.{first_type}
-use Rattle.sp_typing.specs.Literals.{seen, taken}
+use Rattle.sp_operands.specs.Operands.{first_type}
+use Rattle.sp_operands.specs.Literals.{seen, taken}
 use Rattle.sp_typing.specs.Typing.{typed, to_target, to_maybe}
 use Rattle.sp_typing_stmts.specs.declared.body.Body.{Body}
 use Rattle.sp_typing_stmts.specs.Scopes.{Scope, with_slot, closed}
@@ -28,7 +28,7 @@ use Rattle.sp_typing_stmts.specs.Owners.{owner}
 use Rattle.sp_typing_stmts.specs.Values.{value_in, values_in}
 use Rattle.sp_typing_stmts.specs.Statements.{valued_at, after_local, declared, loop_head, local_with, local_without, element_type, cases_of, typed_stmt, typed_stmts, typed_branches, typed_cases, typed_body}
 use Rattle.sp_body_rules.specs.Known.{Known}
-use Rattle.sp_body_rules.specs.Values.{target_tests, written_tests}
+use Rattle.sp_body_rules.specs.Values.{written_tests}
 use Rattle.sp_body_rules.specs.StmtTests.{is_sequence}
 use Rattle.sp_known_types.specs.Full.{has_parts, is_full, are_full, is_right, is_bare, holds_inside}
 use Rattle.sp_known_types.specs.Clear.{is_clear}
@@ -134,7 +134,7 @@ module _ (only : OneOp → Bool) (k : Known) (m : ℕ) (is_type is_path : Tree �
       let value = to_target t x.0 in
       let h = target_holds only k m t x.0 (value_holds sc e f is) in
       let tests = at_first k wanted m (valued_at span (valued_is.Local (declared x.1 name t (Some w))) value) [] q in
-      let placed = not_misplaced m w.misplaced (fine_parts (written_tests m w) (target_tests m t value) tests).0 in
+      let placed = not_misplaced m w.misplaced (fine_parts (written_tests m w) _ tests).0 in
       (good_where value h c, and_from (is_full t) (locals_full x.1.locals) (written placed) (value_full sc e f))
   local_value sc span name e None (Some w) written f is c q = absurd written
   local_value sc span name e (Some t) None written f is c q = absurd written

@@ -13,7 +13,7 @@ use Rattle.sp_typed.specs.Nodes.{holds}
 use Rattle.sp_typed.specs.Stmts.{Stmt, Stmts, Branches, Cases, bare, valued, assign, print, block, branch, while_loop, for_loop, switch, no_stmts, more_stmts, no_branches, more_branches, no_cases, more_cases}
 use Rattle.sp_typed.specs.StmtNodes.{stmts_in, stmts_in_all, stmts_in_branches, stmts_in_cases}
 use Rattle.sp_body_rules.specs.Known.{Known}
-use Rattle.sp_body_rules.specs.Values.{is_no_value, is_void, target_tests, written_tests}
+use Rattle.sp_body_rules.specs.Values.{is_no_value, is_void, written_tests}
 use Rattle.sp_body_rules.specs.StmtTests.{stmt_tests, valued_op_tests, local_tests, return_tests, print_tests, branches_tests, case_tests, cases_tests}
 use Rattle.sp_known_types.specs.Full.{is_right, is_bare, holds_inside}
 use Rattle.sp_known_types.specs.Stmts.{is_good, takes_key, each_holds, exprs_hold, all_exprs_hold, branch_exprs_hold, case_exprs_hold, is_quiet}
@@ -47,7 +47,7 @@ alone_whole e g n =
 module _ (k : Known) (wanted : Option Ty) (m : ℕ) where
   local_whole : (t : Ty) (o : Option Written) (e : Expr) → is_good e ≡ true → Fine (local_tests m t o e) → holds is_right e ≡ true
   local_whole t None e g f = value_whole e g f.0
-  local_whole t (Some w) e g f = value_whole e g (fine_parts (written_tests m w) (target_tests m t e) f).1.0
+  local_whole t (Some w) e g f = value_whole e g (fine_parts (written_tests m w) _ f).1.1.0
 
   return_whole : (o : Option Ty) (e : Expr) → is_good e ≡ true → Fine (return_tests o m e) → holds is_right e ≡ true
   return_whole None e g f = value_whole e g f.0

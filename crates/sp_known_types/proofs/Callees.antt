@@ -20,8 +20,8 @@ use Rattle.sp_typed.specs.Exprs.{Expr, leaf}
 use Rattle.sp_typing.specs.declared.context.Member.{Member}
 use Rattle.sp_typing.specs.declared.context.Callable.{Callable}
 use Rattle.sp_typing.specs.Contexts.{Around}
-use Rattle.sp_typing.specs.Operands.{key_of, sort_of}
-use Rattle.sp_typing.specs.Literals.{seen}
+use Rattle.sp_operands.specs.Operands.{key_of, sort_of}
+use Rattle.sp_operands.specs.Literals.{seen}
 use Rattle.sp_typing.specs.Typing.{typed, typed_all, callee_op, name_of}
 use Rattle.sp_typing.specs.Typing as typing
 use Rattle.sp_body_rules.specs.Known.{Known}

@@ -7,9 +7,9 @@ use Rattle.sp_types.specs.declared.words.Word.TheVariants as word_is
 use Rattle.sp_types.specs.declared.words.Maker.TheVariants as maker_is
 use Rattle.sp_types.specs.Types.{Ty, Tys, word, made, is_known, are_known, is_known_word, wider, wider_of, same, same_word, widens, holds}
 use Rattle.sp_types.specs.Types as types
-use Rattle.sp_typing.specs.declared.operators.OperatorSort.{OperatorSort}
-use Rattle.sp_typing.specs.declared.operators.OperatorSort.TheVariants as takes
-use Rattle.sp_typing.specs.Operands.{unknown, is_unsigned, is_signed, is_integer, is_bytes, is_text, first_type, of_one_sign, stands_before, stands_behind, agree, wider_type, sum_type, result_type}
+use Rattle.sp_operands.specs.declared.operators.OperatorSort.{OperatorSort}
+use Rattle.sp_operands.specs.declared.operators.OperatorSort.TheVariants as takes
+use Rattle.sp_operands.specs.Operands.{unknown, is_unsigned, is_signed, is_integer, is_bytes, is_text, first_type, of_one_sign, stands_before, stands_behind, agree, wider_type, sum_type, result_type}
 use Rattle.sp_typing.specs.Typing.{second_type}
 use Rattle.sp_known_types.specs.Full.{has_parts, is_full, are_full, is_unknown}
 

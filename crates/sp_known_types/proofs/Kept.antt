@@ -11,8 +11,8 @@ use Rattle.sp_typed.specs.declared.words.OneOp.{OneOp}
 use Rattle.sp_typed.specs.declared.words.OneOp.TheVariants as one_is
 use Rattle.sp_typed.specs.Exprs.{Expr, leaf, one, span_of, number_leaf, is_minus, is_number, is_literal, retyped, settled}
 use Rattle.sp_typed.specs.Nodes.{holds, word_leaf, word_one}
-use Rattle.sp_typing.specs.Operands.{unknown}
-use Rattle.sp_typing.specs.Literals.{is_negative, number_of, can_take, taken, is_over, seen, literal_word}
+use Rattle.sp_operands.specs.Operands.{unknown}
+use Rattle.sp_operands.specs.Literals.{is_negative, can_take, taken, is_past, seen, literal_word}
 use Rattle.sp_typing.specs.Typing.{one_at, widened, to_target, to_maybe, each_to, alike, agreeing, lead, maybe_taken, led, in_turn}
 use Rattle.sp_body_rules.specs.Known.{Known}
 use Rattle.sp_body_rules.specs.ExprTests.{leaf_tests, one_op_tests}
@@ -25,10 +25,10 @@ use Rattle.sp_known_types.proofs.Tests.{Good, Clear, Holds, is_whole, bare_is_un
 abbrev IsInteger : Word → Type 0
 IsInteger w = is_full (word w) ≡ true
 
-taken_word : (w : Word) (b : Bool) (n : ℕ) → can_take w b n ≡ true → IsInteger w
-taken_word (word_is.Uint w) b n e = refl
-taken_word (word_is.Int w) b n e = refl
-taken_word _ b n e = never e
+taken_word : (w : Word) → can_take w ≡ true → IsInteger w
+taken_word (word_is.Uint w) e = refl
+taken_word (word_is.Int w) e = refl
+taken_word _ e = never e
 
 -- what is by two cases
 by_bool : {X : Type 0} (P : X → Type 0) (b : Bool) (x y : X) → (b ≡ true → P x) → P y → P (if b then x else y)
@@ -82,8 +82,7 @@ module _ (only : OneOp → Bool) (k : Known) (m : ℕ) where
 
   pub taken_holds : (t : Ty) (e : Expr) → Holds only k m e → Holds only k m (taken t e)
   taken_holds (word w) e h =
-      let can = can_take w (is_negative e) (number_of e) in
-      by_bool (Holds only k m) (is_literal e && can) (settled w e) e (λ b. settled_holds w e (taken_word w (is_negative e) (number_of e) (and_parts (is_literal e) can b).1) h) h
+      by_bool (Holds only k m) (is_literal e && can_take w) (settled w e) e (λ b. settled_holds w e (taken_word w (and_parts (is_literal e) (can_take w) b).1) h) h
   taken_holds (made maker ts) e h = h
 
   -- what is widened goes to an integer type, and is of one
@@ -101,7 +100,7 @@ module _ (only : OneOp → Bool) (k : Known) (m : ℕ) where
   unknown_widens (made maker ts) e = e
 
   bare_seen : (e : Expr) → is_bare e ≡ true → seen e ≡ unknown
-  bare_seen e b = ap (λ t. if is_over e then unknown else t) (bare_is_unknown e b) ∙ both (is_over e)
+  bare_seen e b = ap (λ t. if is_past e then unknown else t) (bare_is_unknown e b) ∙ both (is_past e)
     where
       both : (b : Bool) → (if b then unknown else unknown) ≡ unknown
       both true = refl

@@ -18,11 +18,11 @@ use Rattle.sp_typed.specs.declared.words.TwoOp.TheVariants as two_is
 use Rattle.sp_typed.specs.declared.words.Written.{Written}
 use Rattle.sp_typed.specs.Exprs.{Expr, type_of, is_number}
 use Rattle.sp_typed.specs.Nodes.{holds, word_one}
-use Rattle.sp_typing.specs.declared.operators.OperatorSort.{OperatorSort}
+use Rattle.sp_operands.specs.declared.operators.OperatorSort.{OperatorSort}
 use Rattle.sp_typing.specs.declared.context.Member.{Member}
 use Rattle.sp_typing.specs.Contexts.{Around}
-use Rattle.sp_typing.specs.Operands.{unknown, boolean, is_signed, is_unsigned, is_integer, sort_of, stands_before, stands_behind, agree, result_type, key_of, first_type}
-use Rattle.sp_typing.specs.Literals.{seen, signed_literal}
+use Rattle.sp_operands.specs.Operands.{unknown, boolean, is_signed, is_unsigned, is_integer, sort_of, stands_before, stands_behind, agree, result_type, key_of, first_type}
+use Rattle.sp_operands.specs.Literals.{seen, is_past, signed_literal}
 use Rattle.sp_typing.specs.Typing.{one_at, two_at, to_target, agreeing, signed_type, unary_at, joined, is_membership, binary_at, choice_at, chosen, member_at, set_member_at, set_op, second_type, part_at, item_of, item_at, index_at, size_type}
 use Rattle.sp_body_rules.specs.Known.{Known}
 use Rattle.sp_body_rules.specs.Values.{knows, is_set_key, written_tests, value_tests}
@@ -60,7 +60,7 @@ cast_full t true w b = integer_full t (not_so (is_integer t) (both w))
         by false e = refl
 cast_full t false w b = never b
 
-chosen_full : (b : Bool) (t : Ty) → b ≡ true → is_full t ≡ true → is_full (if b then t else unknown) ≡ true
+pub chosen_full : (b : Bool) (t : Ty) → b ≡ true → is_full t ≡ true → is_full (if b then t else unknown) ≡ true
 chosen_full true t e f = f
 chosen_full false t e f = never e
 
@@ -237,7 +237,7 @@ module _ (only : OneOp → Bool) (k : Known) (m : ℕ) where
 
   -- whether an index is constant is known where no rule is broken in it
   abbrev pub Decided : Expr → Type 0
-  Decided i = Clear only k m i → holds is_right i ≡ true → is_unsigned (type_of i) ≡ true → is_decided (k.constancy i) ≡ true
+  Decided i = Clear only k m i → holds is_right i ≡ true → is_past i ≡ false → is_unsigned (type_of i) ≡ true → is_decided (k.constancy i) ≡ true
 
   -- an index of a tuple names a member
   no_item : {X : Type 0} (span : Span) (ts : types.Tys) (a i : Expr) → Decided i → seen a ≡ made maker_is.Tuple ts → Holds only k m a → Holds only k m i → Clear only k m (two_at span unknown two_is.Index a i) → X
@@ -251,7 +251,7 @@ module _ (only : OneOp → Bool) (k : Known) (m : ℕ) where
       let past = both_false (knows i) (not (is_unsigned (type_of i)) || is_constant (k.constancy i)) f.0 know in
       let open_ = both_false (knows i) (is_not_constant (k.constancy i)) f.1.0 know in
       let parts = or_parts (not (is_unsigned (type_of i))) (is_constant (k.constancy i)) past in
-      let decided = settled inner (whole_of i v.0.index) (not_so (is_unsigned (type_of i)) parts.0) in
+      let decided = settled inner (whole_of i v.0.index) v.0.index.within (not_so (is_unsigned (type_of i)) parts.0) in
       never (sym (or_from (is_constant (k.constancy i)) (is_not_constant (k.constancy i)) parts.1 open_) ∙ decided)
 
   item_holds : (span : Span) (ts : types.Tys) (o : Option Ty) (n : ℕ) (a i : Expr) → Decided i → seen a ≡ made maker_is.Tuple ts → part_at ts n ≡ o → Holds only k m a → Holds only k m i → Holds only k m (item_of span o n a i)

@@ -1,5 +1,5 @@
 -- Nodes with any number of parts: tuples, vectors, sets, maps, calls, and what can't be called.
-use Rattle.std.specs.Prelude.{ℕ, Bool, true, false, not, ◌&&◌, List, [], ◌∷◌, ◌++◌, map, length, Option, Some, None}
+use Rattle.std.specs.Prelude.{ℕ, Bool, true, false, not, ◌&&◌, ◌||◌, if◌then◌else◌, List, [], ◌∷◌, ◌++◌, map, length, Option, Some, None}
 use Rattle.std.proofs.Common.{◌≡◌, inl, inr, refl, sym, ap, ◌∙◌}
 use Rattle.std.proofs.lemmas.Bool.{and_parts, and_from}
 use Rattle.sp_base.specs.declared.places.Span.{Span}
@@ -7,7 +7,7 @@ use Rattle.sp_types.specs.declared.words.Word.{Word}
 use Rattle.sp_types.specs.declared.words.Word.TheVariants as word_is
 use Rattle.sp_types.specs.declared.words.Maker.{Maker}
 use Rattle.sp_types.specs.declared.words.Maker.TheVariants as maker_is
-use Rattle.sp_types.specs.Types.{Ty, word, made, tys, is_key}
+use Rattle.sp_types.specs.Types.{Ty, word, made, tys, same, is_known, is_key}
 use Rattle.sp_types.specs.Types as types
 use Rattle.sp_typed.specs.declared.words.OneOp.{OneOp}
 use Rattle.sp_typed.specs.declared.words.OneOp.TheVariants as one_is
@@ -20,19 +20,21 @@ use Rattle.sp_typed.specs.Exprs.{Expr, leaf, one, two, three, many, exprs, type_
 use Rattle.sp_typed.specs.Nodes.{holds, all_hold, word_many}
 use Rattle.sp_typing.specs.declared.context.Callable.{Callable}
 use Rattle.sp_typing.specs.Contexts.{Around}
-use Rattle.sp_typing.specs.Operands.{unknown}
-use Rattle.sp_typing.specs.Literals.{seen}
-use Rattle.sp_typing.specs.Typing.{one_at, many_at, each_to, first_seen, second_seen, row_at, in_turn, lead_half, map_of, map_at, tuple_at, no_call, callee_op, call_by, call_at, method_of, started, new_by, new_at}
+use Rattle.sp_operands.specs.Operands.{unknown}
+use Rattle.sp_operands.specs.Operands as typing
+use Rattle.sp_operands.specs.Literals.{seen}
+use Rattle.sp_operands.specs.Wholes.{may_hold, is_of, all_of, has_keys_alone, row_type, all_in_turn, are_entries, map_type}
+use Rattle.sp_typing.specs.Typing.{one_at, many_at, each_to, row_at, in_turn, lead_half, map_of, map_at, tuple_at, no_call, callee_op, call_by, call_at, method_of, started, new_by, new_at}
 use Rattle.sp_body_rules.specs.Known.{Known}
-use Rattle.sp_body_rules.specs.Values.{is_no_value, is_new}
-use Rattle.sp_body_rules.specs.ExprTests.{all_value_tests, elements_tests, row_tests, entries_tests, map_tests, argument_tests, connects}
+use Rattle.sp_body_rules.specs.Values.{is_no_value, is_past, knows, is_new}
+use Rattle.sp_body_rules.specs.ExprTests.{unlike, all_value_tests, elements_tests, row_tests, entries_tests, map_tests, argument_tests, connects}
 use Rattle.sp_known_types.specs.Full.{is_full, are_full, is_right, is_bare}
 use Rattle.sp_known_types.specs.Clear.{is_clear}
 use Rattle.sp_known_types.specs.Given.{is_method_op}
-use Rattle.sp_known_types.proofs.Full.{never}
-use Rattle.sp_known_types.proofs.Tests.{Fine, Good, Clear, Holds, Value, first_fine, value_of, bare_is_none, bare_is_unknown, seen_full, knows_it, whole_of, is_whole, inside, at_first}
+use Rattle.sp_known_types.proofs.Full.{never, full_is_known}
+use Rattle.sp_known_types.proofs.Tests.{Fine, Good, Clear, Holds, Value, first_fine, value_of, bare_is_none, bare_is_unknown, valueless_same, full_of, seen_is, seen_full, knows_it, whole_of, right_when, both_false, not_so, is_whole, inside, at_first}
 use Rattle.sp_known_types.proofs.Kept.{HoldsAll, HoldsPairs, each_holds, turn_holds, joined_holds}
-use Rattle.sp_known_types.proofs.Nodes.{no_member}
+use Rattle.sp_known_types.proofs.Nodes.{no_member, chosen_full}
 use Rattle.sp_known_types.proofs.Functions.{function_op, function_of}
 
 module _ (only : OneOp → Bool) (k : Known) (m : ℕ) where
@@ -82,29 +84,52 @@ module _ (only : OneOp → Bool) (k : Known) (m : ℕ) where
   elements_values keyed first (e ∷ es) h c f =
       (value_of only k m e h.0 (first_of e es c) f.0 f.1.0, elements_values keyed first es h.1 (rest_of e es c) f.1.1.1.1)
 
-  row_good : (span : Span) (maker : Maker) (op : ManyOp) (es : List Expr) → Values es → word_many op ≡ false → is_full (made maker (types.more (first_seen es) types.none)) ≡ true → Good (row_at span maker op es)
-  row_good span maker op es v w f = many_good span (made maker (types.more (first_seen es) types.none)) op es (whole_all es v) w f
+  -- an element is of the type of the first, and that is one that an element may have
+  element_of : (first e : Expr) → Value first → Value e → unlike first e ≡ false → is_of (type_of first) e ≡ true
+  element_of first e v w u =
+      let alike = same (type_of first) (type_of e) in
+      and_from alike (not (is_past e)) (not_so alike (both_false (knows first && knows e) (not alike) u (and_from (knows first) (knows e) (knows_it first v) (knows_it e w)))) (ap not w.within)
+
+  may_of : (keyed : Bool) (e : Expr) → Value e → (knows e && not (not keyed || is_key (type_of e))) ≡ false → may_hold keyed (type_of e) ≡ true
+  may_of keyed e v w =
+      let t = type_of e in
+      let suits = not keyed || is_key t in
+      and_from (is_known t) (not (typing.is_valueless t) && suits) (full_is_known t (full_of e v)) (and_from (not (typing.is_valueless t)) suits (ap not (valueless_same t ∙ v.valued)) (right_when e suits v w))
+
+  elements_of : (keyed : Bool) (first : Expr) (es : List Expr) → Value first → Values es → Fine (elements_tests m keyed first (exprs es)) → all_of (type_of first) es ≡ true
+  elements_of keyed first [] v vs f = refl
+  elements_of keyed first (e ∷ es) v vs f =
+      and_from (is_of (type_of first) e) (all_of (type_of first) es) (element_of first e v vs.0 f.1.1.1.0) (elements_of keyed first es v vs.1 f.1.1.1.1)
+
+  row_full : (maker : Maker) (e : Expr) (es : List Expr) → Values (e ∷ es) → Fine (elements_tests m (has_keys_alone maker) e (exprs (e ∷ es))) → is_full (made maker (types.more (type_of e) types.none)) ≡ true → is_full (row_type maker (e ∷ es)) ≡ true
+  row_full maker e es v f full =
+      let all : List Expr = e ∷ es in
+      let keyed = has_keys_alone maker in
+      let row : Ty → Ty = λ t. if may_hold keyed t && all_of t all then made maker (types.more t types.none) else unknown in
+      ap (λ t. is_full (row t)) (seen_is e v.0.within)
+      ∙ chosen_full (may_hold keyed (type_of e) && all_of (type_of e) all) (made maker (types.more (type_of e) types.none))
+      (and_from (may_hold keyed (type_of e)) (all_of (type_of e) all) (may_of keyed e v.0 f.1.1.0) (elements_of keyed e all v.0 v f)) full
 
   one_part : (t : Ty) → is_full t ≡ true → (is_full t && true) ≡ true
   one_part t f = and_from (is_full t) true f refl
 
-  row_values : (keyed : Bool) (span : Span) (es : List Expr) → HoldsAll only k m es → ClearAll es → Fine (row_tests m keyed span (exprs es)) → Values es × (is_full (first_seen es) ≡ true)
-  row_values keyed span [] h c f = never (sym f.0)
-  row_values keyed span (e ∷ es) h c f =
-      let v = elements_values keyed e (e ∷ es) h c f in
-      (v, seen_full e v.0)
+  row_values : (maker : Maker) (span : Span) (es : List Expr) → HoldsAll only k m es → ClearAll es → Fine (row_tests m (has_keys_alone maker) span (exprs es)) → ((t : Ty) → is_full t ≡ true → is_full (made maker (types.more t types.none)) ≡ true) → Values es × (is_full (row_type maker es) ≡ true)
+  row_values maker span [] h c f full = never (sym f.0)
+  row_values maker span (e ∷ es) h c f full =
+      let v = elements_values (has_keys_alone maker) e (e ∷ es) h c f in
+      (v, row_full maker e es v f (full (type_of e) (full_of e v.0)))
 
   pub vector_holds : (span : Span) (es : List Expr) → HoldsAll only k m es → Holds only k m (row_at span maker_is.Vector many_is.Vector es)
   vector_holds span es h c =
-      let t = made maker_is.Vector (types.more (first_seen es) types.none) in
-      let v = row_values false span es h (parts_of span t many_is.Vector es c) (first_fine only k m (row_at span maker_is.Vector many_is.Vector es) c) in
-      row_good span maker_is.Vector many_is.Vector es v.0 refl (one_part (first_seen es) v.1)
+      let t = row_type maker_is.Vector es in
+      let v = row_values maker_is.Vector span es h (parts_of span t many_is.Vector es c) (first_fine only k m (row_at span maker_is.Vector many_is.Vector es) c) one_part in
+      many_good span t many_is.Vector es (whole_all es v.0) refl v.1
 
   pub set_holds : (span : Span) (es : List Expr) → HoldsAll only k m es → Holds only k m (row_at span maker_is.Set many_is.Set es)
   set_holds span es h c =
-      let t = made maker_is.Set (types.more (first_seen es) types.none) in
-      let v = row_values true span es h (parts_of span t many_is.Set es c) (first_fine only k m (row_at span maker_is.Set many_is.Set es) c) in
-      row_good span maker_is.Set many_is.Set es v.0 refl (one_part (first_seen es) v.1)
+      let t = row_type maker_is.Set es in
+      let v = row_values maker_is.Set span es h (parts_of span t many_is.Set es c) (first_fine only k m (row_at span maker_is.Set many_is.Set es) c) one_part in
+      many_good span t many_is.Set es (whole_all es v.0) refl v.1
 
   -- maps
   entries_values : (keyed : Bool) (key value : Expr) (es : List Expr) → HoldsAll only k m es → ClearAll es → Fine (entries_tests m keyed key value (exprs es)) → Values es
@@ -112,16 +137,37 @@ module _ (only : OneOp → Bool) (k : Known) (m : ℕ) where
   entries_values keyed key value (e ∷ es) h c f =
       (value_of only k m e h.0 (first_of e es c) f.0 f.1.0, entries_values (not keyed) key value es h.1 (rest_of e es c) f.1.1.1.1)
 
-  map_values : (span : Span) (es : List Expr) → HoldsAll only k m es → ClearAll es → Fine (map_tests m span (exprs es)) → Values es × ((is_full (first_seen es) && (is_full (second_seen es) && true)) ≡ true)
+  entries_of : (keyed : Bool) (key value : Expr) (es : List Expr) → Value key → Value value → Values es → Fine (entries_tests m keyed key value (exprs es)) → all_in_turn keyed (type_of key) (type_of value) es ≡ true
+  entries_of keyed key value [] v w vs f = refl
+  entries_of keyed key value (e ∷ es) v w vs f =
+      and_from (is_of (if keyed then type_of key else type_of value) e) (all_in_turn (not keyed) (type_of key) (type_of value) es) (by keyed f.1.1.1.0) (entries_of (not keyed) key value es v w vs.1 f.1.1.1.1)
+    where
+      by : (b : Bool) → unlike (if b then key else value) e ≡ false → is_of (if b then type_of key else type_of value) e ≡ true
+      by true u = element_of key e v vs.0 u
+      by false u = element_of value e w vs.0 u
+
+  map_full : (e d : Expr) (es : List Expr) → Values (e ∷ d ∷ es) → Fine (entries_tests m true e d (exprs (e ∷ d ∷ es))) → is_full (map_type (e ∷ d ∷ es)) ≡ true
+  map_full e d es v f =
+      let all : List Expr = e ∷ d ∷ es in
+      let s = type_of e in
+      let t = type_of d in
+      let map_by : Ty → Ty → Ty = λ k v. if are_entries k v all then made maker_is.Map (types.more k (types.more v types.none)) else unknown in
+      ap (λ k. is_full (map_by k (seen d))) (seen_is e v.0.within)
+      ∙ ap (λ v. is_full (map_by s v)) (seen_is d v.1.0.within)
+      ∙ chosen_full (are_entries s t all) (made maker_is.Map (types.more s (types.more t types.none)))
+      (and_from (may_hold true s) (may_hold false t && all_in_turn true s t all) (may_of true e v.0 f.1.1.0) (and_from (may_hold false t) (all_in_turn true s t all) (may_of false d v.1.0 f.1.1.1.1.1.1.0) (entries_of true e d all v.0 v.1.0 v f)))
+      (and_from (is_full s) (is_full t && true) (full_of e v.0) (one_part t (full_of d v.1.0)))
+
+  map_values : (span : Span) (es : List Expr) → HoldsAll only k m es → ClearAll es → Fine (map_tests m span (exprs es)) → Values es × (is_full (map_type es) ≡ true)
   map_values span [] h c f = never (sym f.0)
   map_values span (e ∷ []) h c f = never (sym f.0)
   map_values span (e ∷ d ∷ es) h c f =
       let v = entries_values true e d (e ∷ d ∷ es) h c f in
-      (v, and_from (is_full (seen e)) (is_full (seen d) && true) (seen_full e v.0) (one_part (seen d) (seen_full d v.1.0)))
+      (v, map_full e d es v f)
 
   map_holds : (span : Span) (es : List Expr) → HoldsAll only k m es → Holds only k m (map_of span es)
   map_holds span es h c =
-      let t = made maker_is.Map (types.more (first_seen es) (types.more (second_seen es) types.none)) in
+      let t = map_type es in
       let v = map_values span es h (parts_of span t many_is.Map es c) (first_fine only k m (map_of span es) c) in
       many_good span t many_is.Map es (whole_all es v.0) refl v.1
 

@@ -4,17 +4,17 @@ use Rattle.std.proofs.Common.{◌≡◌, ◌⊎◌, inl, inr, refl, sym, ap, ◌
 use Rattle.std.proofs.lemmas.Bool.{and_parts, and_from}
 use Rattle.sp_base.specs.declared.places.Span.{Span}
 use Rattle.sp_rules.specs.declared.fault.Fault.{Fault}
-use Rattle.sp_types.specs.Types.{is_known}
+use Rattle.sp_types.specs.declared.words.Word.TheVariants as word_is
+use Rattle.sp_types.specs.Types.{Ty, word, made, is_known}
 use Rattle.sp_typed.specs.declared.words.OneOp.{OneOp}
-use Rattle.sp_typed.specs.declared.words.LeafOp.{LeafOp}
-use Rattle.sp_typed.specs.declared.words.LeafOp.TheVariants as leaf_is
-use Rattle.sp_typed.specs.Exprs.{Expr, leaf, one, two, three, many, type_of, is_literal}
+use Rattle.sp_typed.specs.Exprs.{Expr, leaf, one, two, three, many, type_of}
 use Rattle.sp_typed.specs.Nodes.{holds, all_hold, is_word}
-use Rattle.sp_typing.specs.Operands.{unknown}
-use Rattle.sp_typing.specs.Literals.{is_over, seen, is_typed_number, typed_leaf, type_has, is_negative, number_of}
+use Rattle.sp_operands.specs.Operands.{unknown}
+use Rattle.sp_operands.specs.Operands as typing
+use Rattle.sp_operands.specs.Literals.{seen}
 use Rattle.sp_body_rules.specs.Known.{Known}
 use Rattle.sp_body_rules.specs.Values.{names_no_value, is_no_value, is_past, knows, is_valueless, is_set_key, misplaced_at}
-use Rattle.sp_body_rules.specs.ExprTests.{expr_tests, leaf_tests}
+use Rattle.sp_body_rules.specs.ExprTests.{expr_tests}
 use Rattle.sp_known_types.specs.Full.{is_full, is_right, is_bare, is_unknown, holds_inside}
 use Rattle.sp_known_types.specs.Clear.{none_hold, is_clear, names_something, may_stand}
 use Rattle.sp_known_types.proofs.Full.{never, full_is_known, unknown_is}
@@ -105,25 +105,6 @@ module _ (only : OneOp → Bool) (k : Known) (m : ℕ) where
       let p = and_parts (names_something e) (may_stand only e && none_hold (expr_tests k m e)) (at_first (is_clear only k m) e c) in
       (and_parts (may_stand only e) (none_hold (expr_tests k m e)) p.1).0
 
-  -- a number whose type is written isn't past it
-  typed_within : (e : Expr) (op : LeafOp) → typed_leaf op ≡ true → Fine (leaf_tests m e op) → is_over e ≡ false
-  typed_within e (leaf_is.TypedNumber n) t f = f.0
-  typed_within e _ t f = never t
-
-  typed_number_within : (e : Expr) → Clear e → is_typed_number e ≡ true → is_over e ≡ false
-  typed_number_within (leaf h) c t = typed_within (leaf h) h.op t (first_fine (leaf h) c)
-  typed_number_within _ c t = never t
-
-  over_by : (l t o u : Bool) → (l && (if l then o else (if t then u else false))) ≡ false → (t ≡ true → (if l then o else (if t then u else false)) ≡ false) → (if l then o else (if t then u else false)) ≡ false
-  over_by true t o u p h = p
-  over_by false true o u p h = h refl
-  over_by false false o u p h = refl
-
-  -- what is no number past its type
-  pub not_over : (e : Expr) → Clear e → is_past e ≡ false → is_over e ≡ false
-  not_over e c p =
-      over_by (is_literal e) (is_typed_number e) (not (type_has (type_of e) (is_negative e) (number_of e))) (not (type_has (type_of e) false (number_of e))) p (typed_number_within e c)
-
 -- a bare node is no value
 or_true : (a b c : Bool) → (a && b) ≡ true → (a || c) ≡ true
 or_true true b c e = refl
@@ -143,11 +124,31 @@ bare_is_unknown (one h x) b = never b
 bare_is_unknown (three h x y z) b = never b
 bare_is_unknown (many h es) b = never b
 
--- a value whose type is full, and that is no number past it
+-- a node that has a value is of a type of values
+or_second : (a b : Bool) → (a || b) ≡ false → b ≡ false
+or_second true b e = never (sym e)
+or_second false b e = e
+
+pub valueless_same : (t : Ty) → typing.is_valueless t ≡ is_valueless t
+valueless_same (word word_is.Void) = refl
+valueless_same (word word_is.Regex) = refl
+valueless_same (word word_is.New) = refl
+valueless_same (word _) = refl
+valueless_same (made m ts) = refl
+
+valued_by : (e : Expr) → is_no_value e ≡ false → is_valueless (type_of e) ≡ false
+valued_by (leaf h) n = or_second (names_no_value h.op) (is_valueless h.ty) n
+valued_by (one h a) n = n
+valued_by (two h a b) n = or_second (is_set_key h.op (type_of a)) (is_valueless h.ty) n
+valued_by (three h c a b) n = n
+valued_by (many h es) n = n
+
+-- a value whose type is full, and that is no literal past it
 pub record Value (e : Expr) : Type 0 where
   pub right : is_right e ≡ true
-  pub within : is_over e ≡ false
+  pub within : is_past e ≡ false
   pub inside : holds_inside is_right e ≡ true
+  pub valued : is_valueless (type_of e) ≡ false
 
 pub right_of : (e : Expr) → Good e → is_no_value e ≡ false → is_right e ≡ true
 right_of e g n = elim g.1 [
@@ -158,19 +159,19 @@ right_of e g n = elim g.1 [
 pub value_of : (only : OneOp → Bool) (k : Known) (m : ℕ) (e : Expr) → Holds only k m e → Clear only k m e → is_no_value e ≡ false → is_past e ≡ false → Value e
 value_of only k m e h c n p =
     let g = h c in
-    record { right = right_of e g n; within = not_over only k m e c p; inside = g.0 }
+    record { right = right_of e g n; within = p; inside = g.0; valued = valued_by e n }
 
 pub full_of : (e : Expr) → Value e → is_full (type_of e) ≡ true
 full_of e v = (and_parts (not (is_word e)) (is_full (type_of e)) v.right).1
 
-pub seen_is : (e : Expr) → is_over e ≡ false → seen e ≡ type_of e
+pub seen_is : (e : Expr) → is_past e ≡ false → seen e ≡ type_of e
 seen_is e o = ap (λ b. if b then unknown else type_of e) o
 
 pub seen_full : (e : Expr) → Value e → is_full (seen e) ≡ true
 seen_full e v = ap is_full (seen_is e v.within) ∙ full_of e v
 
 pub knows_it : (e : Expr) → Value e → knows e ≡ true
-knows_it e v = and_from (is_known (type_of e)) (not (is_over e)) (full_is_known (type_of e) (full_of e v)) (ap not v.within)
+knows_it e v = and_from (is_known (type_of e)) (not (is_past e)) (full_is_known (type_of e) (full_of e v)) (ap not v.within)
 
 pub whole_of : (e : Expr) → Value e → holds is_right e ≡ true
 whole_of e v = is_whole is_right e v.inside v.right

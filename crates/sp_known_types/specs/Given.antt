@@ -1,5 +1,5 @@
 -- What stands round an expression where all that it can name is known.
-use Rattle.std.specs.Prelude.{ℕ, ◌≡◌, Bool, true, false, ◌&&◌, ◌||◌, List, Some, is_none, IsTrue}
+use Rattle.std.specs.Prelude.{ℕ, ◌≡◌, Bool, true, false, ◌&&◌, ◌||◌, List, Some, is_none, IsTrue, IsFalse}
 use Rattle.sp_base.specs.declared.places.Span.{Span}
 use Rattle.sp_ast.specs.Trees.{Tree}
 use Rattle.sp_types.specs.Types.{Ty}
@@ -14,7 +14,8 @@ use Rattle.sp_typed.specs.Nodes.{holds, all_hold}
 use Rattle.sp_typing.specs.declared.context.Member.{Member}
 use Rattle.sp_typing.specs.declared.context.Callable.{Callable}
 use Rattle.sp_typing.specs.Contexts.{Around}
-use Rattle.sp_typing.specs.Operands.{is_unsigned}
+use Rattle.sp_operands.specs.Operands.{is_unsigned}
+use Rattle.sp_operands.specs.Literals.{is_past}
 use Rattle.sp_typing.specs.Typing.{typed}
 use Rattle.sp_body_rules.specs.declared.facts.Constancy.{Constancy}
 use Rattle.sp_body_rules.specs.Known.{Known}
@@ -78,4 +79,4 @@ pub record IsKnown (g : Around) (only : OneOp → Bool) (k : Known) (m : ℕ) (i
   pub method : (t : Ty) (name : List ℕ) (span : Span) (ts : List Ty) (found : Callable) → g.method t name span ts ≡ Some found → IsTrue (is_method_op found.op)
   pub gives : (t : Ty) (name : List ℕ) (span : Span) (ts : List Ty) (found : Callable) → g.method t name span ts ≡ Some found → IsTrue (is_full t) → IsTrue (is_full found.ty)
   pub left_out : (op : ManyOp) (span : Span) (n : ℕ) → IsTrue (all_hold is_right (exprs (g.left_out op span n)))
-  pub index : (i : Tree) → IsTrue (is_expr is_type is_path i) → IsTrue (holds (is_clear only k m) (typed g i)) → IsTrue (holds is_right (typed g i)) → IsTrue (is_unsigned (type_of (typed g i))) → IsTrue (is_decided (k.constancy (typed g i)))
+  pub index : (i : Tree) → IsTrue (is_expr is_type is_path i) → IsTrue (holds (is_clear only k m) (typed g i)) → IsTrue (holds is_right (typed g i)) → IsFalse (is_past (typed g i)) → IsTrue (is_unsigned (type_of (typed g i))) → IsTrue (is_decided (k.constancy (typed g i)))

@@ -20,7 +20,7 @@ use Rattle.sp_typed.specs.declared.words.ManyOp.TheVariants as many_is
 use Rattle.sp_typed.specs.Exprs.{Expr}
 use Rattle.sp_typed.specs.Nodes.{holds}
 use Rattle.sp_typing.specs.Contexts.{Around}
-use Rattle.sp_typing.specs.Operands.{unknown, boolean}
+use Rattle.sp_operands.specs.Operands.{unknown, boolean}
 use Rattle.sp_typing.specs.Typing.{leaf_at, one_at, two_at, many_at}
 use Rattle.sp_body_rules.specs.Known.{nothing_known}
 use Rattle.sp_known_types.specs.Full.{is_full, is_right, is_bare, holds_inside}
@@ -153,5 +153,5 @@ all_is_known = record {
   method = λ t name span ts found at. none_found found at;
   gives = λ t name span ts found at full. none_found found at;
   left_out = λ op span n. refl;
-  index = λ i is clear right unsigned. refl;
+  index = λ i is clear right within unsigned. refl;
 }

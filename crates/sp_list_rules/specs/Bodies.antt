@@ -1,13 +1,13 @@
 -- The rules of bodies over the declarations of a typed list. Each is a test with the fault where it holds, in the order of the
 -- text.
-use Rattle.std.specs.Prelude.{ℕ, ◌==◌, Bool, true, false, not, ◌&&◌, if◌then◌else◌, List, [], ◌∷◌, ◌++◌, Option, Some, None, slice_get}
+use Rattle.std.specs.Prelude.{ℕ, ◌==◌, Bool, true, false, not, ◌&&◌, ◌||◌, if◌then◌else◌, List, [], ◌∷◌, ◌++◌, Option, Some, None, slice_get}
 use Rattle.sp_rules.specs.declared.rule.Rule.TheVariants as rule_is
 use Rattle.sp_rules.specs.declared.fault.Fault.{Fault}
 use Rattle.sp_numbers.specs.declared.width.Width.TheVariants.{W64}
 use Rattle.sp_types.specs.Types.{Ty, word, is_known, is_plain, goes}
 use Rattle.sp_types.specs.declared.words.Word.TheVariants as word_is
 use Rattle.sp_typed.specs.declared.words.Written.{Written}
-use Rattle.sp_typed.specs.Exprs.{Expr, type_of, span_of, is_literal}
+use Rattle.sp_typed.specs.Exprs.{Expr, leaf, one, two, three, many, type_of, span_of, is_literal}
 use Rattle.sp_typed.specs.Nodes.{nodes}
 use Rattle.sp_typed.specs.Stmts.{Stmt}
 use Rattle.sp_typed.specs.StmtNodes.{stmt_nodes, stmts_in}
@@ -27,12 +27,12 @@ use Rattle.sp_typed_units.specs.declared.declarations.OrderProperty.{OrderProper
 use Rattle.sp_typed_units.specs.declared.declarations.Member.{Member}
 use Rattle.sp_typed_units.specs.declared.declarations.Variable.{Variable}
 use Rattle.sp_typed_units.specs.declared.declarations.Typed.{Typed}
-use Rattle.sp_typing.specs.Operands.{unknown, is_unsigned}
-use Rattle.sp_typing.specs.Literals.{is_negative}
+use Rattle.sp_operands.specs.Operands.{unknown, is_unsigned}
+use Rattle.sp_operands.specs.Literals.{is_negative, number_of}
 use Rattle.sp_constants.specs.Known.{Known as Values}
 use Rattle.sp_body_rules.specs.Known.{Known}
-use Rattle.sp_body_rules.specs.Values.{at, is_void, value_tests, right_tests, target_tests, written_tests}
-use Rattle.sp_body_rules.specs.ExprTests.{expr_tests, is_not_constant}
+use Rattle.sp_body_rules.specs.Values.{at, is_regex, value_span, value_tests, right_tests, condition_tests, target_tests, written_tests}
+use Rattle.sp_body_rules.specs.ExprTests.{unlike, expr_tests, is_not_constant}
 use Rattle.sp_body_rules.specs.StmtTests.{stmt_tests, is_unit}
 use Rattle.sp_body_rules.specs.Sweeps.{end_tests}
 use Rattle.sp_list_rules.specs.Lists.{all_tests, option_tests}
@@ -60,10 +60,10 @@ parameter_tests m p =
 abbrev pub plain_tests : ℕ → Ty → Written → List (Bool × Fault)
 plain_tests m t w = written_tests m w ++ ((is_known t && not (is_plain t), at m rule_is.TypeMismatch w.span) ∷ [])
 
--- the type of what a function gives, if it gives something: void is no such type
+-- the type of what a function gives, where one is written
 abbrev pub wanted_of : Option Written → Ty → Option Ty
 wanted_of None t = None
-wanted_of (Some w) t = if is_void t then None else Some t
+wanted_of (Some w) t = Some t
 
 -- a body that gives a value of this type, if it gives one
 abbrev pub given_tests : Typed → Values → Option Ty → Function → List (Bool × Fault)
@@ -95,22 +95,34 @@ own_hook_tests t values h =
 abbrev pub hook_tests : Typed → Values → Hook → List (Bool × Fault)
 hook_tests t values h = if is_of_nothing h.of then [] else own_hook_tests t values h
 
--- What is asked of the value of a constant, which goes to the type that is written, if there is one. A regular expression may
--- stand there.
-abbrev pub is_regex : Ty → Bool
-is_regex (word word_is.Regex) = true
-is_regex _ = false
-
+-- What is asked of the value of a constant, which goes to the type that is written, if there is one; that is a plain type. A
+-- regular expression may stand there, also as either value of `c ? a : b`.
 abbrev pub regex_tests : ℕ → Ty → Option Written → Expr → List (Bool × Fault)
 regex_tests m t None e = []
-regex_tests m t (Some w) e = written_tests m w ++ ((is_known t, at m rule_is.NotAssignable (span_of e)) ∷ [])
+regex_tests m t (Some w) e = plain_tests m t w ++ ((is_known t, at m rule_is.NotAssignable (span_of e)) ∷ [])
 
 abbrev pub told_tests : ℕ → Ty → Option Written → Expr → List (Bool × Fault)
 told_tests m t None e = value_tests m e
-told_tests m t (Some w) e = written_tests m w ++ target_tests m t e
+told_tests m t (Some w) e = plain_tests m t w ++ target_tests m t e
 
 abbrev pub declared_tests : ℕ → Ty → Option Written → Expr → List (Bool × Fault)
 declared_tests m t w e = if is_regex (type_of e) then regex_tests m t w e else told_tests m t w e
+
+abbrev pub value_or_regex_tests : ℕ → Expr → List (Bool × Fault)
+value_or_regex_tests m e = if is_regex (type_of e) then [] else value_tests m e
+
+abbrev pub const_choice_tests : ℕ → Expr → Expr → Expr → List (Bool × Fault)
+const_choice_tests m c a b =
+    condition_tests m c ++ (value_or_regex_tests m a ++ (value_or_regex_tests m b ++ ((unlike a b, at m rule_is.TypeMismatch (value_span b)) ∷ [])))
+
+-- all that is asked inside the value of a constant
+abbrev pub inside_const : Known → ℕ → Expr → List (Bool × Fault)
+inside_const k m (three h c a b) =
+    const_choice_tests m c a b ++ (inside_tests k m c ++ (inside_const k m a ++ inside_const k m b))
+inside_const k m (leaf h) = inside_tests k m (leaf h)
+inside_const k m (one h a) = inside_tests k m (one h a)
+inside_const k m (two h a b) = inside_tests k m (two h a b)
+inside_const k m (many h es) = inside_tests k m (many h es)
 
 abbrev pub lacks_value : ConstantValue → Bool
 lacks_value constant_is.NotConstant = true
@@ -118,9 +130,10 @@ lacks_value _ = false
 
 abbrev pub const_tests : Known → Constant → List (Bool × Fault)
 const_tests k c =
-    declared_tests c.«module» c.ty c.written c.expr ++ ((lacks_value c.value, at c.«module» rule_is.NotConstant (span_of c.expr)) ∷ inside_tests k c.«module» c.expr)
+    declared_tests c.«module» c.ty c.written c.expr ++ ((lacks_value c.value, at c.«module» rule_is.NotConstant (span_of c.expr)) ∷ inside_const k c.«module» c.expr)
 
--- A label: its number is unsigned and constant. A literal with a minus sign is past it, and so is the number after the greatest.
+-- A label: its number is unsigned and constant. A literal below zero is past it, and so is the number after the greatest; a zero
+-- with a minus sign is signed.
 abbrev pub lacks_number : LabelNumber → Bool
 lacks_number label_is.NotConstant = true
 lacks_number _ = false
@@ -132,9 +145,18 @@ is_past_label _ = false
 abbrev pub is_minus_literal : Expr → Bool
 is_minus_literal e = is_literal e && is_negative e
 
+abbrev pub is_below_zero : Expr → Bool
+is_below_zero e = is_minus_literal e && not (number_of e == 0)
+
+abbrev pub is_signed_zero : Expr → Bool
+is_signed_zero e = is_minus_literal e && number_of e == 0
+
+abbrev pub is_no_number : Expr → Bool
+is_no_number e = is_signed_zero e || (is_known (type_of e) && (not (is_literal e) && not (is_unsigned (type_of e))))
+
 abbrev pub number_tests : Known → ℕ → LabelNumber → Expr → List (Bool × Fault)
 number_tests k m n e =
-    value_tests m e ++ ((is_known (type_of e) && (not (is_literal e) && not (is_unsigned (type_of e))), at m rule_is.TypeMismatch (span_of e)) ∷ ((is_minus_literal e, at m rule_is.LiteralRange (span_of e)) ∷ ((lacks_number n, at m rule_is.NotConstant (span_of e)) ∷ inside_tests k m e)))
+    value_tests m e ++ ((is_no_number e, at m rule_is.TypeMismatch (span_of e)) ∷ ((is_below_zero e, at m rule_is.LiteralRange (span_of e)) ∷ ((lacks_number n, at m rule_is.NotConstant (span_of e)) ∷ inside_tests k m e)))
 
 abbrev pub label_tests : Known → ℕ → Label → List (Bool × Fault)
 label_tests k m l = (is_past_label l.number, at m rule_is.LiteralRange l.span) ∷ option_tests (number_tests k m l.number) l.expr

@@ -19,18 +19,16 @@ use Rattle.sp_typed_units.specs.declared.items.Field.{Field}
 use Rattle.sp_typed_units.specs.declared.items.Arm.{Arm}
 use Rattle.sp_typed_units.specs.Specs.{Spec, read, unit_read, list_read, group_read}
 use Rattle.sp_typed_units.specs.Parts.{Part, Parts, Arms, field, choice, no_parts, more_parts, no_arms, more_arms}
-use Rattle.sp_typing.specs.declared.operators.OperatorSort.TheVariants as sort_is
-use Rattle.sp_typing.specs.Operands.{unknown, is_integer, is_bytes, is_iterator, stands_before}
-use Rattle.sp_typing.specs.Literals.{type_has}
+use Rattle.sp_operands.specs.declared.operators.OperatorSort.TheVariants as sort_is
+use Rattle.sp_operands.specs.Operands.{unknown, is_integer, is_bytes, is_iterator, stands_before}
+use Rattle.sp_operands.specs.Literals.{type_has}
 use Rattle.sp_typing_units.specs.declared.roles.Kind.{Kind}
 use Rattle.sp_typing_units.specs.declared.roles.Kind.TheVariants as kind_is
-use Rattle.sp_typing_units.specs.declared.roles.Holder.{Holder}
-use Rattle.sp_typing_units.specs.declared.roles.Holder.TheVariants as holder_is
 use Rattle.sp_typing_units.specs.declared.roles.Role.{Role}
 use Rattle.sp_typing_units.specs.declared.roles.Role.TheVariants as role_is
 use Rattle.sp_typing_units.specs.Roles.{role_of, grouped}
 use Rattle.sp_body_rules.specs.Known.{Known}
-use Rattle.sp_body_rules.specs.Values.{at, value_goes, value_tests, right_tests, condition_tests, written_tests}
+use Rattle.sp_body_rules.specs.Values.{at, value_goes, value_span, value_tests, right_tests, condition_tests, written_tests}
 use Rattle.sp_body_rules.specs.ExprTests.{call_tests}
 use Rattle.sp_body_rules.specs.StmtTests.{is_sink, case_tests}
 use Rattle.sp_list_rules.specs.Lists.{all_tests, option_tests}
@@ -105,14 +103,14 @@ truth_tests k m e = condition_tests m e ++ inside_tests k m e
 -- the value of a field that isn't set, which goes to the type of what is stored
 abbrev pub default_tests : Known → ℕ → Ty → Expr → List (Bool × Fault)
 default_tests k m stored e =
-    value_tests m e ++ ((is_known stored && not (value_goes stored e), at m rule_is.TypeMismatch (span_of e)) ∷ ((is_known (type_of e) && not (is_plain (type_of e)), at m rule_is.TypeMismatch (span_of e)) ∷ inside_tests k m e))
+    value_tests m e ++ ((is_known stored && not (value_goes stored e), at m rule_is.TypeMismatch (value_span e)) ∷ ((is_known (type_of e) && not (is_plain (type_of e)), at m rule_is.TypeMismatch (value_span e)) ∷ inside_tests k m e))
 
 -- the enum of the library that an order is of
 abbrev pub order_enum : AttributeName → ℕ
 order_enum name_is.BitOrder = 1
 order_enum _ = 0
 
--- The value of an attribute, by what it is for. Where no value is wanted, only what is wrong inside it is asked.
+-- The value of an attribute, by what it is for. Where no type is asked of it, only what is wrong inside it is.
 abbrev pub by_role : Known → ℕ → Ty → AttributeName → Role → Expr → List (Bool × Fault)
 by_role k m stored name role_is.Amount e = amount_tests k m e
 by_role k m stored name role_is.Delimiter e = constant_tests k m (is_bytes (type_of e)) e
@@ -123,12 +121,11 @@ by_role k m stored name role_is.Default e = default_tests k m stored e
 by_role k m stored name role_is.Order e = constant_tests k m (is_enum_of (order_enum name) (type_of e)) e
 by_role k m stored name role_is.Source e = asked_tests k m (is_bytes (type_of e)) e
 by_role k m stored name role_is.Place e = asked_tests k m (is_iterator (type_of e)) e
-by_role k m stored name role_is.Misused e = value_tests m e ++ inside_tests k m e
 by_role k m stored name role_is.Unasked e = value_tests m e ++ inside_tests k m e
 by_role k m stored name role_is.Alone e = value_tests m e ++ inside_tests k m e
 
-abbrev pub attribute_tests : Known → ℕ → Holder → Kind → Ty → Attribute → List (Bool × Fault)
-attribute_tests k m holder kind stored a = option_tests (by_role k m stored a.name (role_of holder kind a.name)) a.value
+abbrev pub attribute_tests : Known → ℕ → Kind → Ty → Attribute → List (Bool × Fault)
+attribute_tests k m kind stored a = option_tests (by_role k m stored a.name (role_of kind a.name)) a.value
 
 -- all that is asked inside a row of expressions
 abbrev pub exprs_inside : Known → ℕ → Exprs → List (Bool × Fault)
@@ -141,7 +138,7 @@ spec_tests k m (read h) = reading_tests m h
 spec_tests k m (unit_read h es) = call_tests k m (many_is.New (new_is.Unit h.unit) h.span) h.span unknown es ++ exprs_inside k m es
 spec_tests k m (list_read span s n) =
     spec_tests k m s ++ ((reads_void s, at m rule_is.TypeMismatch (spec_span s)) ∷ option_tests (amount_tests k m) n)
-spec_tests k m (group_read span s l) = spec_tests k m s ++ all_tests (attribute_tests k m holder_is.Group (kind_of s) unknown) l
+spec_tests k m (group_read span s l) = spec_tests k m s ++ all_tests (attribute_tests k m (kind_of s) unknown) l
 
 -- A sink takes what a field of bytes reads, and does not convert to another type.
 abbrev pub is_bytes_op : ReadOp → Bool
@@ -160,14 +157,10 @@ is_bytes_field f = reads_bytes f.spec && (not (is_known f.ty) || is_bytes f.ty)
 abbrev pub sink_tests : Known → ℕ → Bool → Expr → List (Bool × Fault)
 sink_tests k m takes e = (not takes, at m rule_is.TypeMismatch (span_of e)) ∷ asked_tests k m (is_sink (type_of e)) e
 
-abbrev pub holder_of : Option ℕ → Holder
-holder_of None = holder_is.AnonymousField
-holder_of (Some member) = holder_is.NamedField
-
 -- A field.
 abbrev pub field_tests : Known → ℕ → Field → List (Bool × Fault)
 field_tests k m f =
-    spec_tests k m f.spec ++ (all_tests (attribute_tests k m (holder_of f.member) (kind_of f.spec) f.ty) f.attributes ++ (option_tests (truth_tests k m) f.condition ++ option_tests (sink_tests k m (is_bytes_field f)) f.sink))
+    spec_tests k m f.spec ++ (all_tests (attribute_tests k m (kind_of f.spec) f.ty) f.attributes ++ (option_tests (truth_tests k m) f.condition ++ option_tests (sink_tests k m (is_bytes_field f)) f.sink))
 
 -- the values of an arm, which are compared with the subject
 abbrev pub compared_tests : ℕ → Option Expr → List Expr → List (Bool × Fault)

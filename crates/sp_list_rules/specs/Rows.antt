@@ -184,7 +184,7 @@ parameters_stand = refl
 unit_is_no_result : bodies (of_functions (gives some_unit (bare_at 30 bare_is.Return ∷ []) ∷ [])) ≡ (rule_is.TypeMismatch, 20) ∷ (rule_is.NotAssignable, 30) ∷ []
 unit_is_no_result = refl
 
-void_is_no_result : bodies (of_functions (gives nothing [] ∷ [])) ≡ (rule_is.TypeMismatch, 20) ∷ []
+void_is_no_result : bodies (of_functions (gives nothing [] ∷ [])) ≡ (rule_is.TypeMismatch, 20) ∷ (rule_is.MissingReturn, 10) ∷ []
 void_is_no_result = refl
 
 may_end_without_result : bodies (of_functions (gives uint8 [] ∷ [])) ≡ (rule_is.MissingReturn, 10) ∷ []
@@ -236,6 +236,9 @@ label_has_a_number = refl
 
 label_is_negative : bodies (of_label (label (Some (minus 30 int64 1)) label_is.Unknown)) ≡ (rule_is.LiteralRange, 30) ∷ []
 label_is_negative = refl
+
+label_is_a_signed_zero : bodies (of_label (label (Some (minus 30 int64 0)) label_is.Unknown)) ≡ (rule_is.TypeMismatch, 30) ∷ []
+label_is_a_signed_zero = refl
 
 label_is_signed : bodies (of_label (label (Some (leaf_at 30 int64 (leaf_is.TypedNumber 1))) label_is.Unknown)) ≡ (rule_is.TypeMismatch, 30) ∷ []
 label_is_signed = refl

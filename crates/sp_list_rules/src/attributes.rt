@@ -1,20 +1,22 @@
 // The rules of bodies over the values of attributes.
 ghost use Rattle.std.specs.Prelude.{◌≡◌, ◌&&◌, not, OnOk};
 ghost use Rattle.sp_rules.specs.Least.{checked};
-ghost use Rattle.sp_typing.specs.Operands.{is_iterator};
+ghost use Rattle.sp_operands.specs.Operands.{is_iterator};
 ghost use Rattle.sp_list_rules.specs.Lists.{all_tests, option_tests};
 ghost use Rattle.sp_list_rules.specs.Fields.{asked_tests, amount_tests, truth_tests, default_tests, order_enum, by_role, attribute_tests};
 
 use crate::inside::{note_constant_value, note_inside};
 use crate::units::is_enum_of;
 use sp_base::NoMemory;
-use sp_body_rules::{Facts, is_bytes, note_at, note_condition, note_right, note_value, value_goes};
+use sp_body_rules::{
+    Facts, is_bytes, note_at, note_condition, note_right, note_value, value_goes, value_span,
+};
+use sp_operands::is_integer;
 use sp_rules::{Fault, Rule};
 use sp_typed::Expr;
 use sp_typed_units::Attribute;
 use sp_types::{Level, Type, Word};
-use sp_typing::is_integer;
-use sp_typing_units::{Holder, Kind, Role, role_of};
+use sp_typing_units::{Kind, Role, role_of};
 use sp_words::AttributeName;
 use std::alloc::Global;
 
@@ -97,8 +99,8 @@ fn note_default<F: Facts>(
     let stays = stored.is_known() && !value_goes(stored, e);
     let bare = e.ty().is_known() && !e.ty().is_plain();
     note_value(owner, e, least);
-    note_at(stays, owner, Rule::TypeMismatch, e.span(), least);
-    note_at(bare, owner, Rule::TypeMismatch, e.span(), least);
+    note_at(stays, owner, Rule::TypeMismatch, value_span(e), least);
+    note_at(bare, owner, Rule::TypeMismatch, value_span(e), least);
     note_inside(alloc, facts, owner, e, least)
 }
 
@@ -145,7 +147,7 @@ fn note_by_role<F: Facts>(
         }
         Role::Source => note_asked(alloc, facts, owner, is_bytes(e.ty()), e, least),
         Role::Place => note_asked(alloc, facts, owner, is_iterator(e.ty()), e, least),
-        Role::Misused | Role::Unasked | Role::Alone => {
+        Role::Unasked | Role::Alone => {
             note_value(owner, e, least);
             note_inside(alloc, facts, owner, e, least)
         }
@@ -156,18 +158,16 @@ fn note_attribute<F: Facts>(
     alloc: Global,
     facts: &F,
     owner: u32,
-    holder: Holder,
     kind: Kind,
     stored: &Type,
     attribute: &Attribute,
     least: &mut Option<Fault>,
 ) -> Result<(), NoMemory>
     ensures { OnOk result (least.new ≡ checked least.old
-        (attribute_tests (F.known facts.now) owner holder kind stored.now
-        attribute.now)) }
+        (attribute_tests (F.known facts.now) owner kind stored.now attribute.now)) }
 {
     let name = attribute.name;
-    let role = role_of(holder, kind, name);
+    let role = role_of(kind, name);
     match &attribute.value {
         Some(e) => note_by_role(alloc, facts, owner, stored, name, role, e, least),
         None => Ok(()),
@@ -180,18 +180,16 @@ pub(crate) fn note_attributes<F: Facts>(
     alloc: Global,
     facts: &F,
     owner: u32,
-    holder: Holder,
     kind: Kind,
     stored: &Type,
     all: &[Attribute],
     least: &mut Option<Fault>,
 ) -> Result<(), NoMemory>
     ensures { OnOk result (least.new ≡ checked least.old
-        (all_tests (attribute_tests (F.known facts.now) owner holder kind
-        stored.now) all.now)) }
+        (all_tests (attribute_tests (F.known facts.now) owner kind stored.now) all.now)) }
 {
     for attribute in all {
-        note_attribute(alloc, facts, owner, holder, kind, stored, attribute, least)?;
+        note_attribute(alloc, facts, owner, kind, stored, attribute, least)?;
     }
     Ok(())
 }

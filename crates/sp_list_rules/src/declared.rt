@@ -2,30 +2,28 @@
 ghost use Rattle.std.specs.Prelude.{◌≡◌, ◌&&◌, not, OnOk};
 ghost use Rattle.sp_rules.specs.Least.{checked};
 ghost use Rattle.sp_list_rules.specs.Lists.{all_tests, option_tests};
-ghost use Rattle.sp_list_rules.specs.Bodies.{is_regex, regex_tests, told_tests, declared_tests, lacks_value, const_tests, lacks_number, is_past_label, is_minus_literal, number_tests, label_tests, enum_tests, alias_tests, conversion_tests};
+ghost use Rattle.sp_list_rules.specs.Bodies.{regex_tests, told_tests, declared_tests, value_or_regex_tests, const_choice_tests, inside_const, lacks_value, const_tests, lacks_number, is_past_label, is_minus_literal, is_below_zero, is_signed_zero, is_no_number, number_tests, label_tests, enum_tests, alias_tests, conversion_tests};
 
+use crate::functions::note_plain;
 use crate::inside::note_inside;
 use sp_base::NoMemory;
-use sp_body_rules::{Facts, is_unsigned, note_at, note_target, note_value, note_written};
+use sp_body_rules::{
+    Facts, is_regex, is_unsigned, note_at, note_condition, note_target, note_value, note_written,
+    unlike, value_span,
+};
+use sp_operands::{is_negative, number_of};
 use sp_rules::{Fault, Rule};
-use sp_typed::{Expr, Written};
+use sp_typed::{Expr, ExprLevel, Written};
 use sp_typed_units::{Alias, Constant, ConstantValue, EndlessConversion, Enum, Label, LabelNumber};
-use sp_types::{Level, Type, Word};
-use sp_typing::is_negative;
+use sp_types::Type;
 use std::alloc::Global;
-
-fn is_regex(ty: &Type) -> bool
-    ensures { result ≡ is_regex ty.now }
-{
-    matches!(ty.level(), Level::Word(Word::Regex))
-}
 
 #[tactic(auto, using(crate::proofs::Checked::checked_more))]
 fn note_regex(owner: u32, ty: &Type, written: &Option<Written>, e: &Expr, least: &mut Option<Fault>)
     ensures { least.new ≡ checked least.old (regex_tests owner ty.now written.now e.now) }
 {
     if let Some(written) = written {
-        note_written(owner, written, least);
+        note_plain(owner, ty, written, least);
         note_at(ty.is_known(), owner, Rule::NotAssignable, e.span(), least);
     }
 }
@@ -37,7 +35,7 @@ fn note_told(owner: u32, ty: &Type, written: &Option<Written>, e: &Expr, least: 
     match written {
         None => note_value(owner, e, least),
         Some(written) => {
-            note_written(owner, written, least);
+            note_plain(owner, ty, written, least);
             note_target(owner, ty, e, least);
         }
     }
@@ -56,6 +54,53 @@ fn note_declared(
         note_regex(owner, ty, written, e, least);
     } else {
         note_told(owner, ty, written, e, least);
+    }
+}
+
+fn note_value_or_regex(owner: u32, e: &Expr, least: &mut Option<Fault>)
+    ensures { least.new ≡ checked least.old (value_or_regex_tests owner e.now) }
+{
+    if !is_regex(e.ty()) {
+        note_value(owner, e, least);
+    }
+}
+
+#[tactic(auto, using(crate::proofs::Checked::checked_more))]
+fn note_const_choice(owner: u32, c: &Expr, a: &Expr, b: &Expr, least: &mut Option<Fault>)
+    ensures { least.new ≡ checked least.old (const_choice_tests owner c.now a.now b.now) }
+{
+    note_condition(owner, c, least);
+    note_value_or_regex(owner, a, least);
+    note_value_or_regex(owner, b, least);
+    note_at(
+        unlike(a, b),
+        owner,
+        Rule::TypeMismatch,
+        value_span(b),
+        least,
+    );
+}
+
+/// Notes what is wrong inside the value of a constant. It calls itself as deep as the value holds `? :` in its own branches.
+#[tactic(auto, using(crate::proofs::Checked::checked_more))]
+fn note_inside_const<F: Facts>(
+    alloc: Global,
+    facts: &F,
+    owner: u32,
+    e: &Expr,
+    least: &mut Option<Fault>,
+) -> Result<(), NoMemory>
+    ensures { OnOk result (least.new
+        ≡ checked least.old (inside_const (F.known facts.now) owner e.now)) }
+{
+    match e.level() {
+        ExprLevel::Three(_, c, a, b) => {
+            note_const_choice(owner, c, a, b, least);
+            note_inside(alloc, facts, owner, c, least)?;
+            note_inside_const(alloc, facts, owner, a, least)?;
+            note_inside_const(alloc, facts, owner, b, least)
+        }
+        _ => note_inside(alloc, facts, owner, e, least),
     }
 }
 
@@ -80,7 +125,7 @@ fn note_constant<F: Facts>(
     let lacks = lacks_value(&constant.value);
     note_declared(owner, &constant.ty, &constant.written, e, least);
     note_at(lacks, owner, Rule::NotConstant, e.span(), least);
-    note_inside(alloc, facts, owner, e, least)
+    note_inside_const(alloc, facts, owner, e, least)
 }
 
 /// Notes what is wrong with constants.
@@ -118,6 +163,27 @@ fn is_minus_literal(e: &Expr) -> bool
     e.is_literal() && is_negative(e)
 }
 
+/// Whether it is a literal below zero.
+fn is_below_zero(e: &Expr) -> bool
+    ensures { result ≡ is_below_zero e.now }
+{
+    is_minus_literal(e) && number_of(e) != 0
+}
+
+/// Whether it is a zero with a minus sign.
+fn is_signed_zero(e: &Expr) -> bool
+    ensures { result ≡ is_signed_zero e.now }
+{
+    is_minus_literal(e) && number_of(e) == 0
+}
+
+/// Whether it is of a known type, and no unsigned number.
+fn is_no_number(e: &Expr) -> bool
+    ensures { result ≡ is_no_number e.now }
+{
+    is_signed_zero(e) || (e.ty().is_known() && (!e.is_literal() && !is_unsigned(e.ty())))
+}
+
 #[tactic(auto, using(crate::proofs::Checked::checked_more))]
 fn note_number<F: Facts>(
     alloc: Global,
@@ -130,16 +196,9 @@ fn note_number<F: Facts>(
     ensures { OnOk result (least.new
         ≡ checked least.old (number_tests (F.known facts.now) owner number e.now)) }
 {
-    let wrong = e.ty().is_known() && (!e.is_literal() && !is_unsigned(e.ty()));
     note_value(owner, e, least);
-    note_at(wrong, owner, Rule::TypeMismatch, e.span(), least);
-    note_at(
-        is_minus_literal(e),
-        owner,
-        Rule::LiteralRange,
-        e.span(),
-        least,
-    );
+    note_at(is_no_number(e), owner, Rule::TypeMismatch, e.span(), least);
+    note_at(is_below_zero(e), owner, Rule::LiteralRange, e.span(), least);
     note_at(
         lacks_number(number),
         owner,

@@ -6,7 +6,7 @@ ghost use Rattle.sp_list_rules.specs.Bodies.{parameter_suits, parameter_tests, p
 
 use crate::inside::note_own_body;
 use sp_base::NoMemory;
-use sp_body_rules::{is_unit, is_void, note_at, note_end, note_written};
+use sp_body_rules::{is_unit, note_at, note_end, note_written};
 use sp_constants::Constants;
 use sp_rules::{Fault, Rule};
 use sp_typed::Written;
@@ -63,19 +63,13 @@ fn note_result(owner: u32, ty: &Type, written: &Option<Written>, least: &mut Opt
     }
 }
 
-/// The type of what a function gives, where it gives something.
+/// The type of what a function gives, where one is written.
 fn wanted_of(written: &Option<Written>, ty: &Type) -> Result<Option<Type>, NoMemory>
     ensures { IfOk result (λ w. w ≡ wanted_of written.now ty.now) }
 {
     match written {
         None => Ok(None),
-        Some(_) => {
-            if is_void(ty) {
-                Ok(None)
-            } else {
-                Ok(Some(ty.copy()?))
-            }
-        }
+        Some(_) => Ok(Some(ty.copy()?)),
     }
 }
 

@@ -5,18 +5,17 @@ ghost use Rattle.sp_typed_units.specs.Parts.{parts, arms};
 ghost use Rattle.sp_list_rules.specs.Lists.{all_tests, option_tests};
 ghost use Rattle.sp_list_rules.specs.Bodies.{inside_tests};
 ghost use Rattle.sp_body_rules.specs.Values.{value_tests};
-ghost use Rattle.sp_list_rules.specs.Fields.{truth_tests, is_bytes_op, reads_bytes, is_bytes_field, sink_tests, holder_of, field_tests, compared_tests, subject_tests, arm_tests, part_tests, parts_tests, arms_tests};
+ghost use Rattle.sp_list_rules.specs.Fields.{truth_tests, is_bytes_op, reads_bytes, is_bytes_field, sink_tests, field_tests, compared_tests, subject_tests, arm_tests, part_tests, parts_tests, arms_tests};
 
 use crate::attributes::{note_asked, note_attributes, note_truth};
 use crate::inside::note_inside;
 use crate::readings::{kind_of, note_spec};
 use sp_base::NoMemory;
 use sp_body_rules::{Facts, is_bytes, is_sink, note_at, note_case, note_value};
+use sp_operands::OperatorSort;
 use sp_rules::{Fault, Rule};
 use sp_typed::Expr;
 use sp_typed_units::{Arm, Field, Part, PartNode, ReadOp, Spec, SpecNode};
-use sp_typing::OperatorSort;
-use sp_typing_units::Holder;
 use std::alloc::Global;
 
 fn is_bytes_op(op: &ReadOp) -> bool
@@ -40,15 +39,6 @@ fn is_bytes_field(field: &Field) -> bool
     ensures { result ≡ is_bytes_field field.now }
 {
     reads_bytes(&field.spec) && (!field.ty.is_known() || is_bytes(&field.ty))
-}
-
-fn holder_of(member: Option<u32>) -> Holder
-    ensures { result ≡ holder_of member }
-{
-    match member {
-        None => Holder::AnonymousField,
-        Some(_) => Holder::NamedField,
-    }
 }
 
 fn note_field_condition<F: Facts>(
@@ -98,14 +88,12 @@ fn note_field<F: Facts>(
     ensures { OnOk result (least.new
         ≡ checked least.old (field_tests (F.known facts.now) owner field.now)) }
 {
-    let holder = holder_of(field.member);
     let kind = kind_of(&field.spec);
     note_spec(alloc, facts, owner, &field.spec, least)?;
     note_attributes(
         alloc,
         facts,
         owner,
-        holder,
         kind,
         &field.ty,
         field.attributes.as_slice(),

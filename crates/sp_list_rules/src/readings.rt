@@ -3,7 +3,7 @@ ghost use Rattle.std.specs.Prelude.{◌≡◌, ◌-◌, ◌^◌, not, false, OnO
 ghost use Rattle.sp_numbers.specs.Numbers.{width_bits};
 ghost use Rattle.sp_rules.specs.Least.{checked};
 ghost use Rattle.sp_typed.specs.Exprs.{exprs};
-ghost use Rattle.sp_typing.specs.Literals.{has_number, type_has};
+ghost use Rattle.sp_operands.specs.Literals.{has_number, type_has};
 ghost use Rattle.sp_typing_units.specs.Roles.{grouped};
 ghost use Rattle.sp_typed_units.specs.Specs.{unit_read};
 ghost use Rattle.sp_list_rules.specs.Fields.{broken_tests, is_past_token, reads_past, reading_tests, spec_span, is_void_op, reads_void, token_kind, op_kind, count_kind, kind_of, exprs_inside, spec_tests};
@@ -17,7 +17,7 @@ use sp_rules::{Fault, Rule};
 use sp_typed::{Expr, ManyOp, NewOf};
 use sp_typed_units::{ReadOp, Reading, Spec, SpecNode, TokenOp, UnitOf};
 use sp_types::{Level, Type, Word};
-use sp_typing_units::{Holder, Kind};
+use sp_typing_units::Kind;
 use std::alloc::Global;
 
 fn note_broken(owner: u32, op: &ReadOp, least: &mut Option<Fault>)
@@ -237,16 +237,7 @@ pub(crate) fn note_spec<F: Facts>(
             note_spec(alloc, facts, owner, inner, least)?;
             let stored = Type::word(Word::Unknown);
             let kind = kind_of(inner);
-            note_attributes(
-                alloc,
-                facts,
-                owner,
-                Holder::Group,
-                kind,
-                &stored,
-                attributes,
-                least,
-            )
+            note_attributes(alloc, facts, owner, kind, &stored, attributes, least)
         }
     }
 }

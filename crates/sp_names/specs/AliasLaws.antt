@@ -21,7 +21,7 @@ use Rattle.sp_names.specs.declared.sort.Scope.{Scope}
 use Rattle.sp_names.specs.declared.sort.Scope.TheVariants as scope_is
 use Rattle.sp_names.specs.Declarations.{rows, rows_of, rows_from, base, module_at, module_declarations, declaration_at, sort_of, type_tree_of}
 use Rattle.sp_names.specs.Names.{is_name, first_named, declared_name, declared, visible, place_among, library_names, label_in, some_declaration, some_library, some_label, named_in, enum_type, enum_of, own_enum, label_of, behind, in_scope, in_own, meaning_or, means, path_names}
-use Rattle.sp_names.specs.Types.{meaning_type, or_unknown, type_in, types_in, one_or_none, named_numbers, mentions, mentions_in, mentions_among}
+use Rattle.sp_names.specs.Types.{whole_type, meaning_type, or_unknown, type_in, types_in, one_or_none, named_numbers, mentions, mentions_in, mentions_among}
 use Rattle.sp_names.specs.Aliases.{open_or, first_open, sort_asks, asks, sort_type, when_open, nowhere, try_one, tries, ready}
 
 pub none_some : {A : Type 0} (o : Option A) (a : A) → o ≡ None → o ≡ Some a → ⊥
@@ -169,10 +169,10 @@ mutual
   type_same list f g m absent w e = refl
   type_same list f g m (row ts) w e = refl
   type_same list f g m (node (form_is.Type type_is.Path) span (more path ts)) w e = names_same list f g m (path_names path) w e
-  type_same list f g m (node (form_is.Type type_is.Tuple) span ts) w e = ap (made maker_is.Tuple) (types_same list f g m ts w e)
-  type_same list f g m (node (form_is.Type type_is.Vector) span ts) w e = ap (made maker_is.Vector) (types_same list f g m ts w e)
-  type_same list f g m (node (form_is.Type type_is.Set) span ts) w e = ap (made maker_is.Set) (types_same list f g m ts w e)
-  type_same list f g m (node (form_is.Type type_is.Map) span ts) w e = ap (made maker_is.Map) (types_same list f g m ts w e)
+  type_same list f g m (node (form_is.Type type_is.Tuple) span ts) w e = ap (whole_type maker_is.Tuple) (types_same list f g m ts w e)
+  type_same list f g m (node (form_is.Type type_is.Vector) span ts) w e = ap (whole_type maker_is.Vector) (types_same list f g m ts w e)
+  type_same list f g m (node (form_is.Type type_is.Set) span ts) w e = ap (whole_type maker_is.Set) (types_same list f g m ts w e)
+  type_same list f g m (node (form_is.Type type_is.Map) span ts) w e = ap (whole_type maker_is.Map) (types_same list f g m ts w e)
   type_same list f g m (node _ span ts) w e = refl
 
   types_same : (list : List Tree) (f g : ℕ → Option Ty) (m : ℕ) (ts : Trees) → Within f g → first_open f (mentions_among list m ts) ≡ None → types_in list f m ts ≡ types_in list g m ts

@@ -1,5 +1,5 @@
 -- The types that are written: what each is in its module, and which declarations it names.
-use Rattle.std.specs.Prelude.{ℕ, ◌==◌, suc, if◌then◌else◌, List, [], ◌∷◌, ◌++◌, take, length, Option, Some, None, slice_get}
+use Rattle.std.specs.Prelude.{ℕ, ◌==◌, suc, Bool, ◌&&◌, if◌then◌else◌, List, [], ◌∷◌, ◌++◌, take, length, Option, Some, None, slice_get}
 use Rattle.sp_base.specs.declared.places.Span.{Span}
 use Rattle.sp_words.specs.declared.words.IntWord.{IntWord}
 use Rattle.sp_words.specs.declared.words.IntWord.TheVariants as int
@@ -8,10 +8,11 @@ use Rattle.sp_ast.specs.Trees.{Tree, Trees, absent, row, node, none, more, span_
 use Rattle.sp_ast.specs.declared.forms.Form.{Form}
 use Rattle.sp_ast.specs.declared.forms.Form.TheVariants as form_is
 use Rattle.sp_ast.specs.declared.forms.TypeForm.TheVariants as type_is
-use Rattle.sp_types.specs.Types.{Ty, Tys, word, made}
+use Rattle.sp_types.specs.Types.{Ty, Tys, word, made, is_key, is_plain, are_plain}
 use Rattle.sp_types.specs.Types as types
 use Rattle.sp_types.specs.declared.words.Word.{Word}
 use Rattle.sp_types.specs.declared.words.Word.TheVariants as word_is
+use Rattle.sp_types.specs.declared.words.Maker.{Maker}
 use Rattle.sp_types.specs.declared.words.Maker.TheVariants as maker_is
 use Rattle.sp_names.specs.declared.sort.Scope.{Scope}
 use Rattle.sp_names.specs.declared.sort.Scope.TheVariants as scope_is
@@ -92,6 +93,19 @@ meaning_type f meaning_is.Decoder = word word_is.Decoder
 meaning_type f (meaning_is.Label _ _) = unknown
 meaning_type f (meaning_is.Nothing _) = unknown
 
+-- Whether types may stand in what is made of them: what is inside another type is plain, and a key is of a type of keys.
+abbrev pub may_hold : Maker → Tys → Bool
+may_hold maker_is.Set (types.more t us) = is_key t
+may_hold maker_is.Map (types.more k us) = is_key k && are_plain us
+may_hold _ us = are_plain us
+
+-- what is made of types; where one of them can't stand there, it is unknown
+abbrev pub whole_type : Maker → Tys → Ty
+whole_type maker us = if may_hold maker us then made maker us else unknown
+
+abbrev pub plain_or_unknown : Ty → Ty
+plain_or_unknown t = if is_plain t then t else unknown
+
 -- the type of a tree of a form, by its parts and by their types
 abbrev pub form_type : List Tree → (ℕ → Option Ty) → ℕ → Form → Span → Trees → Tys → Ty
 form_type list f m (form_is.Type type_is.Path) span (more path ts) us = meaning_type f (path_means list f m path)
@@ -100,15 +114,15 @@ form_type list f m (form_is.Type type_is.Bytes) span ts us = word word_is.Bytes
 form_type list f m (form_is.Type type_is.String) span ts us = word word_is.String
 form_type list f m (form_is.Type type_is.Void) span ts us = word word_is.Void
 form_type list f m (form_is.Type (type_is.Int w)) span ts us = word (int_word w)
-form_type list f m (form_is.Type type_is.Tuple) span ts us = made maker_is.Tuple us
-form_type list f m (form_is.Type type_is.Vector) span ts us = made maker_is.Vector us
-form_type list f m (form_is.Type type_is.Set) span ts us = made maker_is.Set us
-form_type list f m (form_is.Type type_is.Map) span ts us = made maker_is.Map us
+form_type list f m (form_is.Type type_is.Tuple) span ts us = whole_type maker_is.Tuple us
+form_type list f m (form_is.Type type_is.Vector) span ts us = whole_type maker_is.Vector us
+form_type list f m (form_is.Type type_is.Set) span ts us = whole_type maker_is.Set us
+form_type list f m (form_is.Type type_is.Map) span ts us = whole_type maker_is.Map us
 form_type list f m (form_is.Type type_is.Bitfield) span ts us = bitfield_word (bitfield_number list m span.from)
 form_type list f m _ span ts us = unknown
 
 -- The type that a tree of a type is in a module, under the answers of type declarations. A unit and an enum that stand here
--- aren't the whole type of a declaration, and so they are none.
+-- aren't the whole type of a declaration, and so they are none. What holds a type that can't stand in it is none either.
 abbrev mutual
   pub type_in : List Tree → (ℕ → Option Ty) → ℕ → Tree → Ty
   type_in list f m absent = unknown

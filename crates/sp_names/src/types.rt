@@ -4,7 +4,7 @@ ghost use Rattle.sp_ast.specs.Trees.{trees};
 ghost use Rattle.sp_types.specs.Types.{tys, made, none, more};
 ghost use Rattle.sp_types.specs.declared.words.Maker.TheVariants as maker_is;
 ghost use Rattle.sp_solver.specs.Told.{told};
-ghost use Rattle.sp_names.specs.Types.{int_word, or_unknown, meaning_type, bitfield_word, type_in, types_in, one_or_none, named_numbers, mentions, mentions_in, mentions_among};
+ghost use Rattle.sp_names.specs.Types.{int_word, or_unknown, meaning_type, bitfield_word, whole_type, plain_or_unknown, type_in, types_in, one_or_none, named_numbers, mentions, mentions_in, mentions_among};
 ghost use Rattle.sp_names.specs.Names.{names_of, path_names};
 
 use crate::names::Names;
@@ -70,13 +70,50 @@ fn made_of_one(alloc: Global, maker: Maker, part: Type) -> Result<Type, NoMemory
     Type::made(alloc, maker, parts)
 }
 
-fn map_of(alloc: Global, key: Type, value: Type) -> Result<Type, NoMemory>
-    ensures { IfOk result (λ t. t ≡ made maker_is.Map (more key (more value none))) }
+fn made_of_two(alloc: Global, maker: Maker, first: Type, second: Type) -> Result<Type, NoMemory>
+    ensures { IfOk result (λ t. t ≡ made maker (more first (more second none))) }
 {
     let mut parts = Vec::with_capacity(alloc, 2)?;
-    parts.push(key)?;
-    parts.push(value)?;
-    Type::made(alloc, Maker::Map, parts)
+    parts.push(first)?;
+    parts.push(second)?;
+    Type::made(alloc, maker, parts)
+}
+
+/// A type, if it is plain.
+fn plain_or_unknown(t: Type) -> Type
+    ensures { result ≡ plain_or_unknown t }
+{
+    if t.is_plain() {
+        t
+    } else {
+        Type::word(Word::Unknown)
+    }
+}
+
+fn vector_of(alloc: Global, part: Type) -> Result<Type, NoMemory>
+    ensures { IfOk result (λ t. t ≡ whole_type maker_is.Vector (more part none)) }
+{
+    Ok(plain_or_unknown(made_of_one(alloc, Maker::Vector, part)?))
+}
+
+fn set_of(alloc: Global, part: Type) -> Result<Type, NoMemory>
+    ensures { IfOk result (λ t. t ≡ whole_type maker_is.Set (more part none)) }
+{
+    if part.is_key() {
+        made_of_one(alloc, Maker::Set, part)
+    } else {
+        Ok(Type::word(Word::Unknown))
+    }
+}
+
+fn map_of(alloc: Global, key: Type, value: Type) -> Result<Type, NoMemory>
+    ensures { IfOk result (λ t. t ≡ whole_type maker_is.Map (more key (more value none))) }
+{
+    if key.is_key() && value.is_plain() {
+        made_of_two(alloc, Maker::Map, key, value)
+    } else {
+        Ok(Type::word(Word::Unknown))
+    }
 }
 
 /// Puts a number on the list, if there is one.
@@ -91,8 +128,8 @@ fn put_number(list: &mut Vec<u32>, number: Option<u32>) -> Result<(), NoMemory>
 
 impl<'a> Names<'a> {
     /// The type that a tree of a type is in a module, where `known` has the types of type declarations by their numbers. A
-    /// unit or an enum that is not the whole type of a declaration is unknown, and so is what names no type. A type of more
-    /// parts than a type may have is answered as want of memory.
+    /// unit or an enum that is not the whole type of a declaration is unknown, and so is what names no type, and what holds a
+    /// type that can't stand in it. A type of more parts than a type may have is answered as want of memory.
     #[cycle(type_in)]
     pub fn type_in(
         &self,
@@ -111,19 +148,16 @@ impl<'a> Names<'a> {
             TypeView::Void => Ok(Type::word(Word::Void)),
             TypeView::Int(word) => Ok(Type::word(int_word(word))),
             TypeView::Tuple(members) => {
-                Type::made(
-                    alloc,
-                    Maker::Tuple,
-                    self.types_in(alloc, known, owner, members)?,
-                )
+                let parts = self.types_in(alloc, known, owner, members)?;
+                Ok(plain_or_unknown(Type::made(alloc, Maker::Tuple, parts)?))
             }
             TypeView::Vector(element) => {
                 let part = self.type_in(alloc, known, owner, &element)?;
-                made_of_one(alloc, Maker::Vector, part)
+                vector_of(alloc, part)
             }
             TypeView::Set(element) => {
                 let part = self.type_in(alloc, known, owner, &element)?;
-                made_of_one(alloc, Maker::Set, part)
+                set_of(alloc, part)
             }
             TypeView::Map { key, value } => {
                 let key = self.type_in(alloc, known, owner, &key)?;

@@ -1,5 +1,5 @@
 pub mod Causing
-pub mod Orders
+pub mod Between
+pub mod Reports
 pub mod Single
 pub mod Wholes
-pub mod Reports

@@ -36,9 +36,9 @@ made words files (Exit.Unread (Unread.Refused refusal)) calm (wanted, found, unr
   output = refl;
   message = refl;
 }
-made words files (Exit.Done text) calm (wanted, trees, found, reads, is) = record {
-  answer = record { status = 0; out = printed wanted.print trees; err = [] };
-  is_answer = inr (inr (wanted, trees, found, reads, refl));
+made words files (Exit.Done text) calm (wanted, list, found, loaded, is) = record {
+  answer = record { status = 0; out = printed wanted list; err = [] };
+  is_answer = inr (inr (wanted, list, found, loaded, refl));
   status = refl;
   output = is;
   message = refl;

@@ -1,21 +1,25 @@
 -- What the program does, by its exit.
 use Rattle.std.specs.Prelude.{◌≡◌, ◌<◌, ◌⊎◌, ℕ, List, [], Option, Some, None, codes}
-use Rattle.sp_ast.specs.Trees.{Tree}
 use Rattle.sp_io.specs.Moved.{appended}
 use Rattle.sp_command.specs.Refusals.{refusal_text}
 use Rattle.sp_command.specs.Puts.{IsPartPut}
 use Rattle.sp_spicyc.specs.declared.exits.Exit.{Exit}
 use Rattle.sp_read_file.specs.declared.unread.Unread.{Unread}
-use Rattle.sp_spicyc.specs.Files.{AllRead, printed, IsUnread}
+use Rattle.sp_front.specs.declared.entries.ModuleFile.{ModuleFile}
+use Rattle.sp_front.specs.Lists.{Files}
+use Rattle.sp_front.specs.inside.Follow.{IsRefusedBy}
+use Rattle.sp_load.specs.Loads.{IsLoaded, IsLoadRefused}
+use Rattle.sp_spicyc.specs.Files.{printed}
 use Rattle.sp_read_file.specs.Loads.{UnreadCause}
 use Rattle.sp_spicyc.specs.Words.{Words, words_of}
 
 -- what the words and the files have to do with an exit
-abbrev pub Says : List (List ℕ) → Option (List ℕ → Option (List ℕ)) → Exit → Type 0
+abbrev pub Says : List (List ℕ) → Files → Exit → Type 0
 Says words files Exit.Usage = words_of words ≡ None
 Says words files (Exit.Done text) =
-    (wanted : Words) × (trees : List Tree) × (words_of words ≡ Some wanted) × AllRead files wanted.files trees × (text ≡ printed wanted.print trees)
-Says words files (Exit.Unread unread) = (wanted : Words) × (words_of words ≡ Some wanted) × IsUnread files wanted.files unread
+    (wanted : Words) × (list : List ModuleFile) × (words_of words ≡ Some wanted) × IsLoaded files wanted.files wanted.directories list × (text ≡ printed wanted list)
+Says words files (Exit.Unread unread) =
+    (wanted : Words) × (words_of words ≡ Some wanted) × IsRefusedBy (IsLoadRefused files wanted.files wanted.directories) unread
 
 -- whether the count of faults of the modules rose at an exit
 abbrev pub ExitCause : ℕ → ℕ → Exit → Type 0

@@ -1,5 +1,6 @@
 pub mod Causes
 pub mod Command
 pub mod Files
+pub mod Wants
 pub mod Whole
 pub mod Words

@@ -6,7 +6,7 @@ ghost use Rattle.sp_spicyc.specs.Whole.{IsAnswered};
 ghost use Rattle.sp_spicyc.specs.Command.{Says, ExitCause, Reported, status_of, output_of, message_of};
 
 use crate::exits::Exit;
-use crate::files::read_files;
+use crate::files::load_and_print;
 use crate::words::words_wanted;
 use sp_base::{ByteList, NoMemory, Text};
 use sp_command::{failure_status, put_text};
@@ -23,7 +23,7 @@ fn drive<M: Modules>(alloc: Global, words: &[Text], modules: &mut M) -> Exit
     let Some(wanted) = words_wanted(words) else {
         return Exit::Usage;
     };
-    match read_files(alloc, wanted.files, wanted.print, modules) {
+    match load_and_print(alloc, &wanted, modules) {
         Ok(text) => Exit::Done(text),
         Err(unread) => Exit::Unread(unread),
     }
@@ -93,9 +93,10 @@ fn report<O: Out, E: Out>(alloc: Global, exit: &Exit, out: &mut O, err: &mut E) 
     status(exit)
 }
 
-/// Reads the files that the words name as modules, in their order, writes their canonical texts to `out` where the words
-/// want it, and a message to `err` where something is wrong, and answers the status of the program. No import is followed.
-/// Nothing is written to `out` unless all files are modules.
+/// Loads the list of modules that the words want: the named files in their order, and what they import, from the directories of
+/// `-L`. Writes the canonical texts of the named files to `out` where the words want it, and a message to `err` where something
+/// is wrong, and answers the status of the program. Nothing is written to `out` unless all files are modules and no rule is
+/// broken in the list.
 pub fn spicyc<M: Modules, O: Out, E: Out>(
     alloc: Global,
     words: &[Text],

@@ -7,8 +7,8 @@ use sp_read_file::Unread;
 pub enum Exit {
     /// The command line is faulty.
     Usage,
-    /// All files were read as modules; this is printed of them.
+    /// The list was loaded; this is printed of its named files.
     Done(ByteList),
-    /// A file was not, and none behind it was looked at.
+    /// It was not.
     Unread(Unread),
 }

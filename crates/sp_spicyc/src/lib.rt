@@ -1,7 +1,8 @@
-//! The compiler's command: it reads the named files as modules, and names the first fault of the first that is none.
+//! The compiler's command: it reads the named files and what they import, checks them, and names the first fault.
 #![tactic(auto)]
 
 mod command;
+mod directories;
 mod exits;
 mod files;
 mod laws;

@@ -10,7 +10,7 @@ use Rattle.sp_typed.specs.declared.words.OneOp.TheVariants as one_is
 use Rattle.sp_typed.specs.Exprs.{Expr, Exprs, leaf, one, two, three, many}
 use Rattle.sp_typed.specs.Exprs as typed_is
 use Rattle.sp_typing.specs.Contexts.{Around}
-use Rattle.sp_typing.specs.Literals.{seen}
+use Rattle.sp_operands.specs.Literals.{seen}
 use Rattle.sp_typing.specs.Typing.{typed}
 use Rattle.sp_typing_units.specs.Values.{Values}
 use Rattle.sp_typing_units.specs.Decorators.{meant}

@@ -21,7 +21,7 @@ use Rattle.sp_types.specs.Types.{Ty, word}
 use Rattle.sp_types.specs.declared.words.Word.TheVariants as word_is
 use Rattle.sp_typed_units.specs.declared.declarations.EndlessConversion.{EndlessConversion}
 use Rattle.sp_typing.specs.Contexts.{Around}
-use Rattle.sp_typing.specs.Operands.{unknown, boolean}
+use Rattle.sp_operands.specs.Operands.{unknown, boolean}
 use Rattle.sp_typing_units.specs.Values.{Values}
 use Rattle.sp_solver.specs.Rounds.{round}
 use Rattle.sp_around.specs.Arounds.{Facts, around}

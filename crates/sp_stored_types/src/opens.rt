@@ -2,7 +2,7 @@
 ghost use Rattle.std.specs.Prelude.{◌≡◌, length, IfOk};
 ghost use Rattle.sp_solver.specs.Told.{told};
 ghost use Rattle.sp_typed.specs.Exprs.{exprs};
-ghost use Rattle.sp_typing.specs.Literals.{seen};
+ghost use Rattle.sp_operands.specs.Literals.{seen};
 ghost use Rattle.sp_stored_types.specs.Sources.{questions};
 ghost use Rattle.sp_around.specs.Members.{first_member};
 ghost use Rattle.std.specs.Prelude.{◌+◌};
@@ -10,9 +10,9 @@ ghost use Rattle.sp_stored_types.specs.Opens.{or_else, open_at, open_of, open_me
 
 use crate::rows::MemberRows;
 use sp_base::NoMemory;
+use sp_operands::seen;
 use sp_typed::{Expr, ExprLevel, OneOp};
 use sp_types::{Level, Type, Word};
-use sp_typing::seen;
 
 /// A question of the row that has no answer.
 #[tactic(auto, using(crate::proofs::Places::open_here, crate::proofs::Places::closed_here, crate::proofs::Places::open_past))]

@@ -43,7 +43,8 @@ pub enum LeafOp {
     Current(Standing),
     /// A local or a loop variable, by its slot in its body.
     Local(u32),
-    /// A parameter, by its number from 0 among those of its function, hook or unit.
+    /// A parameter, by its number from 0 among those of its function or unit. In a hook its own come first, and those of its unit
+    /// behind them.
     Parameter(u32, Standing),
     /// A constant of the list.
     Constant(u32),

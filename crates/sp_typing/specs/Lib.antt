@@ -1,5 +1,3 @@
-pub mod Operands
-pub mod Literals
 pub mod Contexts
 pub mod Typing
 pub mod Rows

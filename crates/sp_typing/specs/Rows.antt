@@ -1,10 +1,12 @@
--- Rows on which the typing of expressions is run: literals between operands, in rows, before `in`, and members of tuples.
+-- Rows on which the typing of expressions is run: literals between operands, in rows, before `in`, rows that are not whole, and
+-- members of tuples.
 use Rattle.std.specs.Prelude.{ℕ, ◌≡◌, if◌then◌else◌, List, [], ◌∷◌, Option, Some, None, codes, refl}
 use Rattle.std.specs.Str.{bytes_eq}
 use Rattle.sp_base.specs.declared.places.Span.{Span}
 use Rattle.sp_words.specs.declared.operators.BinaryOp.{BinaryOp}
 use Rattle.sp_words.specs.declared.operators.BinaryOp.TheVariants as op_is
 use Rattle.sp_words.specs.declared.operators.UnaryOp.TheVariants as unary_is
+use Rattle.sp_words.specs.declared.words.IntWord.TheVariants as int
 use Rattle.sp_numbers.specs.declared.width.Width.TheVariants.{W8, W16, W64}
 use Rattle.sp_ast.specs.Trees.{Tree, tree, node, more}
 use Rattle.sp_ast.specs.declared.forms.Form.TheVariants as form_is
@@ -20,8 +22,8 @@ use Rattle.sp_typed.specs.declared.words.OneOp.TheVariants as one_is
 use Rattle.sp_typed.specs.declared.words.TwoOp.TheVariants as two_is
 use Rattle.sp_typed.specs.Exprs.{Expr, type_of, leaf}
 use Rattle.sp_typing.specs.Contexts.{Around}
-use Rattle.sp_typing.specs.Operands.{unknown, boolean}
-use Rattle.sp_typing.specs.Literals.{seen}
+use Rattle.sp_operands.specs.Operands.{unknown, boolean}
+use Rattle.sp_operands.specs.Literals.{seen}
 use Rattle.sp_typing.specs.Typing.{typed, leaf_at, one_at, two_at, name_of}
 
 abbrev here : Span
@@ -112,9 +114,43 @@ past = refl
 past_compared : type_of (typed around (binary op_is.Less x (number 256))) ≡ boolean
 past_compared = refl
 
+-- `x + - 0`: a zero with a minus sign takes the type of x too, and a one is past it
+signed_zero : type_of (typed around (binary op_is.Add x (minus (number 0)))) ≡ byte
+signed_zero = refl
+
+signed_one : type_of (typed around (binary op_is.Add x (minus (number 1)))) ≡ unknown
+signed_one = refl
+
+-- `int8(300)` has the type that is written, though it is past it
+typed_past : seen (typed around (expr (expr_is.TypedNumber int.Int8) (tree (form_is.Number 300) here [] ∷ []))) ≡ word (word_is.Int W8)
+typed_past = refl
+
 -- `[1, x]` is a vector of bytes, and the literal is one
 row : type_of (typed around (expr expr_is.Vector (number 1 ∷ x ∷ []))) ≡ made maker_is.Vector (types.more byte types.none)
 row = refl
+
+-- what is not whole has no type: `[x, True]`, `[x, 256]`, `[/a/]`, and `set(s)`, since a set is no key
+mixed : type_of (typed around (expr expr_is.Vector (x ∷ expr expr_is.True [] ∷ []))) ≡ unknown
+mixed = refl
+
+past_element : type_of (typed around (expr expr_is.Vector (x ∷ number 256 ∷ []))) ≡ unknown
+past_element = refl
+
+no_value : type_of (typed around (expr expr_is.Vector (expr (expr_is.Regex (codes "a")) [] ∷ []))) ≡ unknown
+no_value = refl
+
+no_key : type_of (typed around (expr expr_is.Set (path (codes "s") ∷ []))) ≡ unknown
+no_key = refl
+
+-- `map(x: 1, 2: True)` and `map(x: 1, 2: 3)`
+abbrev pair : Tree → Tree → Tree
+pair k v = tree form_is.Pair here (k ∷ v ∷ [])
+
+mixed_values : type_of (typed around (expr expr_is.Map (pair x (number 1) ∷ pair (number 2) (expr expr_is.True []) ∷ []))) ≡ unknown
+mixed_values = refl
+
+entries : type_of (typed around (expr expr_is.Map (pair x (number 1) ∷ pair (number 2) (number 3) ∷ []))) ≡ made maker_is.Map (types.more byte (types.more (word (word_is.Uint W64)) types.none))
+entries = refl
 
 -- `x in s`: the key is widened to the type of the keys
 key : typed around (binary op_is.In x (path (codes "s"))) ≡ two_at here boolean (two_is.Binary op_is.In) (one_at here short one_is.Widen local_x) (leaf_at here (named (codes "s")) (leaf_is.Local 0))

@@ -29,15 +29,16 @@ use Rattle.sp_typed.specs.declared.words.NewOf.{NewOf}
 use Rattle.sp_typed.specs.declared.words.NewOf.TheVariants as new_is
 use Rattle.sp_typed.specs.declared.words.Written.{Written}
 use Rattle.sp_typed.specs.Exprs.{Expr, leaf, one, two, three, many, exprs, span_of, is_number, is_literal, settled}
-use Rattle.sp_typing.specs.declared.operators.OperatorSort.{OperatorSort}
-use Rattle.sp_typing.specs.declared.operators.OperatorSort.TheVariants as sort_is
+use Rattle.sp_operands.specs.declared.operators.OperatorSort.{OperatorSort}
+use Rattle.sp_operands.specs.declared.operators.OperatorSort.TheVariants as sort_is
 use Rattle.sp_typing.specs.declared.calls.Callee.{Callee}
 use Rattle.sp_typing.specs.declared.calls.Callee.TheVariants as callee_is
 use Rattle.sp_typing.specs.declared.context.Member.{Member}
 use Rattle.sp_typing.specs.declared.context.Callable.{Callable}
 use Rattle.sp_typing.specs.Contexts.{Around}
-use Rattle.sp_typing.specs.Operands.{unknown, boolean, is_integer, sort_of, result_type, unary_type, key_of, first_type}
-use Rattle.sp_typing.specs.Literals.{taken, seen, is_negative, literal_word, unsigned_literal, signed_literal}
+use Rattle.sp_operands.specs.Operands.{unknown, boolean, is_integer, sort_of, result_type, unary_type, key_of, first_type}
+use Rattle.sp_operands.specs.Literals.{taken, seen, is_negative, literal_word, unsigned_literal, signed_literal}
+use Rattle.sp_operands.specs.Wholes.{row_type, map_type}
 
 -- nodes on a slice of the text, of a type
 abbrev pub leaf_at : Span → Ty → LeafOp → Expr
@@ -118,13 +119,9 @@ maybe_taken (Some t) e = taken t e
 abbrev pub led : List Expr → List Expr
 led es = map (maybe_taken (lead es)) es
 
-abbrev pub first_seen : List Expr → Ty
-first_seen [] = unknown
-first_seen (e ∷ es) = seen e
-
 -- a vector and a set of elements
 abbrev pub row_at : Span → Maker → ManyOp → List Expr → Expr
-row_at span maker op es = many_at span (made maker (types.more (first_seen es) types.none)) op es
+row_at span maker op es = many_at span (row_type maker es) op es
 
 -- a map of pairs: the keys agree, and so do the values; they stand in turn
 abbrev pub half : Bool → Expr × Expr → Expr
@@ -139,12 +136,8 @@ abbrev pub in_turn : Option Ty → Option Ty → List (Expr × Expr) → List Ex
 in_turn key value [] = []
 in_turn key value (p ∷ ps) = maybe_taken key p.0 ∷ (maybe_taken value p.1 ∷ in_turn key value ps)
 
-abbrev pub second_seen : List Expr → Ty
-second_seen (k ∷ es) = first_seen es
-second_seen [] = unknown
-
 abbrev pub map_of : Span → List Expr → Expr
-map_of span es = many_at span (made maker_is.Map (types.more (first_seen es) (types.more (second_seen es) types.none))) many_is.Map es
+map_of span es = many_at span (map_type es) many_is.Map es
 
 abbrev pub map_at : Span → List (Expr × Expr) → Expr
 map_at span ps = map_of span (in_turn (lead_half false ps) (lead_half true ps) ps)

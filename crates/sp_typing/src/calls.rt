@@ -2,17 +2,16 @@
 ghost use Rattle.std.specs.Prelude.{◌≡◌, ◌∷◌, [], ◌++◌, map, length, IfOk};
 ghost use Rattle.sp_types.specs.Types.{tys};
 ghost use Rattle.sp_typing.specs.Contexts.{Around};
-ghost use Rattle.sp_typing.specs.Literals.{seen};
-ghost use Rattle.sp_typing.specs.Operands.{first_type, unknown};
+ghost use Rattle.sp_operands.specs.Literals.{seen};
+ghost use Rattle.sp_operands.specs.Operands.{first_type, unknown};
 ghost use Rattle.sp_typing.specs.Typing.{second_type, part_at, item_of, item_at, index_at, indexed, no_call, call_of, callee_of, call_at, method_found, method_at, started, new_at, name_of};
 
 use crate::context::{Callable, Context};
-use crate::literals::seen;
 use crate::nodes::{many_at, one_at, to_target, two_at};
-use crate::operators::first_type;
 use crate::rows::{add_each, all_seen};
 use sp_ast::{NameKind, Ref};
 use sp_base::{NoMemory, Span};
+use sp_operands::{first_type, seen};
 use sp_typed::{Expr, ExprLevel, LeafOp, ManyOp, NewOf, OneOp, TwoOp};
 use sp_types::{Level, Maker, Type, Word};
 use std::alloc::Global;

@@ -4,11 +4,12 @@ ghost use Rattle.sp_typing.specs.Contexts.{Around};
 ghost use Rattle.sp_typing.specs.Typing.{leaf_at, one_at, two_at, many_at, int_word, widened, to_target, alike, agreeing, both_written, or_else, unary_op, signed_type, unary_at, joined, binary_at, cast_type, choice_type, choice_at, member_at, member_of, set_op, set_member_at, set_member_of};
 
 use crate::context::{Context, Member};
-use crate::literals::{is_negative, literal_word, seen, taken};
-use crate::operators::{OperatorSort, is_integer, key_of, sort_of, unary_type};
 use sp_ast::{NameKind, Ref};
 use sp_base::{NoMemory, Span};
 use sp_numbers::Width;
+use sp_operands::{
+    OperatorSort, is_integer, is_negative, key_of, literal_word, seen, sort_of, taken, unary_type,
+};
 use sp_typed::{Expr, Leaf, LeafOp, Many, ManyOp, One, OneOp, Three, Two, TwoOp, Written};
 use sp_types::{Maker, Type, Word};
 use sp_words::{BinaryOp, IntWord, UnaryOp};

@@ -2,15 +2,16 @@
 ghost use Rattle.std.specs.Prelude.{◌≡◌, ◌∷◌, [], ◌++◌, map, length, IfOk, OnOk};
 ghost use Rattle.sp_types.specs.Types.{tys};
 ghost use Rattle.sp_typing.specs.Contexts.{Around};
-ghost use Rattle.sp_typing.specs.Literals.{seen, taken};
-ghost use Rattle.sp_typing.specs.Typing.{lead, maybe_taken, led, first_seen, row_at, lead_half, in_turn, map_of, map_at, tuple_at, to_maybe, each_to, made_of};
+ghost use Rattle.sp_operands.specs.Literals.{seen, taken};
+ghost use Rattle.sp_typing.specs.Typing.{lead, maybe_taken, led, row_at, lead_half, in_turn, map_of, map_at, tuple_at, to_maybe, each_to, made_of};
+ghost use Rattle.sp_operands.specs.Wholes.{row_type, map_type};
 
 use crate::context::Context;
-use crate::literals::{seen, taken};
 use crate::nodes::{many_at, to_target};
 use sp_base::{NoMemory, Span};
+use sp_operands::{map_type, row_type, seen, taken};
 use sp_typed::{Expr, ManyOp};
-use sp_types::{Maker, Type, Word};
+use sp_types::{Maker, Type};
 use std::alloc::Global;
 
 /// The type of the first that is no literal.
@@ -52,33 +53,6 @@ pub(crate) fn led(alloc: Global, list: Vec<Expr>) -> Result<Vec<Expr>, NoMemory>
     all_taken(alloc, &to, list)
 }
 
-fn first_seen(list: &[Expr]) -> Result<Type, NoMemory>
-    ensures { IfOk result (λ t. t ≡ first_seen list.now) }
-{
-    match list.first() {
-        Some(e) => seen(e),
-        None => Ok(Type::word(Word::Unknown)),
-    }
-}
-
-/// A type made of one part, or of two.
-pub(crate) fn made_of_one(alloc: Global, maker: Maker, t: Type) -> Result<Type, NoMemory>
-    ensures { IfOk result (λ r. r ≡ made_of maker (t ∷ [])) }
-{
-    let mut parts = Vec::with_capacity(alloc, 1)?;
-    parts.push(t)?;
-    Type::made(alloc, maker, parts)
-}
-
-pub(crate) fn made_of_two(alloc: Global, maker: Maker, t: Type, u: Type) -> Result<Type, NoMemory>
-    ensures { IfOk result (λ r. r ≡ made_of maker (t ∷ u ∷ [])) }
-{
-    let mut parts = Vec::with_capacity(alloc, 2)?;
-    parts.push(t)?;
-    parts.push(u)?;
-    Type::made(alloc, maker, parts)
-}
-
 /// A vector or a set of elements.
 pub(crate) fn row_at(
     alloc: Global,
@@ -89,7 +63,7 @@ pub(crate) fn row_at(
 ) -> Result<Expr, NoMemory>
     ensures { IfOk result (λ e. e ≡ row_at span maker op list.items) }
 {
-    let ty = made_of_one(alloc, maker, first_seen(&list)?)?;
+    let ty = row_type(alloc, maker, &list)?;
     many_at(span, ty, op, list)
 }
 
@@ -126,11 +100,7 @@ fn in_turn(
 fn map_of(alloc: Global, span: Span, parts: Vec<Expr>) -> Result<Expr, NoMemory>
     ensures { IfOk result (λ e. e ≡ map_of span parts.items) }
 {
-    let value = match parts.split_first() {
-        Some((_, others)) => first_seen(others)?,
-        None => Type::word(Word::Unknown),
-    };
-    let ty = made_of_two(alloc, Maker::Map, first_seen(&parts)?, value)?;
+    let ty = map_type(alloc, &parts)?;
     many_at(span, ty, ManyOp::Map, parts)
 }
 

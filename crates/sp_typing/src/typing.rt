@@ -12,10 +12,11 @@ use crate::nodes::{
     binary_at, both_written, cast_type, choice_at, int_word, leaf_at, member_of, one_at,
     set_member_of, unary_at,
 };
-use crate::rows::{led, made_of_one, made_of_two, map_at, row_at, tuple_at};
+use crate::rows::{led, map_at, row_at, tuple_at};
 use sp_ast::{ExprKind, ExprView, Members, NameKind, PairKind, Ref};
 use sp_base::{ByteList, NoMemory, Span, Text};
 use sp_numbers::Width;
+use sp_operands::{made_of_one, made_of_two};
 use sp_typed::{Expr, LeafOp, ManyOp, OneOp};
 use sp_types::{Maker, Type, Word};
 use std::alloc::Global;

@@ -10,7 +10,7 @@ use Rattle.sp_types.specs.Types.{Ty}
 use Rattle.sp_typed.specs.Exprs.{Expr, exprs}
 use Rattle.sp_typed.specs.Stmts.{Stmt, block, switch, stmts, case_row, more_cases}
 use Rattle.sp_typing.specs.Contexts.{Around}
-use Rattle.sp_typing.specs.Literals.{seen}
+use Rattle.sp_operands.specs.Literals.{seen}
 use Rattle.sp_typing_stmts.specs.declared.body.Body.{Body}
 use Rattle.sp_typing_stmts.specs.Scopes.{Scope, with_slot, closed}
 use Rattle.sp_typing_stmts.specs.Marks.{back}

@@ -11,8 +11,8 @@ use Rattle.sp_types.specs.Types.{Ty}
 use Rattle.sp_typed.specs.Exprs.{Expr, Exprs, leaf, one, two, three, many}
 use Rattle.sp_typed.specs.Exprs as typed
 use Rattle.sp_typing.specs.Contexts.{Around}
-use Rattle.sp_typing.specs.Operands.{unknown}
-use Rattle.sp_typing.specs.Literals.{seen}
+use Rattle.sp_operands.specs.Operands.{unknown}
+use Rattle.sp_operands.specs.Literals.{seen}
 use Rattle.sp_typing.specs.Typing as typing
 use Rattle.sp_typing_stmts.specs.declared.body.Body.{Body}
 use Rattle.sp_typing_stmts.specs.Scopes.{Local, local, Scope, with_slot, closed}

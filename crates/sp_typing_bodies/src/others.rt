@@ -6,15 +6,16 @@ ghost use Rattle.sp_typed.specs.Exprs.{exprs};
 ghost use Rattle.sp_typed.specs.Stmts.{block, no_stmts, print, switch, case_row};
 ghost use Rattle.sp_typed.specs.declared.stmt_words.ValuedOp.TheVariants as valued_is;
 ghost use Rattle.sp_typing.specs.Contexts.{Around};
-ghost use Rattle.sp_typing.specs.Literals.{taken};
+ghost use Rattle.sp_operands.specs.Literals.{taken};
 ghost use Rattle.sp_typing_stmts.specs.Values.{values_in};
 ghost use Rattle.sp_typing_stmts.specs.Statements.{valued_in, text_in};
 
 use sp_ast::{ExprKind, Members, Ref, StringKind};
 use sp_base::{NoMemory, Span};
+use sp_operands::taken;
 use sp_typed::{Expr, Stmt, StmtNode, ValuedOp};
 use sp_types::Type;
-use sp_typing::{Context, taken};
+use sp_typing::Context;
 use sp_typing_stmts::{Scope, text_in, valued_in, values_in};
 use std::alloc::Global;
 

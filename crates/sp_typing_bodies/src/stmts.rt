@@ -11,9 +11,10 @@ use sp_ast::{
     BlockKind, BranchKind, CaseKind, ExprKind, Members, NameKind, Ref, StmtKind, StmtView,
 };
 use sp_base::NoMemory;
+use sp_operands::seen;
 use sp_typed::{BareOp, Expr, Stmt, StmtNode, ValuedOp};
 use sp_types::Type;
-use sp_typing::{Context, seen};
+use sp_typing::Context;
 use sp_typing_stmts::{
     Body, Scope, add_in, assign_in, bare_at, delete_in, element_type, local_in, loop_head,
     return_in, value_in, valued_in, values_in,

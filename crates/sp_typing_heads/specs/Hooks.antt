@@ -14,7 +14,7 @@ use Rattle.sp_typed_units.specs.declared.declarations.Hook.{Hook}
 use Rattle.sp_typed_units.specs.declared.declarations.HookOf.{HookOf}
 use Rattle.sp_typed_units.specs.declared.declarations.HookOf.TheVariants as hook_of
 use Rattle.sp_typing.specs.Contexts.{Around}
-use Rattle.sp_typing.specs.Literals.{taken}
+use Rattle.sp_operands.specs.Literals.{taken}
 use Rattle.sp_typing.specs.Typing.{typed}
 use Rattle.sp_typing_units.specs.Attributes.{present}
 use Rattle.sp_typing_units.specs.Decorators.{with_current, with_self}
@@ -56,6 +56,10 @@ hook_around of current units own g =
 abbrev pub hook_body : HookOf → Body
 hook_body of = record { result = None; in_foreach = is_of_elements of; sees_unit = not (is_of_sink of) }
 
+-- What stands round the priority of a hook: the parameters that its body sees, and neither `self` nor `$$` more than round it.
+abbrev pub priority_around : HookOf → List Parameter → List Parameter → Around → Around
+priority_around of units own g = with_parameters 0 false own (with_parameters (length own) (is_of_sink of) units g)
+
 -- the priority, a literal of which is a signed integer
 abbrev pub priority_in : Around → Option Tree → Option Expr
 priority_in g None = None
@@ -88,7 +92,7 @@ no_hook s = hook_with s false [] None (Some (pos 0)) (block no_stmts, [])
 abbrev pub hook_of_body : Around → (Expr → Option ℤ) → Site → List Parameter → List Parameter → Tree → Hook
 hook_of_body g ranks s units own (node (form_is.HookBody each) span (more priority (more body none))) =
     let inside = hook_around s.of s.current units own g in
-    let p = priority_in inside (present priority) in
+    let p = priority_in (priority_around s.of units own g) (present priority) in
     hook_with s each own p (rank_of ranks p) (typed_body (hook_body s.of) inside [] body)
 hook_of_body g ranks s units own _ = no_hook s
 

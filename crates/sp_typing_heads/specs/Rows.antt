@@ -30,7 +30,7 @@ use Rattle.sp_typed_units.specs.declared.declarations.Hook.{Hook}
 use Rattle.sp_typed_units.specs.declared.declarations.HookOf.{HookOf}
 use Rattle.sp_typed_units.specs.declared.declarations.HookOf.TheVariants as hook_of
 use Rattle.sp_typing.specs.Contexts.{Around}
-use Rattle.sp_typing.specs.Operands.{unknown}
+use Rattle.sp_operands.specs.Operands.{unknown}
 use Rattle.sp_typing.specs.Typing.{leaf_at}
 use Rattle.sp_typing_stmts.specs.Statements.{bare_at, valued_at}
 use Rattle.sp_typing_heads.specs.declared.site.Site.{Site}
@@ -236,6 +236,11 @@ plain_in_a_sink = refl
 of_an_event : hook_on around worth (site (hook_of.Unit 4 event_is.Init)) of_unit (hook_tree [] (number 5) (just (path u) ∷ just (expr expr_is.Itself []) ∷ just (expr expr_is.Current []) ∷ stmt stmt_is.Confirm [] ∷ []))
     ≡ hook (hook_of.Unit 4 event_is.Init) true [] (Some (leaf_at here (word (word_is.Int W64)) (leaf_is.Number 5))) (Some (pos 5)) (just_is (seen 1 unit standing_is.Meant) ∷ just_is (leaf_at here unit (leaf_is.Itself standing_is.Meant)) ∷ just_is (leaf_at here unknown (leaf_is.Current standing_is.Unmeant)) ∷ bare_at here (bare_is.Confirm true) ∷ [])
 of_an_event = refl
+
+-- `on %init &priority = self { }`: `self` is not meant in a priority
+itself_in_a_priority : hook_on around worth (site (hook_of.Unit 4 event_is.Init)) of_unit (hook_tree [] (expr expr_is.Itself []) [])
+    ≡ hook (hook_of.Unit 4 event_is.Init) true [] (Some (around.itself here)) None []
+itself_in_a_priority = refl
 
 -- `{ $$; stop; }` behind a field, and `foreach &priority = n { $$; stop; }` behind one whose elements are uint64
 of_a_field : hook_behind around worth (site (hook_of.Field 4 2)) of_unit (body_tree false absent (just (expr expr_is.Current []) ∷ stmt stmt_is.Stop [] ∷ []))

@@ -4,7 +4,7 @@ ghost use Rattle.sp_ast.specs.Views.{optional_tree};
 ghost use Rattle.sp_typing.specs.Contexts.{Around};
 ghost use Rattle.sp_typing_units.specs.Attributes.{present};
 ghost use Rattle.sp_typing_heads.specs.Events.{is_of_sink, is_of_elements, fits};
-ghost use Rattle.sp_typing_heads.specs.Hooks.{self_type, self_standing, current_type, current_standing, hook_around, hook_body, priority_in, rank_of, hook_with, no_hook, hook_of_body, hook_behind, hook_on};
+ghost use Rattle.sp_typing_heads.specs.Hooks.{self_type, self_standing, current_type, current_standing, hook_around, hook_body, priority_around, priority_in, rank_of, hook_with, no_hook, hook_of_body, hook_behind, hook_on};
 ghost use Rattle.sp_typing_stmts.specs.Statements.{typed_body};
 
 use crate::events::{fits, is_of_elements, is_of_sink};
@@ -14,10 +14,11 @@ use crate::site::Site;
 use sp_ast::{BlockKind, ExprKind, HookBodyKind, HookKind, Kind, Ref};
 use sp_base::NoMemory;
 use sp_numbers::Width;
+use sp_operands::taken;
 use sp_typed::{Expr, Standing, Stmt, StmtNode};
 use sp_typed_units::{Hook, HookOf, Parameter, Row};
 use sp_types::{Type, Word};
-use sp_typing::{Context, taken, typed};
+use sp_typing::{Context, typed};
 use sp_typing_bodies::typed_body;
 use sp_typing_stmts::Body;
 use sp_typing_units::{WithCurrent, WithSelf};
@@ -128,9 +129,10 @@ pub(crate) struct Inside {
     pub(crate) slots: Vec<Type>,
 }
 
-/// The priority and the body of a hook, in what stands round its body.
-fn inside_of<C: Context, R: Ranks>(
+/// The priority and the body of a hook, each in what stands round it.
+fn inside_of<P: Context, C: Context, R: Ranks>(
     alloc: Global,
+    outside: &P,
     inside: &C,
     ranks: &R,
     of: HookOf,
@@ -138,15 +140,15 @@ fn inside_of<C: Context, R: Ranks>(
     tree: &Ref<'_, BlockKind>,
 ) -> Result<Inside, NoMemory>
     ensures priority { IfOk result (λ r. r.priority
-        ≡ priority_in (C.around inside.now) priority.now) }
+        ≡ priority_in (P.around outside.now) priority.now) }
     ensures rank { IfOk result (λ r. r.rank
-        ≡ rank_of (R.ranks ranks.now) (priority_in (C.around inside.now) priority.now)) }
+        ≡ rank_of (R.ranks ranks.now) (priority_in (P.around outside.now) priority.now)) }
     ensures body { IfOk result (λ r. r.body
         ≡ (typed_body (hook_body of) (C.around inside.now) [] tree.now).0) }
     ensures slots { IfOk result (λ r. r.slots.items
         ≡ (typed_body (hook_body of) (C.around inside.now) [] tree.now).1) }
 {
-    let priority = priority_in(alloc, inside, priority)?;
+    let priority = priority_in(alloc, outside, priority)?;
     let rank = rank_of(alloc, ranks, &priority)?;
     let (body, slots) = typed_body(alloc, &hook_body(of), inside, Vec::new(alloc), tree)?;
     Ok(Inside {
@@ -169,11 +171,11 @@ fn hook_inside<C: Context, R: Ranks>(
     tree: &Ref<'_, BlockKind>,
 ) -> Result<Inside, NoMemory>
     ensures priority { IfOk result (λ r. r.priority
-        ≡ priority_in (hook_around site.now.of site.now.current units.now own.now
-        (C.around context.now)) priority.now) }
+        ≡ priority_in (priority_around site.now.of units.now own.now (C.around context.now))
+        priority.now) }
     ensures rank { IfOk result (λ r. r.rank ≡ rank_of (R.ranks ranks.now)
-        (priority_in (hook_around site.now.of site.now.current units.now own.now
-        (C.around context.now)) priority.now)) }
+        (priority_in (priority_around site.now.of units.now own.now (C.around context.now))
+        priority.now)) }
     ensures body { IfOk result (λ r. r.body ≡ (typed_body (hook_body site.now.of)
         (hook_around site.now.of site.now.current units.now own.now (C.around context.now)) []
         tree.now).0) }
@@ -187,10 +189,11 @@ fn hook_inside<C: Context, R: Ranks>(
     let current = current_type(of, &site.current)?;
     let seen = Parameters::new(alloc, own)?;
     let unit = WithParameters::new(context, units, first, is_of_sink(of));
+    let outside = WithParameters::new(&unit, &seen, 0, false);
     let with_self = WithSelf::new(&unit, &itself, self_standing(of));
     let with_current = WithCurrent::new(&with_self, &current, current_standing(of));
     let around = WithParameters::new(&with_current, &seen, 0, false);
-    inside_of(alloc, &around, ranks, of, priority, tree)
+    inside_of(alloc, &outside, &around, ranks, of, priority, tree)
 }
 
 fn hook_with(site: &Site, each: bool, own: Vec<Parameter>, inside: Inside) -> Hook

@@ -5,7 +5,7 @@ use Rattle.sp_ast.specs.Trees.{Tree, row, node, more}
 use Rattle.sp_ast.specs.declared.forms.Form.TheVariants as form_is
 use Rattle.sp_types.specs.Types.{Ty}
 use Rattle.sp_typing.specs.Contexts.{Around}
-use Rattle.sp_typing.specs.Operands.{unknown}
+use Rattle.sp_operands.specs.Operands.{unknown}
 use Rattle.sp_typing_units.specs.Values.{Values}
 use Rattle.sp_typing_units.specs.Attributes.{element_of}
 use Rattle.sp_typing_units.specs.Readings.{counted_read}

@@ -30,7 +30,7 @@ use Rattle.sp_typed.specs.Exprs.{Expr, leaf}
 use Rattle.sp_typed.specs.Stmts.{Stmt, block, stmts}
 use Rattle.sp_typed_units.specs.declared.declarations.Hook.{Hook}
 use Rattle.sp_typing.specs.Contexts.{Around}
-use Rattle.sp_typing.specs.Operands.{unknown, boolean}
+use Rattle.sp_operands.specs.Operands.{unknown, boolean}
 use Rattle.sp_typing.specs.Typing.{leaf_at}
 use Rattle.sp_typing_stmts.specs.Statements.{valued_at}
 use Rattle.sp_typing_units.specs.Values.{Values}

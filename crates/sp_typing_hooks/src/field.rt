@@ -9,8 +9,9 @@ use crate::contexts::context_at;
 use sp_ast::{FieldKind, Ref};
 use sp_base::NoMemory;
 use sp_hook_rows::{Holder, Site};
+use sp_operands::first_type;
 use sp_types::{Level, Maker, Type, Word};
-use sp_typing::{Context, first_type};
+use sp_typing::Context;
 use sp_typing_units::{Constants, converted, counted_read};
 use std::alloc::Global;
 

@@ -18,7 +18,7 @@ use Rattle.sp_typed.specs.declared.words.ManyOp.TheVariants as many_is
 use Rattle.sp_typed.specs.declared.words.Standing.TheVariants as standing_is
 use Rattle.sp_typed.specs.Exprs.{Expr}
 use Rattle.sp_typing.specs.Contexts.{Around}
-use Rattle.sp_typing.specs.Operands.{unknown, boolean}
+use Rattle.sp_operands.specs.Operands.{unknown, boolean}
 use Rattle.sp_typing.specs.Typing.{leaf_at, one_at, many_at}
 use Rattle.sp_typing.specs.declared.context.Member.{Member}
 use Rattle.sp_typing_stmts.specs.Scopes.{Scope, with_slot, with_local, closed}

@@ -28,7 +28,7 @@ use Rattle.sp_typed.specs.Exprs.{Expr, none}
 use Rattle.sp_typed.specs.Exprs as typed
 use Rattle.sp_typed.specs.Stmts.{Stmt, block, branch, while_loop, for_loop, switch, assign, stmts, no_stmts, no_branches, more_branches, no_cases, more_cases}
 use Rattle.sp_typing.specs.Contexts.{Around}
-use Rattle.sp_typing.specs.Operands.{unknown, boolean}
+use Rattle.sp_operands.specs.Operands.{unknown, boolean}
 use Rattle.sp_typing.specs.Typing.{leaf_at, one_at, two_at, many_at}
 use Rattle.sp_typing.specs.declared.context.Member.{Member}
 use Rattle.sp_typing_stmts.specs.declared.body.Body.{Body}

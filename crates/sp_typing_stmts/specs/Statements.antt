@@ -20,8 +20,8 @@ use Rattle.sp_typed.specs.declared.stmt_words.For.{For}
 use Rattle.sp_typed.specs.Exprs.{Expr, exprs}
 use Rattle.sp_typed.specs.Stmts.{Stmt, Cases, bare, valued, assign, print, block, branch, while_loop, for_loop, switch, stmts, no_stmts, branch_row, no_cases, more_cases}
 use Rattle.sp_typing.specs.Contexts.{Around}
-use Rattle.sp_typing.specs.Operands.{unknown, first_type}
-use Rattle.sp_typing.specs.Literals.{taken, seen}
+use Rattle.sp_operands.specs.Operands.{unknown, first_type}
+use Rattle.sp_operands.specs.Literals.{taken, seen}
 use Rattle.sp_typing.specs.Typing.{no_expr, name_of, to_target, to_maybe}
 use Rattle.sp_typing_stmts.specs.declared.body.Body.{Body}
 use Rattle.sp_typing_stmts.specs.Scopes.{Scope, found, with_slot, with_local, closed}

@@ -13,9 +13,10 @@ use crate::values::value_in;
 use sp_ast::{ExprKind, NameKind, Ref, StringKind, TypeKind};
 use sp_base::{NoMemory, Span, Text};
 use sp_numbers::Width;
+use sp_operands::{first_type, seen};
 use sp_typed::{Assign, Bare, BareOp, Expr, For, Local, Stmt, StmtNode, Valued, ValuedOp, Written};
 use sp_types::{Level, Maker, Type, Word};
-use sp_typing::{Context, first_type, seen, to_maybe, to_target};
+use sp_typing::{Context, to_maybe, to_target};
 use sp_words::AssignOp;
 use std::alloc::Global;
 

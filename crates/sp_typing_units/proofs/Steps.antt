@@ -14,11 +14,11 @@ use Rattle.sp_typing_units.specs.Attributes.{present, attribute_by, attributes}
 
 pub attributes_step : (g : Around) (v : Values) (s : Site) (all new : List Attribute) (left behind : List Tree) (t : Tree) (name : AttributeName) (span : Span) (value : Option Tree) (a : Attribute) (whole : List Attribute)
     → left ≡ t ∷ behind → span ≡ span_of t → tree (form_is.Attribute name) (span_of t) (optional_tree value ∷ []) ≡ t → present (optional_tree value) ≡ value
-    → a ≡ attribute_by g v s (role_of s.holder s.kind name) span name value → new ≡ all ++ a ∷ []
+    → a ≡ attribute_by g v s (role_of s.kind name) span name value → new ≡ all ++ a ∷ []
     → all ++ attributes g v s (trees left) ≡ whole → new ++ attributes g v s (trees behind) ≡ whole
 attributes_step g v s all new left behind t name span value a whole steps at view there is push so_far =
     let rest = attributes g v s (trees behind) in
-    let one : Span → Option Tree → Attribute = λ sp o. attribute_by g v s (role_of s.holder s.kind name) sp name o in
+    let one : Span → Option Tree → Attribute = λ sp o. attribute_by g v s (role_of s.kind name) sp name o in
     ap (λ l. l ++ rest) push
     ∙ append_assoc all (a ∷ []) rest
     ∙ ap (λ z. all ++ z ∷ rest) is

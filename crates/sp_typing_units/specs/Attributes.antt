@@ -9,8 +9,8 @@ use Rattle.sp_types.specs.Types.{Ty, made}
 use Rattle.sp_types.specs.declared.words.Maker.TheVariants as maker_is
 use Rattle.sp_typed.specs.Exprs.{Expr}
 use Rattle.sp_typed_units.specs.declared.attributes.Attribute.{Attribute}
-use Rattle.sp_typing.specs.Operands.{unknown, first_type}
-use Rattle.sp_typing.specs.Literals.{seen}
+use Rattle.sp_operands.specs.Operands.{unknown, first_type}
+use Rattle.sp_operands.specs.Literals.{seen}
 use Rattle.sp_typing.specs.Contexts.{Around}
 use Rattle.sp_typing.specs.Typing.{typed, to_target}
 use Rattle.sp_typing_units.specs.declared.attributes.Site.{Site}
@@ -36,12 +36,11 @@ element_of (made maker_is.Vector ts) = first_type ts
 element_of _ = unknown
 
 -- The value of an attribute. `$$` is what is read, in a conversion; what it becomes, in a requirement; an element, in a test of
--- elements; it is of unknown type where no value is wanted, and is not meant elsewhere. A default goes to the type of its field.
+-- elements; it is of unknown type where no value is asked for, and is not meant elsewhere. A default goes to the type of its field.
 abbrev pub value_typed : Around → Role → Ty → Ty → Tree → Expr
 value_typed g role_is.Conversion read stored e = typed (meant read g) e
 value_typed g role_is.Requirement read stored e = typed (meant stored g) e
 value_typed g role_is.Test read stored e = typed (meant (element_of read) g) e
-value_typed g role_is.Misused read stored e = typed (meant unknown g) e
 value_typed g role_is.Unasked read stored e = typed (meant unknown g) e
 value_typed g role_is.Alone read stored e = typed (meant unknown g) e
 value_typed g role_is.Default read stored e = to_target stored (typed g e)
@@ -71,7 +70,7 @@ attribute_by g v s r span name value = attribute_with v r span name (maybe_value
 abbrev pub attributes : Around → Values → Site → Trees → List Attribute
 attributes g v s none = []
 attributes g v s (more (node (form_is.Attribute name) span (more value none)) ts) =
-    attribute_by g v s (role_of s.holder s.kind name) span name (present value) ∷ attributes g v s ts
+    attribute_by g v s (role_of s.kind name) span name (present value) ∷ attributes g v s ts
 attributes g v s (more t ts) = attributes g v s ts
 
 -- the value of an attribute that is `&convert`

@@ -12,12 +12,10 @@ use Rattle.sp_typed.specs.Exprs.{Expr}
 use Rattle.sp_typed_units.specs.declared.items.Field.{Field}
 use Rattle.sp_typed_units.specs.declared.items.Arm.{Arm}
 use Rattle.sp_typed_units.specs.Parts.{Part, Arms, field, choice, parts, no_arms, more_arms}
-use Rattle.sp_typing.specs.Literals.{seen, taken}
+use Rattle.sp_operands.specs.Literals.{seen, taken}
 use Rattle.sp_typing.specs.Contexts.{Around}
 use Rattle.sp_typing.specs.Typing.{typed_all, name_of}
 use Rattle.sp_typing_units.specs.declared.readings.Read.{Read}
-use Rattle.sp_typing_units.specs.declared.roles.Holder.{Holder}
-use Rattle.sp_typing_units.specs.declared.roles.Holder.TheVariants as holder_is
 use Rattle.sp_typing_units.specs.Values.{Values}
 use Rattle.sp_typing_units.specs.Attributes.{present, maybe_typed, attributes, conversion, converted}
 use Rattle.sp_typing_units.specs.Readings.{counted_read}
@@ -36,10 +34,6 @@ abbrev pub field_place : Span → Option Tree → Span
 field_place span None = record { from = span.from; to = span.from }
 field_place span (Some name) = read.span_of name
 
-abbrev pub holder_of : Option Tree → Holder
-holder_of None = holder_is.AnonymousField
-holder_of (Some name) = holder_is.NamedField
-
 abbrev pub member_number : Fields → Option Tree → Option ℕ
 member_number f None = None
 member_number f (Some name) = Some (f.number (name_of name))
@@ -56,7 +50,7 @@ field_with g v f span name r stored ts condition sink = record {
   taken = is_taken f name;
   ty = stored;
   spec = r.spec;
-  attributes = attributes g v (record { holder = holder_of name; kind = r.kind; read = r.ty; stored = stored }) ts;
+  attributes = attributes g v (record { kind = r.kind; read = r.ty; stored = stored }) ts;
   condition = maybe_typed g condition;
   sink = maybe_typed g sink;
   hooks = f.hooks (field_place span name);

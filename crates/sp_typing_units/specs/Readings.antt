@@ -22,13 +22,12 @@ use Rattle.sp_typed_units.specs.declared.readings.TokenOp.{TokenOp}
 use Rattle.sp_typed_units.specs.declared.readings.TokenOp.TheVariants as token_is
 use Rattle.sp_typed_units.specs.Specs.{Spec, unit_read, list_read, group_read}
 use Rattle.sp_typed_units.specs.Specs as spec_is
-use Rattle.sp_typing.specs.Operands.{unknown}
+use Rattle.sp_operands.specs.Operands.{unknown}
 use Rattle.sp_typing.specs.Contexts.{Around}
 use Rattle.sp_typing.specs.Typing.{typed_all, each_to, int_word, number_in, made_of}
 use Rattle.sp_typing_units.specs.declared.readings.Read.{Read}
 use Rattle.sp_typing_units.specs.declared.roles.Kind.{Kind}
 use Rattle.sp_typing_units.specs.declared.roles.Kind.TheVariants as kind_is
-use Rattle.sp_typing_units.specs.declared.roles.Holder.TheVariants as holder_is
 use Rattle.sp_typing_units.specs.Roles.{grouped}
 use Rattle.sp_typing_units.specs.Values.{Values}
 use Rattle.sp_typing_units.specs.Attributes.{present, maybe_typed, attributes, conversion, converted}
@@ -47,8 +46,17 @@ misplaced at place = record { span = at; unnamed = None; misplaced = Some place 
 abbrev pub simple : Span → Ty → Kind → ReadOp → Read
 simple at t kind op = record { spec = spec_is.read (record { span = at; ty = t; op = op }); ty = t; kind = kind }
 
-abbrev pub broken : Span → Ty → Written → Read
-broken at t wrong = simple at t kind_is.Broken (read_is.Broken wrong)
+abbrev pub broken : Span → Written → Read
+broken at wrong = simple at unknown kind_is.Broken (read_is.Broken wrong)
+
+-- The decoder of the library has its place elsewhere. The node that can't be read tells that it is one; of what it would read
+-- nothing is known.
+abbrev pub decoder : Span → Read
+decoder at = record {
+  spec = spec_is.read (record { span = at; ty = word word_is.Decoder; op = read_is.Broken (fine at) });
+  ty = unknown;
+  kind = kind_is.Broken;
+}
 
 -- a literal; of bytes and of a regular expression the value is the bytes that are there
 abbrev pub literal : Span → TokenOp → Option ℕ → Read
@@ -62,30 +70,30 @@ or_empty (Some bytes) = bytes
 abbrev pub constant_read : Values → Span → ℕ → Word → Expr → Read
 constant_read v at n word_is.Bytes e = literal at (token_is.Bytes (or_empty (v.bytes e))) (Some n)
 constant_read v at n word_is.Regex e = literal at (token_is.Regex (or_empty (v.regex e))) (Some n)
-constant_read v at n word_is.Unknown e = broken at unknown (fine at)
-constant_read v at n _ e = broken at unknown (misplaced at at)
+constant_read v at n word_is.Unknown e = broken at (fine at)
+constant_read v at n _ e = broken at (misplaced at at)
 
 abbrev pub constant_of_type : Values → Span → ℕ → Ty → Expr → Read
 constant_of_type v at n (word w) e = constant_read v at n w e
-constant_of_type v at n _ e = broken at unknown (misplaced at at)
+constant_of_type v at n _ e = broken at (misplaced at at)
 
 -- what a path is read as that is no type that can be read
 abbrev pub named_op : Values → Span → LeafOp → Ty → Expr → Read
 named_op v at (leaf_is.Constant n) t e = constant_of_type v at n t e
-named_op v at (leaf_is.Nothing name) t e = broken at unknown (unnamed at name)
-named_op v at (leaf_is.TypeName w) t e = broken at unknown (fine at)
-named_op v at _ t e = broken at unknown (misplaced at at)
+named_op v at (leaf_is.Nothing name) t e = broken at (unnamed at name)
+named_op v at (leaf_is.TypeName w) t e = broken at (fine at)
+named_op v at _ t e = broken at (misplaced at at)
 
 abbrev pub named_read : Values → Span → Expr → Read
 named_read v at (leaf h) = named_op v at h.op h.ty (leaf h)
-named_read v at _ = broken at unknown (misplaced at at)
+named_read v at _ = broken at (misplaced at at)
 
 -- a unit
 abbrev pub unit_spec : Span → ℕ → List Expr → Read
 unit_spec at n es =
     record { spec = unit_read (record { span = at; unit = n }) (exprs es); ty = word (word_is.Unit n); kind = kind_is.Unit }
 
--- A word that is read. The decoder of the library has its place elsewhere.
+-- a word that is read
 abbrev pub word_read : Span → Word → Read
 word_read at (word_is.Uint w) = simple at (word (word_is.Uint w)) kind_is.Integer read_is.Int
 word_read at (word_is.Int w) = simple at (word (word_is.Int w)) kind_is.Integer read_is.Int
@@ -93,18 +101,18 @@ word_read at (word_is.Bitfield n) = simple at (word (word_is.Bitfield n)) kind_i
 word_read at word_is.Bytes = simple at (word word_is.Bytes) kind_is.Bytes read_is.Bytes
 word_read at word_is.Void = simple at (word word_is.Void) kind_is.Void read_is.Void
 word_read at (word_is.Unit n) = unit_spec at n []
-word_read at word_is.Decoder = broken at (word word_is.Decoder) (fine at)
-word_read at _ = broken at unknown (misplaced at at)
+word_read at word_is.Decoder = decoder at
+word_read at _ = broken at (misplaced at at)
 
 -- what is written where a type may stand and is no type that is known
 abbrev pub unknown_read : Around → Values → Span → Tree → Read
 unknown_read g v at (node (form_is.Type type_is.Path) span (more path none)) = named_read v at (g.named (read.span_of path) path)
-unknown_read g v at _ = broken at unknown (misplaced at at)
+unknown_read g v at _ = broken at (misplaced at at)
 
 abbrev pub type_read : Around → Values → Span → Tree → Ty → Read
 type_read g v at t (word word_is.Unknown) = unknown_read g v at t
 type_read g v at t (word w) = word_read at w
-type_read g v at t _ = broken at unknown (misplaced at at)
+type_read g v at t _ = broken at (misplaced at at)
 
 -- `U(a, b)`: the arguments go to the parameters of the unit
 abbrev pub arguments : Around → ℕ → Span → List Expr → List Expr
@@ -112,19 +120,19 @@ arguments g n path es = each_to (g.target (many_is.New (new_is.Unit n) path) unk
 
 abbrev pub called_word : Around → Span → Span → Word → List Expr → Read
 called_word g at path (word_is.Unit n) es = unit_spec at n (arguments g n path es)
-called_word g at path word_is.Unknown es = broken at unknown (fine at)
-called_word g at path word_is.Decoder es = broken at (word word_is.Decoder) (fine at)
-called_word g at path _ es = broken at unknown (misplaced at path)
+called_word g at path word_is.Unknown es = broken at (fine at)
+called_word g at path word_is.Decoder es = decoder at
+called_word g at path _ es = broken at (misplaced at path)
 
 abbrev pub called_op : Around → Span → Span → LeafOp → List Expr → Read
 called_op g at path (leaf_is.TypeName w) es = called_word g at path w es
-called_op g at path leaf_is.Decoder es = broken at (word word_is.Decoder) (fine at)
-called_op g at path (leaf_is.Nothing name) es = broken at unknown (unnamed at name)
-called_op g at path _ es = broken at unknown (misplaced at path)
+called_op g at path leaf_is.Decoder es = decoder at
+called_op g at path (leaf_is.Nothing name) es = broken at (unnamed at name)
+called_op g at path _ es = broken at (misplaced at path)
 
 abbrev pub called : Around → Span → Span → Expr → List Expr → Read
 called g at path (leaf h) es = called_op g at path h.op es
-called g at path _ es = broken at unknown (misplaced at path)
+called g at path _ es = broken at (misplaced at path)
 
 -- a container: it stands from its element's first token up to its own brackets
 abbrev pub vector_of : Ty → Ty
@@ -149,7 +157,7 @@ contained g at (more t ts) r = contained g at ts r
 -- what stands in parentheses
 abbrev pub group_with : Around → Values → Span → Trees → Ty → Read → Read
 group_with g v at ts stored r = record {
-  spec = group_read at r.spec (attributes g v (record { holder = holder_is.Group; kind = r.kind; read = r.ty; stored = stored }) ts);
+  spec = group_read at r.spec (attributes g v (record { kind = r.kind; read = r.ty; stored = stored }) ts);
   ty = stored;
   kind = grouped r.kind;
 }
@@ -168,7 +176,7 @@ base_read g v (node (form_is.Base (base_is.Bytes bytes)) at none) = literal at (
 base_read g v (node (form_is.Base (base_is.Regex text)) at none) = literal at (token_is.Regex text) None
 base_read g v (node (form_is.Base (base_is.Number w)) at (more n none)) =
     simple at (word (int_word w)) kind_is.TypedLiteral (read_is.Token (token_is.Number (number_in n)) None)
-base_read g v t = broken (read.span_of t) unknown (fine (read.span_of t))
+base_read g v t = broken (read.span_of t) (fine (read.span_of t))
 
 -- how it is read with counts behind it
 abbrev pub counted_read : Around → Values → Tree → Trees → Read

@@ -1,5 +1,5 @@
--- What each attribute is for, by what it stands on.
-use Rattle.std.specs.Prelude.{Bool, true, false}
+-- Where each attribute can stand, and what it is for.
+use Rattle.std.specs.Prelude.{Bool, true, false, not, ◌&&◌}
 use Rattle.sp_words.specs.declared.words.AttributeName.{AttributeName}
 use Rattle.sp_words.specs.declared.words.AttributeName.TheVariants as name_is
 use Rattle.sp_typing_units.specs.declared.roles.Kind.{Kind}
@@ -35,48 +35,62 @@ is_bytes_or_open kind_is.Open = true
 is_bytes_or_open kind_is.Broken = true
 is_bytes_or_open _ = false
 
-abbrev pub if_so : Bool → Role → Role
-if_so true r = r
-if_so false r = role_is.Misused
-
-abbrev pub in_field : Holder → Role → Role
-in_field holder_is.Group r = role_is.Misused
-in_field _ r = r
+-- containers whose end the input tells
+abbrev pub is_open : Kind → Bool
+is_open kind_is.Open = true
+is_open kind_is.Broken = true
+is_open _ = false
 
 abbrev pub is_named : Holder → Bool
 is_named holder_is.NamedField = true
 is_named _ = false
 
--- `&until` and `&until-including`: bytes end at a delimiter, containers by a test of their elements
+abbrev pub is_group : Holder → Bool
+is_group holder_is.Group = true
+is_group _ = false
+
+-- Whether an attribute can stand behind what holds it, on what is read. On what can't be read any can.
+abbrev pub may_stand : Holder → Kind → AttributeName → Bool
+may_stand h k name_is.Size = has_view k
+may_stand h k name_is.MaxSize = has_view k
+may_stand h k name_is.Eod = is_bytes_or_open k
+may_stand h k name_is.Until = is_bytes_or_open k
+may_stand h k name_is.UntilIncluding = is_bytes_or_open k
+may_stand h k name_is.While = is_open k
+may_stand h k name_is.Convert = true
+may_stand h k name_is.Requires = true
+may_stand h k name_is.Default = is_named h
+may_stand h k name_is.ByteOrder = has_byte_order k
+may_stand h k name_is.BitOrder = has_bit_order k
+may_stand h k name_is.ParseFrom = not (is_group h) && has_view k
+may_stand h k name_is.ParseAt = not (is_group h) && has_view k
+may_stand h k name_is.Try = not (is_group h)
+may_stand h k name_is.Synchronize = true
+
+-- `&until` and `&until-including`: bytes end at a delimiter, a container by a test of its elements, also one that has a count
 abbrev pub delimiting : Kind → Role
 delimiting kind_is.Bytes = role_is.Delimiter
 delimiting kind_is.Open = role_is.Test
-delimiting kind_is.Broken = role_is.Unasked
-delimiting _ = role_is.Misused
+delimiting kind_is.Counted = role_is.Test
+delimiting _ = role_is.Unasked
 
--- `&while`
-abbrev pub looping : Kind → Role
-looping kind_is.Open = role_is.Test
-looping kind_is.Broken = role_is.Unasked
-looping _ = role_is.Misused
-
--- What an attribute is for, behind what holds it and on what is read.
-abbrev pub role_of : Holder → Kind → AttributeName → Role
-role_of h k name_is.Size = if_so (has_view k) role_is.Amount
-role_of h k name_is.MaxSize = if_so (has_view k) role_is.Amount
-role_of h k name_is.Eod = if_so (is_bytes_or_open k) role_is.Alone
-role_of h k name_is.Until = delimiting k
-role_of h k name_is.UntilIncluding = delimiting k
-role_of h k name_is.While = looping k
-role_of h k name_is.Convert = role_is.Conversion
-role_of h k name_is.Requires = role_is.Requirement
-role_of h k name_is.Default = if_so (is_named h) role_is.Default
-role_of h k name_is.ByteOrder = if_so (has_byte_order k) role_is.Order
-role_of h k name_is.BitOrder = if_so (has_bit_order k) role_is.Order
-role_of h k name_is.ParseFrom = in_field h (if_so (has_view k) role_is.Source)
-role_of h k name_is.ParseAt = in_field h (if_so (has_view k) role_is.Place)
-role_of h k name_is.Try = in_field h role_is.Alone
-role_of h k name_is.Synchronize = role_is.Alone
+-- What an attribute is for, which its name tells, also where it can't stand; how something ends hangs on what is read.
+abbrev pub role_of : Kind → AttributeName → Role
+role_of k name_is.Size = role_is.Amount
+role_of k name_is.MaxSize = role_is.Amount
+role_of k name_is.Eod = role_is.Alone
+role_of k name_is.Until = delimiting k
+role_of k name_is.UntilIncluding = delimiting k
+role_of k name_is.While = role_is.Test
+role_of k name_is.Convert = role_is.Conversion
+role_of k name_is.Requires = role_is.Requirement
+role_of k name_is.Default = role_is.Default
+role_of k name_is.ByteOrder = role_is.Order
+role_of k name_is.BitOrder = role_is.Order
+role_of k name_is.ParseFrom = role_is.Source
+role_of k name_is.ParseAt = role_is.Place
+role_of k name_is.Try = role_is.Alone
+role_of k name_is.Synchronize = role_is.Alone
 
 -- What stands in parentheses takes no bound and no order. It is a literal where a literal is inside.
 abbrev pub grouped : Kind → Kind

@@ -31,12 +31,12 @@ use Rattle.sp_typed_units.specs.declared.readings.TokenOp.TheVariants as token_i
 use Rattle.sp_typed_units.specs.Specs.{unit_read}
 use Rattle.sp_typed_units.specs.Parts.{Part, field, choice, no_parts, no_arms, more_arms}
 use Rattle.sp_typing.specs.Contexts.{Around}
-use Rattle.sp_typing.specs.Operands.{unknown, boolean}
+use Rattle.sp_operands.specs.Operands.{unknown, boolean}
 use Rattle.sp_typing.specs.Typing.{typed, leaf_at, name_of}
 use Rattle.sp_typing_units.specs.declared.roles.Kind.TheVariants as kind_is
 use Rattle.sp_typing_units.specs.Values.{Values}
 use Rattle.sp_typing_units.specs.Decorators.{with_current, with_self}
-use Rattle.sp_typing_units.specs.Readings.{counted_read, simple, broken, literal, fine, unnamed, misplaced}
+use Rattle.sp_typing_units.specs.Readings.{counted_read, word_read, simple, broken, literal, fine, unnamed, misplaced}
 use Rattle.sp_typing_units.specs.Parts.{Fields, part_of}
 
 abbrev here : Span
@@ -158,14 +158,18 @@ integer : counted_read around values (of_type (type_is.Int int.Uint8)) none ≡ 
 integer = refl
 
 -- `f: bool` can't be read, `f: X` names nothing, `f: N` names a number
-truth : counted_read around values (of_type type_is.Bool) none ≡ broken here unknown (misplaced here here)
+truth : counted_read around values (of_type type_is.Bool) none ≡ broken here (misplaced here here)
 truth = refl
 
-nothing : counted_read around values (of_path (codes "X")) none ≡ broken here unknown (unnamed here here)
+nothing : counted_read around values (of_path (codes "X")) none ≡ broken here (unnamed here here)
 nothing = refl
 
-number_constant : counted_read around values (of_path (codes "N")) none ≡ broken here unknown (misplaced here here)
+number_constant : counted_read around values (of_path (codes "N")) none ≡ broken here (misplaced here here)
 number_constant = refl
+
+-- nothing is known of what the decoder of the library would read
+the_decoder : (word_read here word_is.Decoder).ty ≡ unknown
+the_decoder = refl
 
 -- `f: C`, where C is bytes
 constant : counted_read around values (of_path (codes "C")) none ≡ literal here (token_is.Bytes (codes "x")) (Some 4)
@@ -190,26 +194,29 @@ required = refl
 conversion_sees : part_types (typed_part (field_tree name (of_type (type_is.Int int.Uint8)) [] (attribute name_is.Convert current ∷ []))) ≡ byte ∷ (byte ∷ [])
 conversion_sees = refl
 
--- `f: uint16[] &until=$$` sees an element, and `f: uint16[2] &until=$$` nothing that is known
+-- `f: uint16[] &until=$$` sees an element, and so does `f: uint16[2] &until=$$`; `f: uint16 &until=$$` nothing that is known
 until_open : part_types (typed_part (field_tree name (of_type (type_is.Int int.Uint16)) (count absent ∷ []) (attribute name_is.Until current ∷ []))) ≡ made maker_is.Vector (types.more short types.none) ∷ (short ∷ [])
 until_open = refl
 
-until_counted : part_types (typed_part (field_tree name (of_type (type_is.Int int.Uint16)) (count (number 2) ∷ []) (attribute name_is.Until current ∷ []))) ≡ made maker_is.Vector (types.more short types.none) ∷ (unknown ∷ [])
+until_counted : part_types (typed_part (field_tree name (of_type (type_is.Int int.Uint16)) (count (number 2) ∷ []) (attribute name_is.Until current ∷ []))) ≡ made maker_is.Vector (types.more short types.none) ∷ (short ∷ [])
 until_counted = refl
+
+until_integer : part_types (typed_part (field_tree name (of_type (type_is.Int int.Uint16)) [] (attribute name_is.Until current ∷ []))) ≡ short ∷ (unknown ∷ [])
+until_integer = refl
 
 -- `f: uint16 &default=1 &size=1`: the default takes the type of the field, a size has its own
 default : part_types (typed_part (field_tree name (of_type (type_is.Int int.Uint16)) [] (attribute name_is.Default (number 1) ∷ attribute name_is.Size (number 1) ∷ []))) ≡ short ∷ (short ∷ (long ∷ []))
 default = refl
 
--- `: uint16 &default=1`: an anonymous field has none
-anonymous : part_types (typed_part (field_tree absent (of_type (type_is.Int int.Uint16)) [] (attribute name_is.Default (number 1) ∷ []))) ≡ short ∷ (long ∷ [])
+-- `: uint16 &default=1`: a default goes to the type of an anonymous field too, where it can't stand
+anonymous : part_types (typed_part (field_tree absent (of_type (type_is.Int int.Uint16)) [] (attribute name_is.Default (number 1) ∷ []))) ≡ short ∷ (short ∷ [])
 anonymous = refl
 
 -- `(uint8 &convert=C)[]` is a vector of bytes
 group : (counted_read around values (base base_is.Group (of_type (type_is.Int int.Uint8) ∷ in_row [] ∷ in_row (attribute name_is.Convert (path (codes "C")) ∷ []) ∷ [])) (trees (count absent ∷ []))).ty ≡ made maker_is.Vector (types.more (word word_is.Bytes) types.none)
 group = refl
 
--- `f: bytes &until=b"x"` ends at these bytes; `f: uint8 &byte-order=C` has a number
+-- `f: bytes &until=b"x"` ends at these bytes; `f: uint8 &byte-order=C &bit-order=C` has two numbers
 abbrev told : List Attribute → List (Option (List ℕ) × Option ℕ)
 told [] = []
 told (a ∷ l) = (a.bytes, a.number) ∷ told l
@@ -221,7 +228,7 @@ part_told _ = []
 delimiter : part_told (typed_part (field_tree name (of_type type_is.Bytes) [] (attribute name_is.Until (expr (expr_is.Bytes (codes "x")) []) ∷ []))) ≡ (Some (codes "x"), None) ∷ []
 delimiter = refl
 
-order : part_told (typed_part (field_tree name (of_type (type_is.Int int.Uint8)) [] (attribute name_is.ByteOrder (path (codes "C")) ∷ attribute name_is.BitOrder (path (codes "C")) ∷ []))) ≡ (None, Some 1) ∷ ((None, None) ∷ [])
+order : part_told (typed_part (field_tree name (of_type (type_is.Int int.Uint8)) [] (attribute name_is.ByteOrder (path (codes "C")) ∷ attribute name_is.BitOrder (path (codes "C")) ∷ []))) ≡ (None, Some 1) ∷ ((None, Some 1) ∷ [])
 order = refl
 
 -- `switch (N) { 1 -> ; * -> ; }`: the value takes the type of N

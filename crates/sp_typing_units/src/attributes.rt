@@ -10,20 +10,20 @@ ghost use Rattle.sp_typing_units.specs.Attributes.{element_of, value_typed, mayb
 use crate::constants::Constants;
 use crate::current::WithCurrent;
 use crate::optional::is_present;
-use crate::roles::{Holder, Kind, Role, role_of};
+use crate::roles::{Kind, Role, role_of};
 use sp_ast::{AttributeKind, ExprKind, Members, Ref};
 use sp_base::{ByteList, NoMemory, Span};
+use sp_operands::{first_type, seen};
 use sp_typed::{Expr, Standing};
 use sp_typed_units::Attribute;
 use sp_types::{Level, Maker, Type, Word};
-use sp_typing::{Context, first_type, seen, to_target, typed};
+use sp_typing::{Context, to_target, typed};
 use sp_words::AttributeName;
 use std::alloc::Global;
 
-/// What attributes stand on: what holds them, what is read, its type, and the type of what is stored.
+/// What attributes stand on: what is read, its type, and the type of what is stored.
 #[derive(Drop)]
 pub struct Site {
-    pub holder: Holder,
     pub kind: Kind,
     pub read: Type,
     pub stored: Type,
@@ -67,7 +67,7 @@ fn value_typed<C: Context>(
         Role::Conversion => typed_with(alloc, context, &site.read, tree),
         Role::Requirement => typed_with(alloc, context, &site.stored, tree),
         Role::Test => typed_with(alloc, context, &element_of(&site.read)?, tree),
-        Role::Misused | Role::Unasked | Role::Alone => {
+        Role::Unasked | Role::Alone => {
             typed_with(alloc, context, &Type::word(Word::Unknown), tree)
         }
         Role::Default => to_target(alloc, &site.stored, typed(alloc, context, tree)?),
@@ -152,9 +152,9 @@ fn attribute_by<C: Context, V: Constants>(
     value: &Option<Ref<'_, ExprKind>>,
 ) -> Result<Attribute, NoMemory>
     ensures { IfOk result (λ a. a ≡ attribute_by (C.around context.now) (V.values constants.now)
-        site.now (role_of site.now.holder site.now.kind name) span name value.now) }
+        site.now (role_of site.now.kind name) span name value.now) }
 {
-    let role = role_of(site.holder, site.kind, name);
+    let role = role_of(site.kind, name);
     let value = maybe_value(alloc, context, role, site, value)?;
     attribute_with(alloc, constants, role, span, name, value)
 }

@@ -17,4 +17,4 @@ pub use current::WithCurrent;
 pub use itself::WithSelf;
 pub use parts::{FieldTable, part_of, parts_of};
 pub use readings::{Read, counted_read};
-pub use roles::{Holder, Kind, Role, role_of};
+pub use roles::{Holder, Kind, Role, may_stand, role_of};

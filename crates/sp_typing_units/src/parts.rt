@@ -2,23 +2,23 @@
 ghost use Rattle.std.specs.Prelude.{◌≡◌, map, IfOk, List};
 ghost use Rattle.sp_ast.specs.Trees.{Tree, trees};
 ghost use Rattle.sp_typed_units.specs.Parts.{field, arms};
-ghost use Rattle.sp_typing.specs.Literals.{taken, seen};
-ghost use Rattle.sp_typing_units.specs.Parts.{Fields, field_place, holder_of, member_number, is_taken, field_with, field_of, settled_to, arm_of, field_in, part_of, parts_of, body_of, arms_of};
+ghost use Rattle.sp_operands.specs.Literals.{taken, seen};
+ghost use Rattle.sp_typing_units.specs.Parts.{Fields, field_place, member_number, is_taken, field_with, field_of, settled_to, arm_of, field_in, part_of, parts_of, body_of, arms_of};
 
 use crate::attributes::{Site, attributes_of, converted};
 use crate::constants::Constants;
 use crate::optional::{is_present, maybe_typed};
 use crate::readings::{Read, counted_read};
-use crate::roles::Holder;
 use sp_ast::{
     ArmKind, AttributeKind, BodyKind, BodyView, ExprKind, FieldKind, FieldView, GuardKind,
     GuardView, Members, NameKind, PartKind, PartView, Ref,
 };
 use sp_base::{NoMemory, Span};
+use sp_operands::{seen, taken};
 use sp_typed::Expr;
 use sp_typed_units::{Arm, Field, Part, PartNode, Row};
 use sp_types::Type;
-use sp_typing::{Context, seen, taken, typed_all};
+use sp_typing::{Context, typed_all};
 use std::alloc::Global;
 
 /// What a unit knows of its fields.
@@ -47,15 +47,6 @@ fn field_place(span: Span, name: &Option<Ref<'_, NameKind>>) -> Span
             from: span.from,
             to: span.from,
         },
-    }
-}
-
-fn holder_of(name: &Option<Ref<'_, NameKind>>) -> Holder
-    ensures { result ≡ holder_of name.now }
-{
-    match name {
-        Some(_) => Holder::NamedField,
-        None => Holder::AnonymousField,
     }
 }
 
@@ -94,7 +85,6 @@ fn field_of<C: Context, V: Constants, F: FieldTable>(
     let Read { spec, ty, kind } = read;
     let stored = converted(alloc, context, &ty, &view.attributes)?;
     let site = Site {
-        holder: holder_of(&view.name),
         kind,
         read: ty,
         stored,

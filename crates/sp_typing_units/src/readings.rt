@@ -2,14 +2,14 @@
 ghost use Rattle.std.specs.Prelude.{◌≡◌, IfOk};
 ghost use Rattle.sp_ast.specs.Trees.{trees, span_of};
 ghost use Rattle.sp_typing.specs.Contexts.{Around};
-ghost use Rattle.sp_typing.specs.Operands.{unknown};
+ghost use Rattle.sp_operands.specs.Operands.{unknown};
 ghost use Rattle.sp_typing.specs.Typing.{int_word, to_maybe};
-ghost use Rattle.sp_typing_units.specs.Readings.{fine, unnamed, misplaced, simple, broken, literal, or_empty, constant_read, constant_of_type, named_op, named_read, unit_spec, word_read, unknown_read, type_read, arguments, called_word, called_op, called, vector_of, counting, container, contained, group_with, group_of, base_read, counted_read};
+ghost use Rattle.sp_typing_units.specs.Readings.{fine, unnamed, misplaced, simple, broken, decoder, literal, or_empty, constant_read, constant_of_type, named_op, named_read, unit_spec, word_read, unknown_read, type_read, arguments, called_word, called_op, called, vector_of, counting, container, contained, group_with, group_of, base_read, counted_read};
 
 use crate::attributes::{Site, attributes_of, converted};
 use crate::constants::Constants;
 use crate::optional::{is_present, maybe_typed};
-use crate::roles::{Holder, Kind, grouped};
+use crate::roles::{Kind, grouped};
 use sp_ast::{
     AttributeKind, BaseKind, BaseView, CountKind, ExprKind, Members, PathKind, Ref, TypeKind,
     TypeView,
@@ -75,10 +75,27 @@ fn simple(at: Span, ty: Type, kind: Kind, op: ReadOp) -> Result<Read, NoMemory>
     Ok(Read { spec, ty, kind })
 }
 
-fn broken(at: Span, ty: Type, wrong: Written) -> Result<Read, NoMemory>
-    ensures { IfOk result (λ r. r ≡ broken at ty wrong) }
+fn broken(at: Span, wrong: Written) -> Result<Read, NoMemory>
+    ensures { IfOk result (λ r. r ≡ broken at wrong) }
 {
+    let ty = Type::word(Word::Unknown);
     simple(at, ty, Kind::Broken, ReadOp::Broken(wrong))
+}
+
+/// The decoder of the library, which has its place elsewhere.
+fn decoder(at: Span) -> Result<Read, NoMemory>
+    ensures { IfOk result (λ r. r ≡ decoder at) }
+{
+    let reading = Reading {
+        span: at,
+        ty: Type::word(Word::Decoder),
+        op: ReadOp::Broken(fine(at)),
+    };
+    Ok(Read {
+        spec: Spec::new(SpecNode::Read(reading))?,
+        ty: Type::word(Word::Unknown),
+        kind: Kind::Broken,
+    })
 }
 
 fn literal(at: Span, token: TokenOp, constant: Option<u32>) -> Result<Read, NoMemory>
@@ -127,8 +144,8 @@ fn constant_read<V: Constants>(
             let token = TokenOp::Regex(regex_of(alloc, constants, e)?);
             literal(at, token, Some(number))
         }
-        Level::Word(Word::Unknown) => broken(at, Type::word(Word::Unknown), fine(at)),
-        _ => broken(at, Type::word(Word::Unknown), misplaced(at, at)),
+        Level::Word(Word::Unknown) => broken(at, fine(at)),
+        _ => broken(at, misplaced(at, at)),
     }
 }
 
@@ -141,15 +158,14 @@ fn named_read<V: Constants>(
 ) -> Result<Read, NoMemory>
     ensures { IfOk result (λ r. r ≡ named_read (V.values constants.now) at e.now) }
 {
-    let unknown = Type::word(Word::Unknown);
     match e.level() {
         ExprLevel::Leaf(head) => match &head.op {
             LeafOp::Constant(n) => constant_read(alloc, constants, at, *n, &head.ty, e),
-            LeafOp::Nothing(name) => broken(at, unknown, unnamed(at, *name)),
-            LeafOp::TypeName(_) => broken(at, unknown, fine(at)),
-            _ => broken(at, unknown, misplaced(at, at)),
+            LeafOp::Nothing(name) => broken(at, unnamed(at, *name)),
+            LeafOp::TypeName(_) => broken(at, fine(at)),
+            _ => broken(at, misplaced(at, at)),
         },
-        _ => broken(at, unknown, misplaced(at, at)),
+        _ => broken(at, misplaced(at, at)),
     }
 }
 
@@ -176,8 +192,8 @@ fn word_read(alloc: Global, at: Span, word: Word) -> Result<Read, NoMemory>
         Word::Bytes => simple(at, ty, Kind::Bytes, ReadOp::Bytes),
         Word::Void => simple(at, ty, Kind::Void, ReadOp::Void),
         Word::Unit(n) => unit_spec(at, n, Vec::new(alloc)),
-        Word::Decoder => broken(at, ty, fine(at)),
-        _ => broken(at, Type::word(Word::Unknown), misplaced(at, at)),
+        Word::Decoder => decoder(at),
+        _ => broken(at, misplaced(at, at)),
     }
 }
 
@@ -197,7 +213,7 @@ fn unknown_read<C: Context, V: Constants>(
             let e = context.named(alloc, path.span(), &path)?;
             named_read(alloc, constants, at, &e)
         }
-        _ => broken(at, Type::word(Word::Unknown), misplaced(at, at)),
+        _ => broken(at, misplaced(at, at)),
     }
 }
 
@@ -216,7 +232,7 @@ fn type_read<C: Context, V: Constants>(
     match ty.level() {
         Level::Word(Word::Unknown) => unknown_read(alloc, context, constants, at, tree),
         Level::Word(word) => word_read(alloc, at, word),
-        Level::Made(..) => broken(at, Type::word(Word::Unknown), misplaced(at, at)),
+        Level::Made(..) => broken(at, misplaced(at, at)),
     }
 }
 
@@ -266,9 +282,9 @@ fn called_word<C: Context>(
 {
     match word {
         Word::Unit(n) => unit_spec(at, n, arguments(alloc, context, n, path, list)?),
-        Word::Unknown => broken(at, Type::word(Word::Unknown), fine(at)),
-        Word::Decoder => broken(at, Type::word(Word::Decoder), fine(at)),
-        _ => broken(at, Type::word(Word::Unknown), misplaced(at, path)),
+        Word::Unknown => broken(at, fine(at)),
+        Word::Decoder => decoder(at),
+        _ => broken(at, misplaced(at, path)),
     }
 }
 
@@ -286,11 +302,11 @@ fn called<C: Context>(
     match callee.level() {
         ExprLevel::Leaf(head) => match &head.op {
             LeafOp::TypeName(word) => called_word(alloc, context, at, path, *word, list),
-            LeafOp::Decoder => broken(at, Type::word(Word::Decoder), fine(at)),
-            LeafOp::Nothing(name) => broken(at, Type::word(Word::Unknown), unnamed(at, *name)),
-            _ => broken(at, Type::word(Word::Unknown), misplaced(at, path)),
+            LeafOp::Decoder => decoder(at),
+            LeafOp::Nothing(name) => broken(at, unnamed(at, *name)),
+            _ => broken(at, misplaced(at, path)),
         },
-        _ => broken(at, Type::word(Word::Unknown), misplaced(at, path)),
+        _ => broken(at, misplaced(at, path)),
     }
 }
 
@@ -370,7 +386,6 @@ fn group_of<C: Context, V: Constants>(
     let Read { spec, ty, kind } = inner;
     let stored = converted(alloc, context, &ty, list)?;
     let site = Site {
-        holder: Holder::Group,
         kind,
         read: ty,
         stored,

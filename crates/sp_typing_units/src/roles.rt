@@ -1,6 +1,6 @@
-// What each attribute is for, by what it stands on.
+// Where each attribute can stand, and what it is for.
 ghost use Rattle.std.specs.Prelude.{◌≡◌};
-ghost use Rattle.sp_typing_units.specs.Roles.{has_view, has_byte_order, has_bit_order, is_bytes_or_open, if_so, in_field, delimiting, looping, role_of, grouped};
+ghost use Rattle.sp_typing_units.specs.Roles.{has_view, has_byte_order, has_bit_order, is_bytes_or_open, is_open, is_named, is_group, may_stand, delimiting, role_of, grouped};
 
 use sp_words::AttributeName;
 
@@ -37,9 +37,7 @@ pub enum Holder {
 /// What an attribute is for.
 #[derive(Clone, Copy, PartialEq, Eq, Debug)]
 pub enum Role {
-    /// It can't stand there.
-    Misused,
-    /// What it stands on can't be read, so nothing is asked of it.
+    /// It says how something ends that has no such end, so no type is asked of its value.
     Unasked,
     /// It takes no value.
     Alone,
@@ -90,18 +88,40 @@ fn is_bytes_or_open(kind: Kind) -> bool
     matches!(kind, Kind::Bytes | Kind::Open | Kind::Broken)
 }
 
-fn if_so(so: bool, role: Role) -> Role
-    ensures { result ≡ if_so so role }
+fn is_open(kind: Kind) -> bool
+    ensures { result ≡ is_open kind }
 {
-    if so { role } else { Role::Misused }
+    matches!(kind, Kind::Open | Kind::Broken)
 }
 
-fn in_field(holder: Holder, role: Role) -> Role
-    ensures { result ≡ in_field holder role }
+fn is_named(holder: Holder) -> bool
+    ensures { result ≡ is_named holder }
 {
-    match holder {
-        Holder::Group => Role::Misused,
-        Holder::NamedField | Holder::AnonymousField => role,
+    matches!(holder, Holder::NamedField)
+}
+
+fn is_group(holder: Holder) -> bool
+    ensures { result ≡ is_group holder }
+{
+    matches!(holder, Holder::Group)
+}
+
+/// Whether an attribute can stand behind what holds it, on what is read.
+pub fn may_stand(holder: Holder, kind: Kind, name: AttributeName) -> bool
+    ensures { result ≡ may_stand holder kind name }
+{
+    match name {
+        AttributeName::Size | AttributeName::MaxSize => has_view(kind),
+        AttributeName::Eod | AttributeName::Until | AttributeName::UntilIncluding => {
+            is_bytes_or_open(kind)
+        }
+        AttributeName::While => is_open(kind),
+        AttributeName::Convert | AttributeName::Requires | AttributeName::Synchronize => true,
+        AttributeName::Default => is_named(holder),
+        AttributeName::ByteOrder => has_byte_order(kind),
+        AttributeName::BitOrder => has_bit_order(kind),
+        AttributeName::ParseFrom | AttributeName::ParseAt => !is_group(holder) && has_view(kind),
+        AttributeName::Try => !is_group(holder),
     }
 }
 
@@ -110,40 +130,26 @@ fn delimiting(kind: Kind) -> Role
 {
     match kind {
         Kind::Bytes => Role::Delimiter,
-        Kind::Open => Role::Test,
-        Kind::Broken => Role::Unasked,
-        _ => Role::Misused,
+        Kind::Open | Kind::Counted => Role::Test,
+        _ => Role::Unasked,
     }
 }
 
-fn looping(kind: Kind) -> Role
-    ensures { result ≡ looping kind }
-{
-    match kind {
-        Kind::Open => Role::Test,
-        Kind::Broken => Role::Unasked,
-        _ => Role::Misused,
-    }
-}
-
-/// What an attribute is for, behind what holds it and on what is read.
-pub fn role_of(holder: Holder, kind: Kind, name: AttributeName) -> Role
-    ensures { result ≡ role_of holder kind name }
+/// What an attribute is for, on what is read.
+pub fn role_of(kind: Kind, name: AttributeName) -> Role
+    ensures { result ≡ role_of kind name }
 {
     match name {
-        AttributeName::Size | AttributeName::MaxSize => if_so(has_view(kind), Role::Amount),
-        AttributeName::Eod => if_so(is_bytes_or_open(kind), Role::Alone),
+        AttributeName::Size | AttributeName::MaxSize => Role::Amount,
         AttributeName::Until | AttributeName::UntilIncluding => delimiting(kind),
-        AttributeName::While => looping(kind),
+        AttributeName::While => Role::Test,
         AttributeName::Convert => Role::Conversion,
         AttributeName::Requires => Role::Requirement,
-        AttributeName::Default => if_so(matches!(holder, Holder::NamedField), Role::Default),
-        AttributeName::ByteOrder => if_so(has_byte_order(kind), Role::Order),
-        AttributeName::BitOrder => if_so(has_bit_order(kind), Role::Order),
-        AttributeName::ParseFrom => in_field(holder, if_so(has_view(kind), Role::Source)),
-        AttributeName::ParseAt => in_field(holder, if_so(has_view(kind), Role::Place)),
-        AttributeName::Try => in_field(holder, Role::Alone),
-        AttributeName::Synchronize => Role::Alone,
+        AttributeName::Default => Role::Default,
+        AttributeName::ByteOrder | AttributeName::BitOrder => Role::Order,
+        AttributeName::ParseFrom => Role::Source,
+        AttributeName::ParseAt => Role::Place,
+        AttributeName::Eod | AttributeName::Try | AttributeName::Synchronize => Role::Alone,
     }
 }
 

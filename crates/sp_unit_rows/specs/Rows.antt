@@ -26,7 +26,7 @@ use Rattle.sp_typed_units.specs.declared.declarations.Member.{Member}
 use Rattle.sp_typed_units.specs.declared.declarations.Variable.{Variable}
 use Rattle.sp_typed_units.specs.declared.declarations.Unit.{Unit}
 use Rattle.sp_typed_units.specs.Parts.{Part, Parts, Arms, field, choice, no_parts, more_parts, no_arms, more_arms}
-use Rattle.sp_typing.specs.Operands.{unknown}
+use Rattle.sp_operands.specs.Operands.{unknown}
 use Rattle.sp_typing.specs.Typing.{leaf_at}
 use Rattle.sp_typing_units.specs.Values.{Values}
 use Rattle.sp_solver.specs.Told.{told}

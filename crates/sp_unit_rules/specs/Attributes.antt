@@ -7,9 +7,7 @@ use Rattle.sp_rules.specs.declared.fault.Fault.{Fault}
 use Rattle.sp_typed_units.specs.declared.attributes.Attribute.{Attribute}
 use Rattle.sp_typing_units.specs.declared.roles.Kind.{Kind}
 use Rattle.sp_typing_units.specs.declared.roles.Holder.{Holder}
-use Rattle.sp_typing_units.specs.declared.roles.Role.{Role}
-use Rattle.sp_typing_units.specs.declared.roles.Role.TheVariants as role_is
-use Rattle.sp_typing_units.specs.Roles.{role_of}
+use Rattle.sp_typing_units.specs.Roles.{may_stand}
 use Rattle.sp_unit_rules.specs.Faults.{at}
 
 -- the attributes without a value: `&eod`, `&try` and `&synchronize`
@@ -23,10 +21,6 @@ takes_value _ = true
 abbrev pub is_misvalued : Bool → Bool → Bool
 is_misvalued true has = not has
 is_misvalued false has = has
-
-abbrev pub is_misused : Role → Bool
-is_misused role_is.Misused = true
-is_misused _ = false
 
 -- The attributes that one excludes, as its line of the table has them. What one excludes also excludes it.
 abbrev pub excluded : AttributeName → List AttributeName
@@ -77,7 +71,7 @@ clashes name (a ∷ rest) = clash name a.name || clashes name rest
 -- the tests at an attribute, with those before it
 abbrev pub attribute_tests : ℕ → Holder → Kind → List Attribute → Attribute → List (Bool × Fault)
 attribute_tests m h k earlier a =
-    (is_misused (role_of h k a.name), at m rule_is.BadAttribute a.span) ∷ ((is_misvalued (takes_value a.name) (is_some a.value), at m rule_is.BadAttribute a.span) ∷ ((clashes a.name earlier, at m rule_is.AttributeClash a.span) ∷ []))
+    (not (may_stand h k a.name), at m rule_is.BadAttribute a.span) ∷ ((is_misvalued (takes_value a.name) (is_some a.value), at m rule_is.BadAttribute a.span) ∷ ((clashes a.name earlier, at m rule_is.AttributeClash a.span) ∷ []))
 
 -- Bytes need one of four attributes, which say where they end.
 abbrev pub bounds : AttributeName → Bool

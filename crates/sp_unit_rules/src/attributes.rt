@@ -2,12 +2,12 @@
 ghost use Rattle.std.specs.Prelude.{◌≡◌, ◌≤◌, length, List};
 ghost use Rattle.std.proofs.Common.{take, reverse};
 ghost use Rattle.sp_rules.specs.Least.{checked};
-ghost use Rattle.sp_unit_rules.specs.Attributes.{takes_value, is_misvalued, is_misused, excluded, line_of, same_name, is_among, clash, clashes, attribute_tests, bounds, is_bounded};
+ghost use Rattle.sp_unit_rules.specs.Attributes.{takes_value, is_misvalued, excluded, line_of, same_name, is_among, clash, clashes, attribute_tests, bounds, is_bounded};
 
 use crate::notes::note_at;
 use sp_rules::{Fault, Rule};
 use sp_typed_units::Attribute;
-use sp_typing_units::{Holder, Kind, Role, role_of};
+use sp_typing_units::{Holder, Kind, may_stand};
 use sp_words::AttributeName;
 
 fn takes_value(name: AttributeName) -> bool
@@ -23,12 +23,6 @@ fn is_misvalued(wanted: bool, has: bool) -> bool
     ensures { result ≡ is_misvalued wanted has }
 {
     if wanted { !has } else { has }
-}
-
-fn is_misused(role: Role) -> bool
-    ensures { result ≡ is_misused role }
-{
-    matches!(role, Role::Misused)
 }
 
 /// Which attribute it is, by its line of the table.
@@ -142,7 +136,7 @@ pub(crate) fn note_attribute(
         (reverse (take place all.now)) attribute.now) }
 {
     let name = attribute.name;
-    let misused = is_misused(role_of(holder, kind, name));
+    let misused = !may_stand(holder, kind, name);
     let misvalued = is_misvalued(takes_value(name), attribute.value.is_some());
     let clashes = clashes(name, all, place);
     note_at(misused, owner, Rule::BadAttribute, attribute.span, least);

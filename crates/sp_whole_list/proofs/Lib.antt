@@ -6,3 +6,4 @@ mod None
 mod Blind
 mod Functions
 mod Modules
+pub mod Decided

@@ -9,7 +9,7 @@ use Rattle.sp_types.specs.Types.{Ty}
 use Rattle.sp_typed.specs.declared.words.LeafOp.TheVariants as leaf_is
 use Rattle.sp_typed_units.specs.declared.declarations.ConstantValue.TheVariants as value_is
 use Rattle.sp_typed_units.specs.declared.declarations.Constant.{Constant}
-use Rattle.sp_typing.specs.Operands.{unknown, boolean}
+use Rattle.sp_operands.specs.Operands.{unknown, boolean}
 use Rattle.sp_typing.specs.Typing.{leaf_at}
 use Rattle.sp_typing_heads.specs.Functions.{no_function}
 use Rattle.sp_whole_list.specs.Types.{is_type}

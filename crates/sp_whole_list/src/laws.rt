@@ -1,18 +1,15 @@
 // What is known of declarations, and of what stands round the expressions of a module.
 ghost use Rattle.std.specs.Prelude.{◌≡◌, ℕ, Bool, false, List, Option, Some, IsTrue, is_none};
-ghost use Rattle.std.specs.List.{list_all};
 ghost use Rattle.sp_ast.specs.Trees.{Tree};
 ghost use Rattle.sp_types.specs.Types.{Ty};
 ghost use Rattle.sp_solver.specs.Rounds.{IsSettled};
 ghost use Rattle.sp_typed.specs.declared.words.OneOp.{OneOp};
 ghost use Rattle.sp_typed_units.specs.declared.declarations.Typed.{Typed};
-ghost use Rattle.sp_typed_units.specs.declared.declarations.Parameter.{Parameter};
 ghost use Rattle.sp_names.specs.declared.rows.Declaration.{Declaration};
 ghost use Rattle.sp_names.specs.Declarations.{declaration_at, sort_of};
 ghost use Rattle.sp_names.specs.Types.{type_in};
 ghost use Rattle.sp_names.specs.Aliases.{tries};
 ghost use Rattle.sp_typing.specs.Contexts.{Around};
-ghost use Rattle.sp_typing_heads.specs.Parameters.{with_parameters};
 ghost use Rattle.sp_typing_heads.specs.Functions.{function_of};
 ghost use Rattle.sp_around.specs.declared.written.Place.TheVariants.{Whole};
 ghost use Rattle.sp_around.specs.Written.{misplaced_in};
@@ -26,11 +23,12 @@ ghost use Rattle.sp_list_rules.specs.Bodies.{function_tests};
 ghost use Rattle.sp_known_types.specs.Full.{is_full};
 ghost use Rattle.sp_known_types.specs.Clear.{none_hold, any_op};
 ghost use Rattle.sp_known_types.specs.Given.{IsKnown};
-ghost use Rattle.sp_known_bodies.specs.Decided.{Decides, DecidesUnder};
+ghost use Rattle.sp_known_values.specs.Given.{AreTold};
+ghost use Rattle.sp_known_bodies.specs.Decided.{Decides};
 ghost use Rattle.sp_whole_list.specs.Types.{is_type};
 ghost use Rattle.sp_whole_list.specs.Trees.{is_function};
 ghost use Rattle.sp_whole_list.specs.Known.{Stands, HasType, AreKnown};
-ghost use Rattle.sp_whole_list.specs.Whole.{is_known_parameter, is_known_function};
+ghost use Rattle.sp_whole_list.specs.Whole.{is_known_function};
 
 /// Where each alias has an answer and is written as a type may be, each declaration of a type has a full type.
 pub fn types_are_full()
@@ -54,15 +52,22 @@ pub fn modules_are_known()
         → IsKnown (around list facts m) only k n (is_type list facts.answers m) is_path }
 {}
 
-/// A function in which no test holds, in a context in which all that can be named is known: all is known of it, its parameters,
-/// its result, and each node of its body.
+/// Where it is known what names mean as constants, and that fits their types, it is known of each unsigned expression in which no rule
+/// is broken whether it is constant.
+pub fn indexes_are_decided()
+    ensures { (t : Typed) (values : Values) (slots : List ℕ) (g : Around) (only : OneOp → Bool) (m : ℕ)
+        (is_type is_path : Tree → Bool)
+        → AreTold g only (known_in t values slots) m values is_path
+        → Decides g only (known_in t values slots) m is_type is_path }
+{}
+
+/// A function in which no test holds, in a context in which all that can be named is known, and fits its type where it is a
+/// constant: all is known of the function, its parameters, its result, and each node of its body.
 pub fn functions_are_known()
     ensures { (t : Typed) (values : Values) (g : Around) (owner : List ℕ) (m : ℕ)
         (is_type is_path : Tree → Bool) (d : Tree)
         → ((slots : List ℕ) → IsKnown g any_op (known_in t values slots) m is_type is_path)
-        → ((slots : List ℕ) (ps : List Parameter) → IsTrue (list_all is_known_parameter ps)
-        → Decides (with_parameters 0 false ps g) any_op (known_in t values slots) m is_type is_path
-        × DecidesUnder (with_parameters 0 false ps g) any_op (known_in t values slots) m is_type is_path)
+        → ((slots : List ℕ) → AreTold g any_op (known_in t values slots) m values is_path)
         → IsTrue (is_function is_type is_path d)
         → IsTrue (none_hold (stmt_names m (function_of g owner m d).body))
         → IsTrue (none_hold (function_tests t values (function_of g owner m d)))

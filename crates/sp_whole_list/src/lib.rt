@@ -3,4 +3,7 @@
 
 mod laws;
 
-pub use laws::{functions_are_known, modules_are_known, types_are_full, written_types_are_full};
+pub use laws::{
+    functions_are_known, indexes_are_decided, modules_are_known, types_are_full,
+    written_types_are_full,
+};

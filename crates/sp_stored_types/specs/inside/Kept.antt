@@ -9,7 +9,7 @@ use Rattle.sp_typed.specs.declared.words.OneOp.{OneOp}
 use Rattle.sp_typed.specs.declared.words.OneOp.TheVariants as one_is
 use Rattle.sp_typed.specs.Exprs.{Expr, Exprs, leaf, one, two, three, many, exprs}
 use Rattle.sp_typed.specs.Exprs as typed_is
-use Rattle.sp_typing.specs.Literals.{seen}
+use Rattle.sp_operands.specs.Literals.{seen}
 use Rattle.sp_around.specs.Members.{first_member}
 use Rattle.sp_stored_types.specs.Opens.{or_else, unanswered, open_at, open_of, open_member, open_in, open_among}
 

@@ -22,8 +22,8 @@ use Rattle.sp_typed.specs.declared.words.NewOf.{NewOf}
 use Rattle.sp_typed.specs.Exprs.{Expr, leaf, one, two, three, many, exprs, span_of, is_literal, retyped, settled}
 use Rattle.sp_typing.specs.declared.context.Callable.{Callable}
 use Rattle.sp_typing.specs.Contexts.{Around}
-use Rattle.sp_typing.specs.Operands.{unknown, sort_of, key_of, first_type}
-use Rattle.sp_typing.specs.Literals.{taken, seen, is_negative, number_of, can_take, literal_word}
+use Rattle.sp_operands.specs.Operands.{unknown, sort_of, key_of, first_type}
+use Rattle.sp_operands.specs.Literals.{taken, seen, is_negative, can_take, literal_word}
 use Rattle.sp_typing.specs.Typing.{one_at, widened, to_target, to_maybe, each_to, alike, agreeing, lead, maybe_taken, led, row_at, lead_half, in_turn, map_at, tuple_at, unary_op, signed_type, unary_at, joined, is_membership, binary_at, choice_at, item_of, item_at, part_at, index_at, indexed, no_call, call_of, callee_op, call_by, call_at, method_of, started_op, new_by, new_at}
 use Rattle.sp_stored_types.specs.Opens.{or_else, open_in, open_among}
 use Rattle.sp_stored_types.specs.inside.Kept.{or_none, or_assoc, open_all, ComesFirst}
@@ -69,7 +69,7 @@ module _ (list : List Tree) (count : ℕ) where
       by false = refl
 
   taken_open : (h : ℕ → Option Ty) (t : Ty) (e : Expr) → opens h (taken t e) ≡ opens h e
-  taken_open h (word w) e = by (is_literal e && can_take w (is_negative e) (number_of e))
+  taken_open h (word w) e = by (is_literal e && can_take w)
     where
       by : (b : Bool) → opens h (if b then settled w e else e) ≡ opens h e
       by true = settled_open h w e

@@ -23,8 +23,8 @@ use Rattle.sp_typed_units.specs.declared.declarations.MemberKind.TheVariants as 
 use Rattle.sp_typing.specs.declared.context.Callable.{Callable}
 use Rattle.sp_typing.specs.declared.context.Member.{Member}
 use Rattle.sp_typing.specs.Contexts.{Around}
-use Rattle.sp_typing.specs.Operands.{boolean}
-use Rattle.sp_typing.specs.Literals.{seen}
+use Rattle.sp_operands.specs.Operands.{boolean}
+use Rattle.sp_operands.specs.Literals.{seen}
 use Rattle.sp_typing.specs.Typing.{typed, typed_all, pairs_typed, name_of, one_at, size_type, cast_type, member_at, set_op, set_member_at, unary_at, binary_at, choice_at, index_at, indexed, call_by, callee_op, call_at, method_of, method_at, new_by, started, new_at, tuple_at, row_at, led, map_at}
 use Rattle.sp_solver.specs.Rounds.{Within}
 use Rattle.sp_names.specs.Types.{or_unknown}

@@ -2,7 +2,7 @@
 use Rattle.std.specs.Prelude.{ℕ, ◌≡◌, List, [], ◌∷◌, Option, Some, None}
 use Rattle.sp_types.specs.Types.{Ty}
 use Rattle.sp_typing.specs.declared.context.Member.{Member as Found}
-use Rattle.sp_typing.specs.Operands.{unknown}
+use Rattle.sp_operands.specs.Operands.{unknown}
 use Rattle.sp_typed_units.specs.declared.declarations.Member.{Member}
 use Rattle.sp_around.specs.Members.{UnitMember, numbered}
 use Rattle.sp_around.specs.Arounds.{unit_member}

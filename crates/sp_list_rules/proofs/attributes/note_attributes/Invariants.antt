@@ -5,4 +5,4 @@ use Rattle.sp_list_rules.specs.Lists.{all_tests}
 use Rattle.sp_list_rules.proofs.attributes.note_attributes.Given as goal
 
 abbrev pub invariant-loop-attribute : goal.invariant-loop-attribute
-invariant-loop-attribute g l = checked l.least (all_tests (attribute_tests (g.F.Facts.known l.facts) l.owner l.holder l.kind l.stored) (drop l.attribute-index l.all)) ≡ checked l.fn.least (all_tests (attribute_tests (g.F.Facts.known l.facts) l.owner l.holder l.kind l.stored) l.all)
+invariant-loop-attribute g l = checked l.least (all_tests (attribute_tests (g.F.Facts.known l.facts) l.owner l.kind l.stored) (drop l.attribute-index l.all)) ≡ checked l.fn.least (all_tests (attribute_tests (g.F.Facts.known l.facts) l.owner l.kind l.stored) l.all)

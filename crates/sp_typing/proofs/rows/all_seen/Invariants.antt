@@ -1,5 +1,5 @@
 use Rattle.std.proofs.Common.{◌≡◌, map, take}
-use Rattle.sp_typing.specs.Literals.{seen}
+use Rattle.sp_operands.specs.Literals.{seen}
 use Rattle.sp_typing.proofs.rows.all_seen.Given as goal
 
 abbrev pub invariant-loop-e : goal.invariant-loop-e

@@ -1,5 +1,5 @@
 use Rattle.std.proofs.Common.{◌≡◌, map}
-use Rattle.sp_typing.specs.Literals.{taken}
+use Rattle.sp_operands.specs.Literals.{taken}
 use Rattle.sp_typing_bodies.proofs.others.all_taken.Given as goal
 
 abbrev pub invariant-loop-e : goal.invariant-loop-e

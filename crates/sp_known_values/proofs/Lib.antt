@@ -1,0 +1,9 @@
+pub mod Shapes
+pub mod Operators
+pub mod Outcomes
+pub mod Literals
+pub mod Containers
+pub mod Nodes
+pub mod Pairs
+pub mod Rows
+pub mod Typed
