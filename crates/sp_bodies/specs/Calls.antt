@@ -14,7 +14,7 @@ use Rattle.sp_typed_units.specs.declared.declarations.HookOf.{HookOf}
 use Rattle.sp_typed_units.specs.declared.declarations.HookOf.TheVariants as hook_of
 use Rattle.sp_typed_units.specs.declared.declarations.Typed.{Typed}
 use Rattle.sp_running.specs.States.{State, Reading, Gives, Fine, Returned, Unfinished, Result, ends, behind, done, fails, turn, deeper, go}
-use Rattle.sp_running.specs.Scopes.{Called, Scope, InCall, inside}
+use Rattle.sp_running.specs.Scopes.{called_where, Scope, InCall, inside}
 use Rattle.sp_running.specs.Scopes as called_is
 use Rattle.sp_running.specs.Reads.{Ask, Read, Bytes, on_read}
 use Rattle.sp_running.specs.Types.{zero_value}
@@ -115,18 +115,19 @@ module _ (names : Names) (hook_names : List (List ℕ)) (list : Typed) (limits :
   abbrev pub hook_event : ℕ → ℕ → List Val → State → What
   hook_event h told vs st = What.Hook (unwrap_or (slice_get hook_names h) []) (value_trees names st.instances (take told (reverse vs)))
 
-  -- one body of a hook: its turn, its event, and what its statements do
-  abbrev pub hook_means : ℕ → ℕ → List Val → State → Result
-  hook_means n h vs st =
+  -- one body of a hook of a unit that fails or doesn't: its turn, its event, and what its statements do
+  abbrev pub hook_means : (failing : Bool) → ℕ → ℕ → List Val → State → Result
+  hook_means failing n h vs st =
       known (slice_get list.hooks h) (λ x st. done (λ st. behind (hook_event h (told_count x) vs st ∷ [])
-      (inside (InCall (called_is.Called.Hook (is_foreach x.of)) st.self st.locals)
+      (inside (InCall (called_where failing (called_is.Called.Hook (is_foreach x.of))) st.self st.locals)
       (body_means n (call_means n) (hook_layout x) void x.body (with_locals vs x.slots st))))
       (turn limits.turns st)) st
 
-  -- the bodies of a hook that isn't one of elements, one after another; what ends one by a way out ends the hook
-  abbrev pub hooks_mean : ℕ → List ℕ → List Val → State → Result
-  hooks_mean n [] vs st = ends Fine st
-  hooks_mean n (h ∷ hs) vs st = done (hooks_mean n hs vs) (hook_means n h vs st)
+  -- The bodies of a hook that isn't one of elements, one after another. What ends one by a way out ends the hook, unless the unit fails:
+  -- then it ends that body alone.
+  abbrev pub hooks_mean : (failing : Bool) → ℕ → List ℕ → List Val → State → Result
+  hooks_mean failing n [] vs st = ends Fine st
+  hooks_mean failing n (h ∷ hs) vs st = done (hooks_mean failing n hs vs) (hook_means failing n h vs st)
 
 -- an integer of so many bytes: it is read whole, or it is Short, or it waits
 abbrev pub integer_means : (Reading → Ask → Read) → ℕ → Bool → Bool → State → Result

@@ -3,3 +3,4 @@ pub mod Exprs
 pub mod Places
 pub mod Stmts
 pub mod Calls
+pub mod Units

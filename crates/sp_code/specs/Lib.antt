@@ -5,3 +5,4 @@ pub mod Shapes
 pub mod Can
 pub mod Runs
 pub mod Programs
+pub mod Turns

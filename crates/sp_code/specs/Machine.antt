@@ -1,11 +1,10 @@
 -- The plain machine: what one instruction does to plain data. It has an answer for every configuration; sound code never comes to
 -- those that stay.
-use Rattle.std.specs.Prelude.{ℕ, ◌+◌, ◌-◌, Bool, List, [], ◌∷◌, ◌++◌, length, take, drop, reverse, replicate, Option, Some, None, is_some, Result as Answer, Ok, Err, nat_lt, slice_get, unwrap_or, if◌then◌else◌}
+use Rattle.std.specs.Prelude.{ℕ, ◌+◌, ◌-◌, Bool, false, true, List, [], ◌∷◌, ◌++◌, length, take, drop, reverse, replicate, Option, Some, None, is_some, Result as Answer, Ok, Err, nat_lt, slice_get, unwrap_or, if◌then◌else◌}
 use Rattle.sp_base.specs.declared.kinds.PKind.{PKind}
 use Rattle.sp_base.specs.declared.kinds.PKind.TheVariants as error_is
 use Rattle.sp_base.specs.declared.places.Limits.{Limits}
-use Rattle.sp_numbers.specs.declared.width.Width.{Width}
-use Rattle.sp_numbers.specs.declared.width.Width.TheVariants.{W8, W16, W32, W64}
+use Rattle.sp_numbers.specs.declared.width.Width.TheVariants.{W64}
 use Rattle.sp_words.specs.Methods.{arity}
 use Rattle.sp_events.specs.declared.event.What.{What}
 use Rattle.sp_value.specs.Val.{Val, void, bool, uint, tuple, vector, unit, vals_of}
@@ -14,10 +13,11 @@ use Rattle.sp_value.specs.Parts.{text_in}
 use Rattle.sp_value.specs.Changes.{with_member as with_key, without_key}
 use Rattle.sp_operators.specs.Operators.{unary, binary, cast}
 use Rattle.sp_methods.specs.Methods.{method}
-use Rattle.sp_running.specs.States.{Reading, State, End, Gives, Fine, Failed, Returned, Result, Ends, error_at, error_with, truth_of, local_of, set_local, parameter_of, member_of, put_member, start_of, one_more, go}
-use Rattle.sp_running.specs.Scopes.{Called, Scope, InUnit, InCall, leave, needs}
+use Rattle.sp_running.specs.States.{Error, Reading, State, End, Gives, Fine, Failed, Returned, Result, Ends, error_at, error_with, truth_of, local_of, set_local, parameter_of, member_of, put_member, start_of, one_more, go}
+use Rattle.sp_running.specs.Scopes.{Called, called_where, Scope, InUnit, InParts, InFailing, InCall, ends_fiber, leave, needs}
 use Rattle.sp_running.specs.Reads.{Ask, Bytes, Read, Got, Lacks, Shorts, NoWord, least_with}
 use Rattle.sp_running.specs.Values.{item_at, with_at, size_value, set_of, map_of, members_of}
+use Rattle.sp_running.specs.Types.{width_bytes}
 use Rattle.sp_running.specs.Telling.{Names, value_trees}
 use Rattle.sp_code.specs.declared.instr.Instr.{Instr}
 use Rattle.sp_code.specs.declared.instr.Instr.TheVariants.{Const, Load, Store, Param, SelfUnit, GetField, HasField, SetField, Unary, Binary, Cast, MakeTuple, MakeVector, MakeSet, MakeMap, Index, SetIndex, Size, Lib, AddKey, DeleteKey, Pop, Dup, Jump, JumpNot, Call, Return, Turn, EachStart, EachNext, Print, Assert, Throw, Fail, EnterUnit, LeaveUnit, Hook, Offset, ReadInt}
@@ -32,10 +32,12 @@ pub record Body : Type 0 where
   pub name : List ℕ
   pub told : ℕ
 
--- a unit: where its code begins, whether its start is kept, how many values it takes, how many members it has, and the first values
--- of the locals of its own code
+-- a unit: where its code begins, where that behind its parts does, and where that of its failing does; whether its start is kept, how
+-- many values it takes, how many members it has, and the first values of the locals of its own code
 pub record UnitCode : Type 0 where
   pub start : ℕ
+  pub ending : ℕ
+  pub failing : ℕ
   pub keeps : Bool
   pub takes : ℕ
   pub members : ℕ
@@ -100,10 +102,29 @@ landed to vs fs (Ends (Gives v) es st) = Goes es (At to (v ∷ vs) fs st)
 landed to vs fs (Ends Fine es st) = Goes es (At to vs fs st)
 landed to vs fs (Ends how es st) = Goes es (Ending how fs st)
 
--- an end takes off the innermost frame
+-- an error that leaves the parts of a unit, unless it ends the fiber, and the address of what runs then
+abbrev pub caught_unless : Bool → ℕ → Error → Option (ℕ × Error)
+caught_unless true failing e = None
+caught_unless false failing e = Some (failing, e)
+
+-- what leaves another construct isn't caught
+abbrev pub caught : Scope → End → Option (ℕ × Error)
+caught (InParts failing) (Failed e) = caught_unless (ends_fiber e.kind) failing e
+caught x how = None
+
+-- the unit fails: its frame stays, and keeps the error
+abbrev pub failing_frame : Error → Frame → Frame
+failing_frame e f = record f { scope = InFailing e }
+
+-- the code of the failing runs in its frame
+abbrev pub unless_caught : Option (ℕ × Error) → Frame → List Frame → State → Next → Next
+unless_caught (Some c) f fs st otherwise = Goes [] (At c.0 [] (failing_frame c.1 f ∷ fs) st)
+unless_caught None f fs st otherwise = otherwise
+
+-- an end takes off the innermost frame, or the unit whose parts it leaves fails
 abbrev pub take_off : End → List Frame → State → Next
 take_off how [] st = Over how st
-take_off how (f ∷ fs) st = landed f.to f.below fs (leave f.scope how st)
+take_off how (f ∷ fs) st = unless_caught (caught f.scope how) f fs st (landed f.to f.below fs (leave f.scope how st))
 
 -- a reading that may wait
 abbrev pub read_next : Read → (ℕ → ℕ → List ℕ → Next) → Next → List Frame → State → Next
@@ -132,9 +153,23 @@ call_next limits None pc vs fs st = Goes [] (At pc vs fs st)
 abbrev pub hook_event : Names → Body → List Val → State → What
 hook_event names e ws st = What.Hook e.name (value_trees names st.instances (take e.told (reverse ws)))
 
+-- the construct is a unit that fails
+abbrev pub is_failing_scope : Scope → Bool
+is_failing_scope (InFailing e) = true
+is_failing_scope x = false
+
+-- whether the code at hand is that of a unit that fails: its frame is then the innermost
+abbrev pub is_failing : List Frame → Bool
+is_failing [] = false
+is_failing (f ∷ fs) = is_failing_scope f.scope
+
+-- the frame of a body of a hook, of a unit that fails or doesn't
+abbrev pub hook_frame : Bool → Body → ℕ → List Val → State → Frame
+hook_frame failing e pc vs st = called_frame (record e { called = called_where failing e.called }) pc vs st
+
 abbrev pub hook_next : Names → ℕ → Option Body → ℕ → List Val → List Frame → State → Next
 hook_next names limit (Some e) pc vs fs st =
-    counted limit (λ st. Goes (hook_event names e (take e.takes vs) st ∷ []) (At e.start [] (called_frame e pc (drop e.takes vs) st ∷ fs) (begun e (take e.takes vs) st))) fs st
+    counted limit (λ st. Goes (hook_event names e (take e.takes vs) st ∷ []) (At e.start [] (hook_frame (is_failing fs) e pc (drop e.takes vs) st ∷ fs) (begun e (take e.takes vs) st))) fs st
 hook_next names limit None pc vs fs st = Goes [] (At pc vs fs st)
 
 -- a unit that is entered: a turn, the depth, and a new instance, which is the one at hand
@@ -145,17 +180,14 @@ entered e u ws st =
 abbrev pub unit_frame : UnitCode → ℕ → List Val → State → Frame
 unit_frame e pc vs st = record { scope = InUnit e.keeps (length st.instances) st.now.place st.self st.locals; to = pc; below = vs }
 
+-- the frame of the parts, which leads behind them
+abbrev pub parts_frame : UnitCode → Frame
+parts_frame e = record { scope = InParts e.failing; to = e.ending; below = [] }
+
 abbrev pub unit_next : Limits → Option UnitCode → ℕ → ℕ → List Val → List Frame → State → Next
 unit_next limits (Some e) u pc vs fs st =
-    counted limits.turns (λ st. nested limits.depth (λ s. Goes [] (At e.start [] (unit_frame e pc (drop e.takes vs) st ∷ fs) (entered e u (take e.takes vs) s))) fs st) fs st
+    counted limits.turns (λ st. nested limits.depth (λ s. Goes [] (At e.start [] (parts_frame e ∷ unit_frame e pc (drop e.takes vs) st ∷ fs) (entered e u (take e.takes vs) s))) fs st) fs st
 unit_next limits None u pc vs fs st = Goes [] (At pc vs fs st)
-
--- how many bytes an integer has
-abbrev pub width_bytes : Width → ℕ
-width_bytes W8 = 1
-width_bytes W16 = 2
-width_bytes W32 = 4
-width_bytes W64 = 8
 
 abbrev pub const_of : List Val → ℕ → Val
 const_of consts c = unwrap_or (slice_get consts c) void

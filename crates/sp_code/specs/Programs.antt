@@ -22,8 +22,9 @@ use Rattle.sp_code.specs.declared.program.Ranges.{Ranges}
 use Rattle.sp_code.specs.declared.program.Program.{Program}
 use Rattle.sp_code.specs.Machine as machine
 use Rattle.sp_code.specs.Machine.{Plain}
-use Rattle.sp_code.specs.Shapes.{Shape, Shapes, BodyKinds, Opens, AView, ATry, Round, OfUnit, OfFunction, OfHook}
+use Rattle.sp_code.specs.Shapes.{Shape, Shapes, BodyKinds, Opens, AView, ATry, Round, OfUnit, OfEnding, OfFailing, OfFunction, OfHook}
 use Rattle.sp_code.specs.Shapes as shapes_are
+use Rattle.sp_code.specs.Turns.{Turns}
 
 abbrev pub called_as : BodyOf → Called
 called_as body_of.Function = Called.Function
@@ -43,7 +44,7 @@ bodies_of (b ∷ bs) = (record { start = b.start; called = called_as b.of; takes
 
 abbrev pub units_of : List UnitCode → List machine.UnitCode
 units_of [] = []
-units_of (u ∷ us) = (record { start = u.start; keeps = u.keeps; takes = u.takes; members = length u.members.items; fresh = u.fresh }) ∷ units_of us
+units_of (u ∷ us) = (record { start = u.start; ending = u.ending; failing = u.failing; keeps = u.keeps; takes = u.takes; members = length u.members.items; fresh = u.fresh }) ∷ units_of us
 
 abbrev pub member_names : List UnitCode → List (List (List ℕ))
 member_names [] = []
@@ -101,6 +102,8 @@ opens_of ks (open_is.Try to ns ∷ os) = ATry to (kinds_at ks ns.items) ∷ open
 
 abbrev pub round_of : List Kind → RoundRow → Round
 round_of ks round_is.Unit = OfUnit
+round_of ks round_is.Ending = OfEnding
+round_of ks round_is.Failing = OfFailing
 round_of ks (round_is.Function n) = OfFunction (kind_at ks n)
 round_of ks (round_is.Hook each) = OfHook each
 
@@ -125,6 +128,6 @@ shapes_by ks p = record { at = shapes_at ks p.shapes.at.items; units = unit_kind
 abbrev pub shapes_of : Program → Shapes
 shapes_of p = shapes_by (kinds_from [] p.shapes.kinds.items) p
 
--- sound programs, whatever their limits
+-- Sound programs, whatever their limits: each instruction keeps to the shapes, and each cycle counts a turn.
 abbrev pub IsSoundProgram : Program → Type 0
-IsSoundProgram p = (limits : Limits) → shapes_are.IsSound (plain_of limits p) (shapes_of p)
+IsSoundProgram p = (limits : Limits) → shapes_are.IsSound (plain_of limits p) (shapes_of p) × Turns (plain_of limits p)

@@ -5,7 +5,7 @@ use Rattle.sp_value.specs.Val.{Val}
 use Rattle.sp_methods.specs.Kinds.{Kind, Bools, Unsigned, Signed, Text, UnitOf, TupleOf, VectorOf, SetOf, MapOf, kinds_of, Has, Have}
 use Rattle.sp_methods.specs.Methods.{IsMethod}
 use Rattle.sp_running.specs.States.{Instance, State, End, Fine, Failed, Returned, Stopped, Backs, Rejected}
-use Rattle.sp_running.specs.Scopes.{Called, Scope, InUnit, InCall, InSize, InMax, InFrom, InAt, InTry}
+use Rattle.sp_running.specs.Scopes.{Called, Scope, InUnit, InParts, InFailing, InCall, InSize, InMax, InFrom, InAt, InTry}
 use Rattle.sp_running.specs.Scopes as called_is
 use Rattle.sp_code.specs.declared.instr.Instr.{Instr}
 use Rattle.sp_code.specs.declared.instr.Instr.TheVariants.{Const, Load, Store, Param, SelfUnit, GetField, HasField, SetField, Unary, Binary, Cast, MakeTuple, MakeVector, MakeSet, MakeMap, Index, SetIndex, Size, Lib, AddKey, DeleteKey, Pop, Dup, Jump, JumpNot, Call, Return, Turn, EachStart, EachNext, Print, Assert, Throw, Fail, EnterUnit, LeaveUnit, Hook, Offset, ReadInt}
@@ -27,9 +27,12 @@ pub data Opens : Type 0 where
   AView : Opens
   ATry : ℕ → List Kind → Opens
 
--- the code of a unit, of a function with its result, or of a body of a hook
+-- the code of the parts of a unit, that behind them, that of its failing; the code of a function with its result, or of a body of a
+-- hook
 pub data Round : Type 0 where
   OfUnit : Round
+  OfEnding : Round
+  OfFailing : Round
   OfFunction : Kind → Round
   OfHook : (each : Bool) → Round
 
@@ -59,7 +62,9 @@ body_shape u r ls = record { unit = u; round = r; locals = ls; operands = []; op
 
 -- what a body leaves on the operands below it; the unit is the one that a unit's code is of
 abbrev pub given_by : Round → ℕ → List Kind → List Kind
-given_by OfUnit u ks = UnitOf u ∷ ks
+given_by OfUnit u ks = ks
+given_by OfEnding u ks = UnitOf u ∷ ks
+given_by OfFailing u ks = ks
 given_by (OfFunction k) u ks = k ∷ ks
 given_by (OfHook true) u ks = Bools ∷ ks
 given_by (OfHook false) u ks = ks
@@ -68,7 +73,14 @@ given_by (OfHook false) u ks = ks
 abbrev pub IsResult : Round → Kind → Type 0
 IsResult (OfFunction j) k = k ≡ j
 IsResult (OfHook each) k = Unit {0}
-IsResult OfUnit k = ⊥
+IsResult r k = ⊥
+
+-- the code of a unit
+abbrev pub IsOfUnit : Round → Type 0
+IsOfUnit OfUnit = Unit {0}
+IsOfUnit OfEnding = Unit {0}
+IsOfUnit OfFailing = Unit {0}
+IsOfUnit r = ⊥
 
 abbrev pub IsView : Scope → Type 0
 IsView (InSize views limit) = Unit {0}
@@ -135,6 +147,7 @@ abbrev pub IsCalled : Round → Called → Type 0
 IsCalled (OfFunction k) called_is.Called.Function = Unit {0}
 IsCalled (OfHook true) (called_is.Called.Hook true) = Unit {0}
 IsCalled (OfHook false) (called_is.Called.Hook false) = Unit {0}
+IsCalled (OfHook false) called_is.Called.FailingHook = Unit {0}
 IsCalled r c = ⊥
 
 -- the units of instances
@@ -148,6 +161,8 @@ MayEnd units (Failed e) r os = Unit {0}
 MayEnd units Backs r os = Unit {0}
 MayEnd units Rejected r os = Unit {0}
 MayEnd units Fine OfUnit [] = Unit {0}
+MayEnd units Fine OfEnding [] = Unit {0}
+MayEnd units Fine OfFailing [] = Unit {0}
 MayEnd units Fine r (ATry to ks ∷ os) = Unit {0}
 MayEnd units (Returned v) (OfFunction k) [] = Has units k v
 MayEnd units (Returned v) (OfHook each) [] = Unit {0}
@@ -207,17 +222,19 @@ module _ (p : Plain) (shapes : Shapes) where
   Keeps Assert pc s = (k : Kind) × IsMessage k × Takes pc s (k ∷ Bools ∷ []) []
   Keeps Throw pc s = (ks : List Kind) × (s.operands ≡ Text ∷ ks)
   Keeps (Fail kind) pc s = Unit {0}
-  Keeps (EnterUnit u) pc s = (e : UnitCode) × (t : UnitKinds) × (ins : List Kind) × (slice_get p.units u ≡ Some e) × (slice_get shapes.units u ≡ Some t) × IsUnitCode e t ins × Shown e.start (body_shape (Some u) OfUnit t.locals) × Takes pc s ins (UnitOf u ∷ [])
-  Keeps LeaveUnit pc s = (s.round ≡ OfUnit) × (s.opens ≡ [])
+  Keeps (EnterUnit u) pc s = (e : UnitCode) × (t : UnitKinds) × (ins : List Kind) × (slice_get p.units u ≡ Some e) × (slice_get shapes.units u ≡ Some t) × IsUnitCode e t ins × Shown e.start (body_shape (Some u) OfUnit t.locals) × Shown e.ending (body_shape (Some u) OfEnding t.locals) × Shown e.failing (body_shape (Some u) OfFailing t.locals) × Takes pc s ins (UnitOf u ∷ [])
+  Keeps LeaveUnit pc s = IsOfUnit s.round × (s.opens ≡ [])
   Keeps (Hook h) pc s = (ins : List Kind) × (each : Bool) × Enters h s.unit (called_is.Called.Hook each) (OfHook each) ins × Takes pc s ins (given_by (OfHook each) 0 [])
   Keeps Offset pc s = (u : ℕ) × Takes pc s (UnitOf u ∷ []) (Unsigned ∷ [])
   Keeps (ReadInt form) pc s = Shown (pc + 1) (push (read_kind form.signed) s)
 
-  -- the frame of a body: what is outside it
-  abbrev pub IsRound : List ℕ → Option ℕ → Round → Shape → Scope → Type 0
-  IsRound units u r outer (InUnit keeps instance start self locals) = (r ≡ OfUnit) × IsKnownAs units u instance × IsSelf units outer.unit self × Have units outer.locals locals
-  IsRound units u r outer (InCall called self locals) = IsCalled r called × IsSelf units outer.unit self × Have units outer.locals locals
-  IsRound units u r outer x = ⊥
+  -- The frame of a body: what is outside it. Behind the parts of a unit, and behind its failing, is the same unit with the same locals.
+  abbrev pub IsRound : List ℕ → Option ℕ → Round → List Kind → Shape → Scope → Type 0
+  IsRound units u r ls outer (InUnit keeps instance start self locals) = (r ≡ OfEnding) × IsKnownAs units u instance × IsSelf units outer.unit self × Have units outer.locals locals
+  IsRound units u r ls outer (InParts failing) = (r ≡ OfUnit) × (outer ≡ body_shape u OfEnding ls) × Shown failing (body_shape u OfFailing ls)
+  IsRound units u r ls outer (InFailing e) = (r ≡ OfFailing) × (outer ≡ body_shape u OfEnding ls)
+  IsRound units u r ls outer (InCall called self locals) = IsCalled r called × IsSelf units outer.unit self × Have units outer.locals locals
+  IsRound units u r ls outer x = ⊥
 
   -- the unit that a unit's code is of
   abbrev pub known_unit : Option ℕ → ℕ
@@ -230,7 +247,7 @@ module _ (p : Plain) (shapes : Shapes) where
   Framed units u r ls (o ∷ os) [] = ⊥
   Framed units u r ls (AView ∷ os) (f ∷ fs) = IsView f.scope × Framed units u r ls os fs
   Framed units u r ls (ATry to ks ∷ os) (f ∷ fs) = IsTry f.scope × (f.to ≡ to) × Have units ks f.below × Shown to (record { unit = u; round = r; locals = ls; operands = ks; opens = os }) × Framed units u r ls os fs
-  Framed units u r ls [] (f ∷ fs) = (outer : Shape) × (ks : List Kind) × Shown f.to outer × (outer.operands ≡ given_by r (known_unit u) ks) × Have units ks f.below × IsRound units u r outer f.scope × Framed units outer.unit outer.round outer.locals outer.opens fs
+  Framed units u r ls [] (f ∷ fs) = (outer : Shape) × (ks : List Kind) × Shown f.to outer × (outer.operands ≡ given_by r (known_unit u) ks) × Have units ks f.below × IsRound units u r ls outer f.scope × Framed units outer.unit outer.round outer.locals outer.opens fs
 
   pub record HasKinds (units : List ℕ) (x : Instance) : Type 0 where
     pub kinds : UnitKinds

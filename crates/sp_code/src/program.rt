@@ -29,6 +29,10 @@ pub struct BodyCode {
 pub struct UnitCode {
     /// The address at which it begins.
     pub start: u32,
+    /// That of what runs behind its parts.
+    pub ending: u32,
+    /// That of what runs where its parts fail.
+    pub failing: u32,
     /// Whether the bytes from its start on are kept while it is open.
     pub keeps: bool,
     /// How many values it takes. They are its parameters.
@@ -83,7 +87,10 @@ pub enum OpenRow {
 /// Of what a shape's body is.
 #[derive(Clone, Copy)]
 pub enum RoundRow {
+    /// The parts of a unit, what runs behind them, and what runs where they fail.
     Unit,
+    Ending,
+    Failing,
     /// A function, by the kind of its result.
     Function(u32),
     /// A body of a hook, and whether it is one of a foreach hook.

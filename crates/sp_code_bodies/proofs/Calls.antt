@@ -1,32 +1,31 @@
 -- Bodies that are called: a frame is opened, the body runs in it, and its end takes the frame off.
-use Rattle.std.proofs.Common.{◌≡◌, ℕ, zero, suc, ◌+◌, Bool, true, false, List, [], ◌∷◌, ◌++◌, length, take, drop, reverse, map, Option, Some, None, refl, sym, ap, ◌∙◌, subst, arith, append_assoc, append-nil, length-append}
+use Rattle.std.proofs.Common.{◌≡◌, ℕ, zero, suc, ◌+◌, Bool, true, false, List, [], ◌∷◌, ◌++◌, length, drop, reverse, Option, Some, None, refl, sym, ap, ◌∙◌}
 use Rattle.std.specs.Prelude.{nat_lt, slice_get, unwrap_or, if◌then◌else◌}
 use Rattle.sp_base.specs.declared.kinds.PKind.TheVariants.{Turns, Depth}
 use Rattle.sp_events.specs.declared.event.What.{What}
-use Rattle.sp_value.specs.Val.{Val, void}
-use Rattle.sp_methods.specs.Kinds.{Kind, Void}
+use Rattle.sp_value.specs.Val.{Val}
+use Rattle.sp_methods.specs.Kinds.{Kind}
 use Rattle.sp_typed.specs.Stmts.{Stmt}
 use Rattle.sp_typed_units.specs.declared.declarations.Function.{Function}
-use Rattle.sp_typed_units.specs.declared.declarations.Hook.{Hook}
 use Rattle.sp_typed_units.specs.declared.declarations.Typed.{Typed}
-use Rattle.sp_running.specs.States.{Reading, State, End, Gives, Fine, Failed, Returned, Stopped, Backs, Rejected, Need, Unfinished, Result, Ends, ends, behind, on_end, with_done, done, fails, one_more, turn, deeper}
-use Rattle.sp_running.specs.Scopes.{Called, InCall, inside}
+use Rattle.sp_running.specs.States.{Reading, State, Fine, Failed, Returned, Stopped, Backs, Rejected, Need, Result, Ends, ends, behind, done, fails, one_more, turn, deeper}
+use Rattle.sp_running.specs.Scopes.{Called, InCall, ends_fiber, dropped_unless, outside, inside}
 use Rattle.sp_running.specs.Scopes as called_is
 use Rattle.sp_running.specs.Reads.{Ask, Read}
 use Rattle.sp_running.specs.Types.{zero_value, kind_of_type}
 use Rattle.sp_bodies.specs.Globals.{Globals, Layout, globals_of}
 use Rattle.sp_bodies.specs.Exprs.{known}
 use Rattle.sp_bodies.specs.Stmts.{stmt_means}
-use Rattle.sp_bodies.specs.Calls.{zero_slots, function_layout, hook_layout, is_foreach, told_count, body_means, with_locals, one_deeper, call_means, hook_event, hook_means}
+use Rattle.sp_bodies.specs.Calls.{zero_slots, function_layout, body_means, with_locals, one_deeper, call_means}
 use Rattle.sp_code.specs.declared.instr.Instr.TheVariants as does
-use Rattle.sp_code.specs.Machine.{Body, Frame, Plain, Config, At, Ending, Next, Goes, counted, nested, raise, call_next, hook_next, act, step}
+use Rattle.sp_code.specs.Machine.{Frame, Plain, Config, At, Next, Goes, counted, nested, raise, landed, call_next, step}
 use Rattle.sp_code.specs.Shapes.{Shape, push}
-use Rattle.sp_code.specs.Runs.{Ways, Spot, leads, Comes, here, Halts, Runs}
-use Rattle.sp_lower_expr.specs.Marked.{Marked, mark, constant, HasAt}
+use Rattle.sp_code.specs.Runs.{Ways, leads, here, Halts, Runs}
+use Rattle.sp_lower_expr.specs.Marked.{mark, constant}
 use Rattle.sp_lower_unit.specs.Code.{stmt_code}
-use Rattle.sp_lower_unit.specs.Bodies.{handed, body_code, function_code, hook_code, function_entry, hook_entry, HasFunction, HasHook, name_at, HasBodies}
+use Rattle.sp_lower_unit.specs.Bodies.{body_code, function_code, function_entry, HasFunction, HasBodies}
 use Rattle.sp_code_means.specs.Laws.{CallsRun}
-use Rattle.sp_code_means.proofs.Steps.{then_comes, one, after_runs, after_one, act_at}
+use Rattle.sp_code_means.proofs.Steps.{then_comes, one, after_one, act_at}
 use Rattle.sp_code_means.proofs.Lists.{take_all, drop_all}
 use Rattle.sp_code_bodies.specs.Parts.{StmtIsCounted, BodiesAreCounted}
 use Rattle.sp_code_bodies.specs.Laws.{FunctionsRun}
@@ -67,6 +66,17 @@ module _ (p : Plain) (reads : Reading → Ask → Read) where
   inside_runs c (called_is.Called.Hook false) self locals to fin out again below x (Ends Rejected es st) h = then_comes p reads h (one p reads _ [] _ refl)
   inside_runs c (called_is.Called.Hook false) self locals to fin out again below x (Ends (Need m) es st) h = waits_outside c es (called_is.Called.Hook false) self locals to below x.frames m h
   inside_runs c (called_is.Called.Hook false) self locals to fin out again below x (Ends _ es st) h = tt
+  inside_runs c called_is.Called.FailingHook self locals to fin out again below x (Ends (Returned v) es st) h = then_comes p reads h (one p reads _ [] _ refl)
+  inside_runs c called_is.Called.FailingHook self locals to fin out again below x (Ends (Failed e) es st) h = dropped (ends_fiber e.kind) refl
+    where
+      dropped : (b : Bool) → ends_fiber e.kind ≡ b
+          → Runs p reads c (leads to below x) (behind es (ends (dropped_unless b e) (outside self locals st)))
+      dropped true k = then_comes p reads h (one p reads _ [] _ (ap (λ b. landed to below x.frames (ends (dropped_unless b e) (outside self locals st))) k))
+      dropped false k = then_comes p reads h (one p reads _ [] _ (ap (λ b. landed to below x.frames (ends (dropped_unless b e) (outside self locals st))) k))
+  inside_runs c called_is.Called.FailingHook self locals to fin out again below x (Ends Backs es st) h = then_comes p reads h (one p reads _ [] _ refl)
+  inside_runs c called_is.Called.FailingHook self locals to fin out again below x (Ends Rejected es st) h = then_comes p reads h (one p reads _ [] _ refl)
+  inside_runs c called_is.Called.FailingHook self locals to fin out again below x (Ends (Need m) es st) h = waits_outside c es called_is.Called.FailingHook self locals to below x.frames m h
+  inside_runs c called_is.Called.FailingHook self locals to fin out again below x (Ends _ es st) h = tt
 
   module _ (hook_names : List (List ℕ)) (list : Typed) where
     abbrev globals : Globals

@@ -1,5 +1,5 @@
 -- What is true of the code of statements, of functions and of hooks, wherever it stands.
-use Rattle.std.specs.Prelude.{◌≡◌, ℕ, ◌+◌, List, [], ◌∷◌, ◌++◌, length, reverse, map, Some, slice_get}
+use Rattle.std.specs.Prelude.{◌≡◌, ℕ, ◌+◌, List, [], ◌∷◌, length, reverse, map, Some, slice_get}
 use Rattle.sp_value.specs.Val.{Val}
 use Rattle.sp_typed.specs.Stmts.{Stmt}
 use Rattle.sp_typed_units.specs.declared.declarations.Hook.{Hook}
@@ -9,7 +9,7 @@ use Rattle.sp_running.specs.Reads.{Ask, Read}
 use Rattle.sp_bodies.specs.Globals.{Globals, Layout}
 use Rattle.sp_bodies.specs.Stmts.{stmt_means}
 use Rattle.sp_bodies.specs.Calls.{call_means, hooks_mean}
-use Rattle.sp_code.specs.Machine.{Plain, At}
+use Rattle.sp_code.specs.Machine.{Plain, At, is_failing}
 use Rattle.sp_code.specs.Shapes.{Shape}
 use Rattle.sp_code.specs.Runs.{Ways, leads, Runs}
 use Rattle.sp_lower_expr.specs.Marked.{HasAt}
@@ -41,10 +41,11 @@ AllTake list k [] = Unit {0}
 AllTake list k (h ∷ hs) = ((x : Hook) → slice_get list.hooks h ≡ Some x → handed x ≡ k) × AllTake list k hs
 
 -- Where such a program has the code of a hook, it runs from there through all bodies of the hook in the order in which they are given,
--- each with its event. Each is handed the values of these locals, which the one before it has left as they were.
+-- each with its event. Each is handed the values of these locals, which the one before it has left as they were. In the code of a unit
+-- that fails, an error of a body is dropped, unless it ends the fiber.
 abbrev pub HooksRun : Type 0
 HooksRun =
     (p : Plain) (reads : Reading → Ask → Read) (hook_names : List (List ℕ)) (list : Typed) → HasBodies p hook_names list → BodiesAreCounted p list →
     (n : ℕ) (hs ls : List ℕ) (s : Shape) (pc : ℕ) (vs : List Val) (x : Ways) (st : State) → AllTake list (length ls) hs → HasAt p pc (hooks_code s (length list.functions) ls hs) →
     Runs p reads (At pc vs x.frames st) (leads (pc + length (hooks_code s (length list.functions) ls hs)) vs x)
-    (hooks_mean p.names hook_names list p.limits n hs (reverse (map (local_of st) ls)) st)
+    (hooks_mean p.names hook_names list p.limits (is_failing x.frames) n hs (reverse (map (local_of st) ls)) st)

@@ -51,16 +51,16 @@ use Rattle.sp_methods.specs.Kinds.{Void}
 use Rattle.sp_lower_expr.specs.Marked.{Marked, Wanted, Does, Constant}
 use Rattle.sp_lower_unit.specs.Bodies.{function_code, hook_code}
 
-abbrev here : Span
+abbrev pub here : Span
 here = record { from = 0; to = 0 }
 
-abbrev byte : Ty
+abbrev pub byte : Ty
 byte = word (word_is.Uint W8)
 
-abbrev boolean : Ty
+abbrev pub boolean : Ty
 boolean = word word_is.Bool
 
-abbrev nothing : Ty
+abbrev pub nothing : Ty
 nothing = word word_is.Void
 
 abbrev bytes_row : Ty
@@ -69,19 +69,19 @@ bytes_row = made maker_is.Vector (tys (byte ∷ []))
 abbrev byte_map : Ty
 byte_map = made maker_is.Map (tys (byte ∷ byte ∷ []))
 
-abbrev the_unit : Ty
+abbrev pub the_unit : Ty
 the_unit = word (word_is.Unit 0)
 
-abbrev leaf_of : Ty → LeafOp → Expr
+abbrev pub leaf_of : Ty → LeafOp → Expr
 leaf_of t o = leaf (record { span = here; ty = t; op = o })
 
-abbrev one_of : Ty → OneOp → Expr → Expr
+abbrev pub one_of : Ty → OneOp → Expr → Expr
 one_of t o a = one (record { span = here; ty = t; op = o }) a
 
-abbrev number : ℕ → Expr
+abbrev pub number : ℕ → Expr
 number n = leaf_of byte (leaf_is.Number n)
 
-abbrev local : Ty → ℕ → Expr
+abbrev pub local : Ty → ℕ → Expr
 local t l = leaf_of t (leaf_is.Local l)
 
 abbrev binary : Ty → BinaryOp → Expr → Expr → Expr
@@ -102,19 +102,19 @@ call t f es = many_of t (many_is.Call f) es
 abbrev method : Ty → Method → List Expr → Expr
 method t m es = many_of t (many_is.Method m None) es
 
-abbrev itself : Expr
+abbrev pub itself : Expr
 itself = leaf_of the_unit (leaf_is.Itself Meant)
 
-abbrev field : ℕ → Expr
+abbrev pub field : ℕ → Expr
 field m = one_of byte (one_is.Field m) itself
 
-abbrev truth : LeafOp → Expr
+abbrev pub truth : LeafOp → Expr
 truth o = leaf_of boolean o
 
-abbrev valued_by : ValuedOp → Expr → Stmt
+abbrev pub valued_by : ValuedOp → Expr → Stmt
 valued_by o e = valued (record { span = here; op = o }) e
 
-abbrev set_to : Expr → Expr → Stmt
+abbrev pub set_to : Expr → Expr → Stmt
 set_to target e = assign (record { op = assign_is.Set; owner = None }) target e
 
 abbrev add_to : Expr → Expr → Stmt
@@ -126,10 +126,10 @@ returned e = valued_by valued_is.Return e
 abbrev evaluate : Expr → Stmt
 evaluate e = valued_by valued_is.Expr e
 
-abbrev printed : List Expr → Stmt
+abbrev pub printed : List Expr → Stmt
 printed es = print here (exprs es)
 
-abbrev both : List Stmt → Stmt
+abbrev pub both : List Stmt → Stmt
 both ss = block (stmts ss)
 
 abbrev when : Expr → Stmt → Stmt
@@ -145,33 +145,33 @@ break_out = bare (record { span = here; op = bare_is.Break true })
 abbrev function : List Ty → Ty → Stmt → Function
 function slots t s = record { path = []; «module» = 0; span = here; parameters = []; result = t; written = None; slots = slots; body = s }
 
-abbrev hook : HookOf → Option ℤ → Stmt → Hook
+abbrev pub hook : HookOf → Option ℤ → Stmt → Hook
 hook of rank s = record { «module» = 0; span = here; of = of; fits = true; parameters = []; priority = None; rank = rank; slots = []; body = s }
 
 abbrev listed : List Function → List Hook → Typed
 listed fs hs = record { units = []; functions = fs; hooks = hs; constants = []; enums = []; bitfields = []; aliases = []; conversions = []; orders = [] }
 
-abbrev names : Names
+abbrev pub names : Names
 names = record { members = []; labels = []; ranges = [] }
 
-abbrev limits : Limits
+abbrev pub limits : Limits
 limits = record { turns = 4; depth = 3; fibers = 1 }
 
 -- the place is 3; the unit at hand has a member that isn't set, and one that is 7
 abbrev begin : State
 begin = record { instances = (record { unit = 0; start = 0; parameters = []; members = None ∷ Some (uint W8 7) ∷ [] }) ∷ []; self = 0; locals = []; now = record { source = Main; place = 3; high = 3; count = 0; views = [] }; outer = []; level = 0; stamps = 0; depth = 0; tries = false; move = None }
 
-abbrev reading : List ℕ → Close → Reading → Ask → Read
+abbrev pub reading : List ℕ → Close → Reading → Ask → Read
 reading s c = reads (λ set w over. NoToken) s c
 
 -- what is told, and how a run stands
-data Stand : Type 0 where
+pub data Stand : Type 0 where
   Done : Val → Stand
   AtEnd Odd : Stand
   Waiting : ℕ → Stand
   Fails : PKind → Option (List ℕ) → ℕ → Stand
 
-abbrev stand : End → Stand
+abbrev pub stand : End → Stand
 stand (Gives v) = Done v
 stand (Returned v) = Done v
 stand Fine = AtEnd
@@ -179,7 +179,7 @@ stand (Need m) = Waiting m
 stand (Failed e) = Fails e.kind e.text e.place
 stand how = Odd
 
-abbrev told_of : Result → (List What) × Stand
+abbrev pub told_of : Result → (List What) × Stand
 told_of (Ends how es st) = (es, stand how)
 
 -- code is placed one behind the other, and each constant is a new one
@@ -187,7 +187,7 @@ abbrev placed_as : Wanted → ℕ → (ℕ → List Instr) → List Instr
 placed_as (Does i) c rest = i ∷ rest c
 placed_as (Constant v) c rest = does.Const c ∷ rest (c + 1)
 
-abbrev placed : ℕ → List Marked → List Instr
+abbrev pub placed : ℕ → List Marked → List Instr
 placed c [] = []
 placed c (m ∷ ms) = placed_as m.wanted c (λ c. placed c ms)
 
@@ -195,7 +195,7 @@ abbrev constant_in : Wanted → List Val
 constant_in (Does i) = []
 constant_in (Constant v) = v ∷ []
 
-abbrev constants : List Marked → List Val
+abbrev pub constants : List Marked → List Val
 constants [] = []
 constants (m ∷ ms) = constant_in m.wanted ++ constants ms
 
@@ -208,7 +208,7 @@ functions_code list at (x ∷ xs) =
     let ms = function_code (globals_of list) some_shape at x in
     ms ++ functions_code list (at + length ms) xs
 
-abbrev hooks_code : Typed → ℕ → List Hook → List Marked
+abbrev pub hooks_code : Typed → ℕ → List Hook → List Marked
 hooks_code list at [] = []
 hooks_code list at (x ∷ xs) =
     let ms = hook_code (globals_of list) some_shape at x in
@@ -222,7 +222,7 @@ function_bodies list at (x ∷ xs) =
 abbrev taken_by : Hook → ℕ
 taken_by x = if has_current x.of then 2 else length x.parameters
 
-abbrev hook_codes : Typed → ℕ → List Hook → List Body
+abbrev pub hook_codes : Typed → ℕ → List Hook → List Body
 hook_codes list at [] = []
 hook_codes list at (x ∷ xs) =
     (record { start = at; called = Called.Hook (is_foreach x.of); takes = taken_by x; fresh = zero_slots [] x.slots; name = []; told = told_count x }) ∷ hook_codes list (at + length (hook_code (globals_of list) some_shape at x)) xs
@@ -240,7 +240,7 @@ told_by go es (Goes fs d) = go (es ++ fs) d
 told_by go es (Waits m) = (es, Waiting m)
 told_by go es (Over how st) = (es, stand how)
 
-abbrev drive : (Config → Next) → ℕ → List What → Config → (List What) × Stand
+abbrev pub drive : (Config → Next) → ℕ → List What → Config → (List What) × Stand
 drive go zero es c = (es, Odd)
 drive go (suc n) es c = told_by (drive go n) es (go c)
 
@@ -259,7 +259,7 @@ abbrev uints : List ℕ → List TreeData
 uints [] = []
 uints (n ∷ ns) = told.uint n ∷ uints ns
 
-abbrev says : List ℕ → What
+abbrev pub says : List ℕ → What
 says ns = What.Print (uints ns)
 
 -- `1 + 2 * 3`
@@ -344,7 +344,7 @@ two_bodies = hook (hook_of.Unit 0 hook_name.Init) None (printed (number 1 ∷ []
 by_priority : hook_bodies (λ of. true) two_bodies ≡ 1 ∷ 0 ∷ []
 by_priority = refl
 
-hooks_told : (told_of (hooks_mean names [] (listed [] two_bodies) limits 9 (1 ∷ 0 ∷ []) [] begin)).0 ≡ What.Hook [] [] ∷ says (2 ∷ []) ∷ What.Hook [] [] ∷ says (1 ∷ []) ∷ []
+hooks_told : (told_of (hooks_mean names [] (listed [] two_bodies) limits false 9 (1 ∷ 0 ∷ []) [] begin)).0 ≡ What.Hook [] [] ∷ says (2 ∷ []) ∷ What.Hook [] [] ∷ says (1 ∷ []) ∷ []
 hooks_told = refl
 
 hooks_run : (drive (step (lowered (does.Hook 1 ∷ does.Hook 0 ∷ does.LeaveUnit ∷ []) (listed [] two_bodies)) (reading [] ended)) 60 [] (At 0 [] [] begin)).0 ≡ What.Hook [] [] ∷ says (2 ∷ []) ∷ What.Hook [] [] ∷ says (1 ∷ []) ∷ []

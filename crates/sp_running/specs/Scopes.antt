@@ -1,18 +1,30 @@
 -- Open constructs: what each becomes of an end that leaves it, and which place it still needs.
 use Rattle.std.specs.Prelude.{ℕ, ◌-◌, Bool, true, false, ◌||◌, ◌==◌, List, [], ◌∷◌, Option, Some, None, nat_lt, min, slice_set, if◌then◌else◌}
-use Rattle.sp_base.specs.declared.kinds.PKind.TheVariants.{SizeLeft, SizeOver}
+use Rattle.sp_base.specs.declared.kinds.PKind.{PKind}
+use Rattle.sp_base.specs.declared.kinds.PKind.TheVariants.{SizeLeft, SizeOver, Turns, Depth, FiberDepth}
 use Rattle.sp_value.specs.Val.{Val, unit, bool}
 use Rattle.sp_running.specs.States.{Error, View, Reading, State, End, Gives, Fine, Failed, Returned, Stopped, Backs, Rejected, Need, Unfinished, Result, ends, on_end, error_at, Instance, instance_of}
 
--- a body that is called: a function, or a body of a hook, and whether that tells if a container goes on
+-- a body that is called: a function; a body of a hook, and whether that tells if a container goes on; or a body of a hook of a unit
+-- that fails
 pub data Called : Type 0 where
   Function : Called
   Hook : (each : Bool) → Called
+  FailingHook : Called
+
+-- how a body of a hook is called from a unit that fails or doesn't
+abbrev pub called_where : (failing : Bool) → Called → Called
+called_where true (Hook false) = FailingHook
+called_where failing called = called
 
 -- What is known of an open construct.
 pub data Scope : Type 0 where
   -- a unit: whether its start is still needed, its instance and start; the unit round it and that one's locals
   InUnit : (keeps : Bool) (instance start : ℕ) (self : ℕ) (locals : List Val) → Scope
+  -- the parts of a unit, from its variables to `%done`: the address of what runs where they fail
+  InParts : (failing : ℕ) → Scope
+  -- a unit that fails, while its `%error` and `%finally` run: the error
+  InFailing : Error → Scope
   -- a body that is called: the unit round it, and the locals outside
   InCall : Called → (self : ℕ) (locals : List Val) → Scope
   -- `&size`: the views outside, and the limit
@@ -36,6 +48,18 @@ is_among n (m ∷ ms) = n == m || is_among n ms
 -- a Short at the limit of the view of a `&max-size` is SizeOver
 abbrev pub over_of : ℕ → Error → Error
 over_of number e = if is_among number e.overs then record e { kind = SizeOver; overs = [] } else e
+
+-- an error that ends the fiber: no hook runs then
+abbrev pub ends_fiber : PKind → Bool
+ends_fiber Turns = true
+ends_fiber Depth = true
+ends_fiber FiberDepth = true
+ends_fiber kind = false
+
+-- what a body of a hook of a failing unit makes of its own error
+abbrev pub dropped_unless : Bool → Error → End
+dropped_unless true e = Failed e
+dropped_unless false e = Fine
 
 abbrev pub put_views : List View → State → State
 put_views vs st = record st { now = record st.now { views = vs } }
@@ -83,11 +107,26 @@ leave (InCall (Hook each) self locals) (Failed e) st = ends (Failed e) (outside 
 leave (InCall (Hook each) self locals) Backs st = ends Backs (outside self locals st)
 leave (InCall (Hook each) self locals) Rejected st = ends Rejected (outside self locals st)
 leave (InCall (Hook each) self locals) how st = ends Unfinished (outside self locals st)
+leave (InCall FailingHook self locals) (Returned v) st = ends Fine (outside self locals st)
+leave (InCall FailingHook self locals) (Failed e) st = ends (dropped_unless (ends_fiber e.kind) e) (outside self locals st)
+leave (InCall FailingHook self locals) Backs st = ends Fine (outside self locals st)
+leave (InCall FailingHook self locals) Rejected st = ends Fine (outside self locals st)
+leave (InCall FailingHook self locals) how st = ends Unfinished (outside self locals st)
 leave (InUnit keeps instance start self locals) Fine st = ends (Gives (unit instance)) (one_less (outside self locals st))
 leave (InUnit keeps instance start self locals) (Failed e) st = ends (Failed e) (one_less (outside self locals st))
 leave (InUnit keeps instance start self locals) Backs st = ends Backs (one_less (outside self locals st))
 leave (InUnit keeps instance start self locals) Rejected st = ends Rejected (one_less (outside self locals st))
 leave (InUnit keeps instance start self locals) how st = ends Unfinished (one_less (outside self locals st))
+leave (InParts failing) Fine st = ends Fine st
+leave (InParts failing) (Failed e) st = ends (Failed e) st
+leave (InParts failing) Backs st = ends Backs st
+leave (InParts failing) Rejected st = ends Rejected st
+leave (InParts failing) how st = ends Unfinished st
+leave (InFailing e) Fine st = ends (Failed e) st
+leave (InFailing e) (Failed x) st = ends (Failed x) st
+leave (InFailing e) Backs st = ends Backs st
+leave (InFailing e) Rejected st = ends Rejected st
+leave (InFailing e) how st = ends Unfinished st
 leave (InSize views limit) (Gives v) st = if st.now.place == limit then ends (Gives v) (put_views views st) else ends (Failed (error_at SizeLeft st)) (put_views views st)
 leave (InSize views limit) Fine st = ends Unfinished (put_views views st)
 leave (InSize views limit) how st = ends how (put_views views st)

@@ -1,5 +1,7 @@
 -- What types say of values: the value with which one begins, the kind of its values, and the plain type to which a cast goes.
 use Rattle.std.specs.Prelude.{ℕ, pos, neg_ℤ, Bool, false, List, [], replicate, slice_get, unwrap_or, if◌then◌else◌}
+use Rattle.sp_numbers.specs.declared.width.Width.{Width}
+use Rattle.sp_numbers.specs.declared.width.Width.TheVariants.{W8, W16, W32, W64}
 use Rattle.sp_value.specs.Val.{Val, void, bool, uint, int, bytes, str, enum, bits, tuple, vector, set, map, place, Vals, no_vals, val, no_entries}
 use Rattle.sp_operators.specs.declared.plain_type.PlainType.{PlainType}
 use Rattle.sp_operators.specs.declared.plain_type.PlainType.TheVariants as plain
@@ -9,6 +11,13 @@ use Rattle.sp_types.specs.declared.words.Word.TheVariants as word_is
 use Rattle.sp_types.specs.declared.words.Maker.{Maker}
 use Rattle.sp_types.specs.declared.words.Maker.TheVariants as maker_is
 use Rattle.sp_types.specs.Types.{Ty, Tys, word, made, none, more}
+
+-- how many bytes an integer has
+abbrev pub width_bytes : Width → ℕ
+width_bytes W8 = 1
+width_bytes W16 = 2
+width_bytes W32 = 4
+width_bytes W64 = 8
 
 -- the number of a literal as a value of its type
 abbrev pub number_value : Ty → Bool → ℕ → Val

@@ -1,0 +1,4 @@
+pub mod Built
+pub mod Finished
+pub mod Laws
+pub mod Rows

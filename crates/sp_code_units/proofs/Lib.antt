@@ -1,0 +1,4 @@
+pub mod Walks
+pub mod Fields
+pub mod Units
+pub mod Kept

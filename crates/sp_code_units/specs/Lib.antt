@@ -1,0 +1,5 @@
+pub mod Parts
+pub mod Fits
+pub mod Laws
+pub mod Keeps
+pub mod Rows

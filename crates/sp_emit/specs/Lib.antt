@@ -1,0 +1,6 @@
+pub mod Kinds
+pub mod Numbered
+pub mod Emitted
+pub mod Emission
+pub mod Rows
+pub mod inside

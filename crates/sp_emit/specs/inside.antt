@@ -1,0 +1,3 @@
+pub mod KindCodes
+pub mod Tables
+pub mod Fields

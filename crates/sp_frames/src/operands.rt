@@ -1,0 +1,104 @@
+// Stacks of values.
+ghost use Rattle.std.specs.Prelude.{◌≡◌, ◌<◌, ◌≤◌, ◌↔◌, ◌∷◌, ◌++◌, [], length, take, drop, reverse, IsTrue, IfOk, OnOk};
+ghost use Rattle.sp_code.specs.Can.{top, below_top};
+
+use sp_base::NoMemory;
+use sp_value::{Value, Values};
+use std::marker::Model;
+
+/// The operands of the body that runs, seen with their top first.
+#[derive(Drop)]
+pub struct Operands {
+    items: Vec<Value>,
+}
+
+impl Model for Operands {
+    ghost use Rattle.std.specs.Prelude.{List, reverse};
+    ghost use Rattle.std.specs.Coded.{codes};
+    ghost use Rattle.sp_value.specs.Val.{Val};
+    ghost use Rattle.sp_value.specs.contracts.value.Value as value_row;
+
+    ghost Value = { List Val };
+
+    ghost coded = { Prim.hlevel (codes, value_row.the_row.coded) };
+
+    ghost view = { λ o. reverse o.items.items };
+}
+
+impl Operands {
+    /// The stack with these values, the last of them on top. Takes no memory.
+    pub fn new(items: Vec<Value>) -> Operands
+        ensures { result ≡ reverse items.items }
+    {
+        Operands { items }
+    }
+
+    /// The values, the top last. Takes no memory.
+    pub fn into_vec(self) -> Vec<Value>
+        ensures { reverse result.items ≡ self }
+    {
+        self.items
+    }
+
+    pub fn is_empty(&self) -> bool
+        ensures { IsTrue result ↔ (self.now ≡ []) }
+    {
+        self.items.is_empty()
+    }
+
+    pub fn push(&mut self, x: Value) -> Result<(), NoMemory>
+        ensures { OnOk result (self.new ≡ x ∷ self.old) }
+    {
+        self.items.push(x)?;
+        Ok(())
+    }
+
+    /// Takes the value on top. Takes no memory.
+    pub fn pop(&mut self) -> Value
+        requires { 0 < length self.old }
+        ensures { self.old ≡ result ∷ self.new }
+    {
+        match self.items.pop() {
+            Some(x) => x,
+            None => unreachable!(),
+        }
+    }
+
+    /// The value on top.
+    pub fn top(&self) -> &Value
+        requires { 0 < length self.now }
+        ensures { result.now ≡ top self.now }
+    {
+        &self.items[self.items.len() - 1]
+    }
+
+    /// The `n` values on top, the lowest first.
+    pub fn on_top(&self, n: usize) -> &[Value]
+        requires { n ≤ length self.now }
+        ensures { result.now ≡ reverse (take n self.now) }
+    {
+        &self.items[self.items.len() - n..]
+    }
+
+    /// Moves the `n` values on top behind those of a list, the lowest first.
+    pub fn move_top(&mut self, n: usize, to: &mut Vec<Value>) -> Result<(), NoMemory>
+        requires { n ≤ length self.old }
+        ensures moved { OnOk result (to.new.items ≡ to.old.items ++ reverse (take n self.old)) }
+        ensures left { OnOk result (self.new ≡ drop n self.old) }
+    {
+        let mut values = self.take_top(n)?;
+        to.append(&mut values)?;
+        Ok(())
+    }
+
+    /// Takes the `n` values on top, the lowest first.
+    pub fn take_top(&mut self, n: usize) -> Result<Vec<Value>, NoMemory>
+        requires { n ≤ length self.old }
+        ensures taken { IfOk result (λ values. values.items ≡ reverse (take n self.old)) }
+        ensures left { OnOk result (self.new ≡ drop n self.old) }
+    {
+        let at = self.items.len() - n;
+        let values = self.items.split_off(at)?;
+        Ok(values)
+    }
+}

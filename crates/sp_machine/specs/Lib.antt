@@ -1,0 +1,6 @@
+pub mod Plain
+pub mod Rows
+pub mod Bodies
+pub mod Methods
+pub mod Safe
+pub mod Ran

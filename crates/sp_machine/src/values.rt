@@ -1,0 +1,150 @@
+// Instructions on values.
+ghost use Rattle.std.specs.Prelude.{◌≡◌, ◌+◌, ◌<◌, ◌^◌, ◌∷◌, [], length, IsTrue, OnOk, slice_get};
+ghost use Rattle.sp_operators.specs.Operands.{takes, takes_one, has_size, is_cast};
+ghost use Rattle.sp_operators.specs.Operators.{binary, unary, cast};
+ghost use Rattle.sp_running.specs.States.{local_of, set_local};
+ghost use Rattle.sp_running.specs.Values.{size_value};
+ghost use Rattle.sp_code.specs.Can.{top, second, below_top};
+ghost use Rattle.sp_code.specs.Machine.{At, put, const_of};
+ghost use Rattle.sp_machine.specs.declared.machine.Mode.TheVariants.{Running};
+ghost use Rattle.sp_machine.specs.Plain.{state_of, plain, Leads};
+
+use crate::machine::Machine;
+use sp_base::NoMemory;
+use sp_code::Program;
+use sp_operators::{PlainType, ValueFault, binary, cast, size, unary};
+use sp_words::{BinaryOp, UnaryOp};
+
+impl Machine {
+    pub(crate) fn constant(&mut self, p: &Program, c: u32) -> Result<(), NoMemory>
+        requires running { self.old.mode ≡ Running }
+        requires within { self.old.pc + 1 < 2 ^ 64 }
+        requires there { c < length p.now.consts }
+        ensures { OnOk result (plain self.new ≡ At (self.old.pc + 1) (const_of p.now.consts c ∷ self.old.operands)
+            self.old.stack (state_of self.old)) }
+    {
+        let value = p.consts.as_slice()[c as usize].copy()?;
+        self.push_next(value)
+    }
+
+    pub(crate) fn load(&mut self, l: u32) -> Result<(), NoMemory>
+        requires running { self.old.mode ≡ Running }
+        requires within { self.old.pc + 1 < 2 ^ 64 }
+        requires there { l < length self.old.locals.items }
+        ensures { OnOk result (plain self.new ≡ At (self.old.pc + 1)
+            (local_of (state_of self.old) l ∷ self.old.operands) self.old.stack (state_of self.old)) }
+    {
+        let value = self.locals[l as usize].copy()?;
+        self.push_next(value)
+    }
+
+    pub(crate) fn store(&mut self, l: u32)
+        requires running { self.old.mode ≡ Running }
+        requires within { self.old.pc + 1 < 2 ^ 64 }
+        requires operand { 0 < length self.old.operands }
+        requires there { l < length self.old.locals.items }
+        ensures { plain self.new ≡ At (self.old.pc + 1) (below_top self.old.operands) self.old.stack
+            (set_local l (top self.old.operands) (state_of self.old)) }
+    {
+        let value = self.operands.pop();
+        self.locals[l as usize] = value;
+        self.pc += 1;
+    }
+
+    pub(crate) fn unary(&mut self, op: UnaryOp) -> Result<(), NoMemory>
+        requires running { self.old.mode ≡ Running }
+        requires within { self.old.pc + 1 < 2 ^ 64 }
+        requires operand { 0 < length self.old.operands }
+        requires taken { IsTrue (takes_one op (top self.old.operands)) }
+        ensures { OnOk result (Leads (plain self.new) (put (unary op (top self.old.operands)) (self.old.pc + 1)
+            (below_top self.old.operands) self.old.stack (state_of self.old))) }
+    {
+        let value = self.operands.pop();
+        match unary(op, &value) {
+            Ok(found) => self.push_next(found),
+            Err(ValueFault::Run(kind)) => {
+                self.fails(kind);
+                Ok(())
+            }
+            Err(ValueFault::NoMemory) => Err(NoMemory),
+        }
+    }
+
+    pub(crate) fn binary(&mut self, op: BinaryOp) -> Result<(), NoMemory>
+        requires running { self.old.mode ≡ Running }
+        requires within { self.old.pc + 1 < 2 ^ 64 }
+        requires operands { 1 < length self.old.operands }
+        requires taken { IsTrue (takes op (second self.old.operands) (top self.old.operands)) }
+        ensures { OnOk result (Leads (plain self.new) (put
+            (binary op (second self.old.operands) (top self.old.operands)) (self.old.pc + 1)
+            (below_top (below_top self.old.operands)) self.old.stack (state_of self.old))) }
+    {
+        let right = self.operands.pop();
+        let left = self.operands.pop();
+        match binary(op, &left, &right) {
+            Ok(found) => self.push_next(found),
+            Err(ValueFault::Run(kind)) => {
+                self.fails(kind);
+                Ok(())
+            }
+            Err(ValueFault::NoMemory) => Err(NoMemory),
+        }
+    }
+
+    pub(crate) fn cast(&mut self, to: PlainType) -> Result<(), NoMemory>
+        requires running { self.old.mode ≡ Running }
+        requires within { self.old.pc + 1 < 2 ^ 64 }
+        requires operand { 0 < length self.old.operands }
+        requires taken { IsTrue (is_cast (top self.old.operands) to) }
+        ensures { OnOk result (Leads (plain self.new) (put (cast (top self.old.operands) to) (self.old.pc + 1)
+            (below_top self.old.operands) self.old.stack (state_of self.old))) }
+    {
+        let value = self.operands.pop();
+        match cast(&value, &to) {
+            Ok(found) => self.push_next(found),
+            Err(ValueFault::Run(kind)) => {
+                self.fails(kind);
+                Ok(())
+            }
+            Err(ValueFault::NoMemory) => Err(NoMemory),
+        }
+    }
+
+    pub(crate) fn size(&mut self) -> Result<(), NoMemory>
+        requires running { self.old.mode ≡ Running }
+        requires within { self.old.pc + 1 < 2 ^ 64 }
+        requires operand { 0 < length self.old.operands }
+        requires sized { IsTrue (has_size (top self.old.operands)) }
+        ensures { OnOk result (plain self.new ≡ At (self.old.pc + 1)
+            (size_value (top self.old.operands) ∷ below_top self.old.operands) self.old.stack (state_of self.old)) }
+    {
+        let value = self.operands.pop();
+        self.push_next(size(&value))
+    }
+
+    pub(crate) fn drop_top(&mut self)
+        requires running { self.old.mode ≡ Running }
+        requires within { self.old.pc + 1 < 2 ^ 64 }
+        requires operand { 0 < length self.old.operands }
+        ensures { plain self.new ≡ At (self.old.pc + 1) (below_top self.old.operands) self.old.stack (state_of self.old) }
+    {
+        let _value = self.operands.pop();
+        self.pc += 1;
+    }
+
+    /// Copies the two values on top.
+    pub(crate) fn duplicate(&mut self) -> Result<(), NoMemory>
+        requires running { self.old.mode ≡ Running }
+        requires within { self.old.pc + 1 < 2 ^ 64 }
+        requires operands { 1 < length self.old.operands }
+        ensures { OnOk result (plain self.new ≡ At (self.old.pc + 1)
+            (top self.old.operands ∷ second self.old.operands ∷ self.old.operands) self.old.stack (state_of self.old)) }
+    {
+        let key = self.operands.pop();
+        let again = self.operands.top().copy()?;
+        let key_again = key.copy()?;
+        self.operands.push(key)?;
+        self.operands.push(again)?;
+        self.push_next(key_again)
+    }
+}

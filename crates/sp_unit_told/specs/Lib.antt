@@ -1,0 +1,4 @@
+pub mod Told
+pub mod Laws
+pub mod Keeps
+pub mod Rows
