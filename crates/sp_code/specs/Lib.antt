@@ -6,3 +6,4 @@ pub mod Can
 pub mod Runs
 pub mod Programs
 pub mod Turns
+pub mod Rows

@@ -1,5 +1,5 @@
 -- A program as plain data, and its shapes.
-use Rattle.std.specs.Prelude.{ℕ, List, [], ◌∷◌, ◌++◌, length, slice_get, unwrap_or}
+use Rattle.std.specs.Prelude.{ℕ, zero, suc, List, [], ◌∷◌, ◌++◌, length, slice_get, unwrap_or}
 use Rattle.std.proofs.Common.{Global}
 use Rattle.std.specs.declared.vec.Vec.{Vec}
 use Rattle.sp_base.specs.declared.places.Limits.{Limits}
@@ -12,8 +12,10 @@ use Rattle.sp_code.specs.declared.program.BodyCode.{BodyCode}
 use Rattle.sp_code.specs.declared.program.UnitCode.{UnitCode}
 use Rattle.sp_code.specs.declared.program.KindRow.{KindRow}
 use Rattle.sp_code.specs.declared.program.KindRow.TheVariants as row_is
+use Rattle.sp_code.specs.declared.program.StackRow.{StackRow}
+use Rattle.sp_code.specs.declared.program.Opened.{Opened}
+use Rattle.sp_code.specs.declared.program.Opened.TheVariants as opened_is
 use Rattle.sp_code.specs.declared.program.OpenRow.{OpenRow}
-use Rattle.sp_code.specs.declared.program.OpenRow.TheVariants as open_is
 use Rattle.sp_code.specs.declared.program.RoundRow.{RoundRow}
 use Rattle.sp_code.specs.declared.program.RoundRow.TheVariants as round_is
 use Rattle.sp_code.specs.declared.program.ShapeRow.{ShapeRow}
@@ -95,10 +97,28 @@ abbrev pub kinds_from : List Kind → List KindRow → List Kind
 kinds_from ks [] = ks
 kinds_from ks (r ∷ rs) = kinds_from (ks ++ kind_of_row ks r ∷ []) rs
 
-abbrev pub opens_of : List Kind → List OpenRow → List Opens
-opens_of ks [] = []
-opens_of ks (open_is.View ∷ os) = AView ∷ opens_of ks os
-opens_of ks (open_is.Try to ns ∷ os) = ATry to (kinds_at ks ns.items) ∷ opens_of ks os
+-- a row of numbers by its own, where these are the rows so far, counted from 1
+abbrev pub stack_at : List (List ℕ) → ℕ → List ℕ
+stack_at ss zero = []
+stack_at ss (suc n) = unwrap_or (slice_get ss n) []
+
+-- the rows of a table; each may stand on one of those before it
+abbrev pub stacks_from : List (List ℕ) → List StackRow → List (List ℕ)
+stacks_from ss [] = ss
+stacks_from ss (r ∷ rs) = stacks_from (ss ++ (r.top ∷ stack_at ss r.below) ∷ []) rs
+
+abbrev pub opens_in : List Kind → List (List ℕ) → Opened → Opens
+opens_in ks ss opened_is.View = AView
+opens_in ks ss (opened_is.Try to n) = ATry to (kinds_at ks (stack_at ss n))
+
+-- a row of open constructs, counted likewise
+abbrev pub opens_at : List (List Opens) → ℕ → List Opens
+opens_at os zero = []
+opens_at os (suc n) = unwrap_or (slice_get os n) []
+
+abbrev pub opens_from : List Kind → List (List ℕ) → List (List Opens) → List OpenRow → List (List Opens)
+opens_from ks ss os [] = os
+opens_from ks ss os (r ∷ rs) = opens_from ks ss (os ++ (opens_in ks ss r.opened ∷ opens_at os r.around) ∷ []) rs
 
 abbrev pub round_of : List Kind → RoundRow → Round
 round_of ks round_is.Unit = OfUnit
@@ -107,12 +127,13 @@ round_of ks round_is.Failing = OfFailing
 round_of ks (round_is.Function n) = OfFunction (kind_at ks n)
 round_of ks (round_is.Hook each) = OfHook each
 
-abbrev pub shape_of : List Kind → ShapeRow → Shape
-shape_of ks s = record { unit = s.unit; round = round_of ks s.round; locals = kinds_at ks s.locals.items; operands = kinds_at ks s.operands.items; opens = opens_of ks s.opens.items }
+-- a shape by these kinds, these rows of them, and these rows of what is open
+abbrev pub shape_of : List Kind → List (List ℕ) → List (List Opens) → ShapeRow → Shape
+shape_of ks ss os s = record { unit = s.unit; round = round_of ks s.round; locals = kinds_at ks (stack_at ss s.locals); operands = kinds_at ks (stack_at ss s.operands); opens = opens_at os s.opens }
 
-abbrev pub shapes_at : List Kind → List ShapeRow → List Shape
-shapes_at ks [] = []
-shapes_at ks (s ∷ ss) = shape_of ks s ∷ shapes_at ks ss
+abbrev pub shapes_at : List Kind → List (List ℕ) → List (List Opens) → List ShapeRow → List Shape
+shapes_at ks ss os [] = []
+shapes_at ks ss os (s ∷ rows) = shape_of ks ss os s ∷ shapes_at ks ss os rows
 
 abbrev pub unit_kinds : List Kind → List UnitCode → List shapes_are.UnitKinds
 unit_kinds ks [] = []
@@ -122,11 +143,11 @@ abbrev pub body_kinds : List Kind → List (Vec ℕ Global) → List BodyKinds
 body_kinds ks [] = []
 body_kinds ks (b ∷ bs) = (record { locals = kinds_at ks b.items }) ∷ body_kinds ks bs
 
-abbrev pub shapes_by : List Kind → Program → Shapes
-shapes_by ks p = record { at = shapes_at ks p.shapes.at.items; units = unit_kinds ks p.units.items; bodies = body_kinds ks p.shapes.bodies.items }
+abbrev pub shapes_by : List Kind → List (List ℕ) → Program → Shapes
+shapes_by ks ss p = record { at = shapes_at ks ss (opens_from ks ss [] p.shapes.opens.items) p.shapes.at.items; units = unit_kinds ks p.units.items; bodies = body_kinds ks p.shapes.bodies.items }
 
 abbrev pub shapes_of : Program → Shapes
-shapes_of p = shapes_by (kinds_from [] p.shapes.kinds.items) p
+shapes_of p = shapes_by (kinds_from [] p.shapes.kinds.items) (stacks_from [] p.shapes.stacks.items) p
 
 -- Sound programs, whatever their limits: each instruction keeps to the shapes, and each cycle counts a turn.
 abbrev pub IsSoundProgram : Program → Type 0

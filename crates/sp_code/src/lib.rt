@@ -7,6 +7,6 @@ mod program;
 
 pub use instr::{Instr, IntForm};
 pub use program::{
-    BodyCode, BodyOf, KindRow, Labels, OpenRow, Program, Ranges, RoundRow, ShapeRow, Shapes,
-    UnitCode, UnitKinds,
+    BodyCode, BodyOf, KindRow, Labels, OpenRow, Opened, Program, Ranges, RoundRow, ShapeRow,
+    Shapes, StackRow, UnitCode, UnitKinds,
 };

@@ -75,13 +75,32 @@ pub enum KindRow {
     Map(u32, u32),
 }
 
-/// What is open in a body.
-#[derive(Drop)]
-pub enum OpenRow {
+/// A row of numbers of kinds: one on top of those of an earlier row. Rows are counted from 1; the
+/// number 0 is that of no numbers.
+#[derive(Clone, Copy)]
+pub struct StackRow {
+    /// The number of the kind on top.
+    pub top: u32,
+    /// The row below it.
+    pub below: u32,
+}
+
+/// A construct that is open in a body.
+#[derive(Clone, Copy)]
+pub enum Opened {
     View,
-    /// A `&try` field: the address at which a step back goes on, and the kinds of the operands
-    /// there.
-    Try(u32, Vec<u32>),
+    /// A `&try` field: the address at which a step back goes on, and the row of the kinds of the
+    /// operands there.
+    Try(u32, u32),
+}
+
+/// A row of open constructs: one inside those of an earlier row. Rows are counted from 1; the number
+/// 0 is that of none.
+#[derive(Clone, Copy)]
+pub struct OpenRow {
+    pub opened: Opened,
+    /// The row of those round it.
+    pub around: u32,
 }
 
 /// Of what a shape's body is.
@@ -98,16 +117,16 @@ pub enum RoundRow {
 }
 
 /// What stands before an instruction.
-#[derive(Drop)]
+#[derive(Clone, Copy)]
 pub struct ShapeRow {
     /// The unit at hand, unless it isn't known.
     pub unit: Option<u32>,
     pub round: RoundRow,
-    /// The kinds of the locals, and of the operands, the top first.
-    pub locals: Vec<u32>,
-    pub operands: Vec<u32>,
-    /// What is open, the innermost first.
-    pub opens: Vec<OpenRow>,
+    /// The rows of the kinds of the locals, and of the operands, the top first.
+    pub locals: u32,
+    pub operands: u32,
+    /// The row of what is open, the innermost first.
+    pub opens: u32,
 }
 
 /// The labels of an enum: their numbers, and how they are told.
@@ -126,6 +145,9 @@ pub struct Ranges {
 #[derive(Drop)]
 pub struct Shapes {
     pub kinds: Vec<KindRow>,
+    /// The rows of kinds that stand together, and those of what is open. Shapes share them.
+    pub stacks: Vec<StackRow>,
+    pub opens: Vec<OpenRow>,
     /// By address.
     pub at: Vec<ShapeRow>,
     /// The kinds of the locals of each body.

@@ -6,28 +6,25 @@ use Rattle.sp_value.specs.Val.{Val}
 use Rattle.sp_methods.specs.Kinds.{Kind}
 use Rattle.sp_code.specs.declared.instr.Instr.{Instr}
 use Rattle.sp_code.specs.declared.instr.Instr.TheVariants.{Const}
-use Rattle.sp_code.specs.declared.program.OpenRow.{OpenRow}
-use Rattle.sp_code.specs.declared.program.OpenRow.TheVariants as open_is
 use Rattle.sp_code.specs.declared.program.ShapeRow.{ShapeRow}
 use Rattle.sp_code.specs.Machine.{Plain}
-use Rattle.sp_code.specs.Programs.{kinds_at, round_of, opens_of, shape_of, shapes_at}
-use Rattle.sp_code.specs.Shapes.{Shape, Opens, AView, ATry}
+use Rattle.sp_code.specs.Programs.{kinds_at, round_of, stack_at, opens_at, shape_of, shapes_at}
+use Rattle.sp_code.specs.Shapes.{Shape, Opens}
 use Rattle.sp_lower_expr.specs.Marked.{IsWanted, HasAt, Shows}
 use Rattle.sp_emit.specs.declared.emitter.Step.{Step}
-use Rattle.sp_emit.specs.Numbered.{RowParts, open_parts, row_parts, open_in, shape_in}
+use Rattle.sp_emit.specs.Numbered.{Numbered, row_parts, shape_in}
 use Rattle.sp_emit.specs.Emitted.{marked, value_at, ConstantBelow}
 use Rattle.sp_emit.specs.inside.Fields.{step_instr, step_before, marks_in, IsStep, StandsOn}
 use Rattle.sp_emit.proofs.Steps.{before_marked, marks_long}
 
-opens_by : (ks : List Kind) (os : List OpenRow) → opens_of ks os ≡ map (open_in ks) (map open_parts os)
-opens_by ks [] = refl
-opens_by ks (open_is.View ∷ os) = ap (λ (l : List Opens). AView ∷ l) (opens_by ks os)
-opens_by ks (open_is.Try to ns ∷ os) = ap (λ (l : List Opens). ATry to (kinds_at ks ns.items) ∷ l) (opens_by ks os)
+none_open : (n : ℕ) → opens_at [] n ≡ []
+none_open zero = refl
+none_open (suc n) = refl
 
-shape_by : (ks : List Kind) (s : ShapeRow) → shape_of ks s ≡ shape_in ks (row_parts s)
-shape_by ks s =
-    let P : List Opens → Shape = λ os. record { unit = s.unit; round = round_of ks s.round; locals = kinds_at ks s.locals.items; operands = kinds_at ks s.operands.items; opens = os } in
-    ap P (opens_by ks s.opens.items)
+shape_by : (ks : List Kind) (ss : List (List ℕ)) (s : ShapeRow) → shape_of ks ss [] s ≡ shape_in ks (row_parts ss s)
+shape_by ks ss s =
+    let P : List Opens → Shape = λ os. record { unit = s.unit; round = round_of ks s.round; locals = kinds_at ks (stack_at ss s.locals); operands = kinds_at ks (stack_at ss s.operands); opens = os } in
+    ap P (none_open s.opens)
 
 next_to : {A : Type 0} (xs : List A) (y : A) (ys : List A) → slice_get (xs ++ y ∷ ys) (length xs) ≡ Some y
 next_to [] y ys = refl
@@ -45,37 +42,41 @@ wanted : (vs : List Val) (s : Shape) (i : Instr) → ConstantBelow (length vs) i
 wanted vs s (Const c) h = (c, refl, there vs c h)
 wanted vs s _ h = refl
 
-shows_behind : (ks : List Kind) (vs : List Val) (front : List Shape) (xs : List Step) → Shows (front ++ shapes_at ks (map step_before xs)) (length front) (marks_in ks vs xs)
-shows_behind ks vs front [] = tt
-shows_behind ks vs front (x ∷ xs) =
-    let s = shape_of ks x.before in
-    let rest = shapes_at ks (map step_before xs) in
-    let others = subst (λ (l : List Shape). Shows l (length (front ++ s ∷ [])) (marks_in ks vs xs)) (append_assoc front (s ∷ []) rest) (shows_behind ks vs (front ++ s ∷ []) xs) in (
-      next_to front s rest ∙ ap (λ (t : Shape). Some t) (shape_by ks x.before ∙ sym (before_marked vs (shape_in ks (row_parts x.before)) x.instr)),
-      subst (λ (n : ℕ). Shows (front ++ s ∷ rest) n (marks_in ks vs xs)) (one_longer front s) others,
+shows_behind : (ks : List Kind) (ss : List (List ℕ)) (vs : List Val) (front : List Shape) (xs : List Step) → Shows (front ++ shapes_at ks ss [] (map step_before xs)) (length front) (marks_in ks ss vs xs)
+shows_behind ks ss vs front [] = tt
+shows_behind ks ss vs front (x ∷ xs) =
+    let s = shape_of ks ss [] x.before in
+    let rest = shapes_at ks ss [] (map step_before xs) in
+    let others = subst (λ (l : List Shape). Shows l (length (front ++ s ∷ [])) (marks_in ks ss vs xs)) (append_assoc front (s ∷ []) rest) (shows_behind ks ss vs (front ++ s ∷ []) xs) in (
+      next_to front s rest ∙ ap (λ (t : Shape). Some t) (shape_by ks ss x.before ∙ sym (before_marked vs (shape_in ks (row_parts ss x.before)) x.instr)),
+      subst (λ (n : ℕ). Shows (front ++ s ∷ rest) n (marks_in ks ss vs xs)) (one_longer front s) others,
     )
 
-has_behind : (p : Plain) (ks : List Kind) (front : List Instr) (xs : List Step) → p.code ≡ front ++ map step_instr xs → AllByRecursion (IsStep (length ks) (length p.consts)) xs → HasAt p (length front) (marks_in ks p.consts xs)
-has_behind p ks front [] is all = tt
-has_behind p ks front (x ∷ xs) is all =
+has_behind : (p : Plain) (ks : List Kind) (ss : List (List ℕ)) (front : List Instr) (xs : List Step) → p.code ≡ front ++ map step_instr xs → AllByRecursion (IsStep (length ks) ss (length p.consts)) xs → HasAt p (length front) (marks_in ks ss p.consts xs)
+has_behind p ks ss front [] is all = tt
+has_behind p ks ss front (x ∷ xs) is all =
     let rest = map step_instr xs in
-    let others = has_behind p ks (front ++ x.instr ∷ []) xs (is ∙ sym (append_assoc front (x.instr ∷ []) rest)) all.1 in (
+    let others = has_behind p ks ss (front ++ x.instr ∷ []) xs (is ∙ sym (append_assoc front (x.instr ∷ []) rest)) all.1 in (
       x.instr,
       ap (λ (l : List Instr). slice_get l (length front)) is ∙ next_to front x.instr rest,
-      wanted p.consts (shape_in ks (row_parts x.before)) x.instr all.0.instr,
-      subst (λ (n : ℕ). HasAt p n (marks_in ks p.consts xs)) (one_longer front x.instr) others,
+      wanted p.consts (shape_in ks (row_parts ss x.before)) x.instr all.0.instr,
+      subst (λ (n : ℕ). HasAt p n (marks_in ks ss p.consts xs)) (one_longer front x.instr) others,
     )
 
 map_long : {A B : Type 0} (f : A → B) (xs : List A) → length (map f xs) ≡ length xs
 map_long f [] = refl
 map_long f (x ∷ xs) = ap suc (map_long f xs)
 
-pub finished : (ks : List Kind) (vs : List Val) (xs : List Step) (s : RowParts) (code : List Instr) (at : List ShapeRow) → StandsOn ks vs xs s → code ≡ map step_instr xs → at ≡ map step_before xs
-    → (length code ≡ length (marks_in ks vs xs)) × ((p : Plain) → p.code ≡ code → p.consts ≡ vs → HasAt p 0 (marks_in ks vs xs)) × Shows (shapes_at ks at) 0 (marks_in ks vs xs)
-finished ks vs xs s code at h is_code is_at = (
-  ap length is_code ∙ map_long step_instr xs ∙ sym (marks_long ks vs xs),
+pub finished : (ks : List Kind) (vs : List Val) (xs : List Step) (m : Numbered) (code : List Instr) (at : List ShapeRow) → StandsOn ks vs xs m → code ≡ map step_instr xs → at ≡ map step_before xs
+    → (length code ≡ length (marks_in ks m.stacks vs xs))
+    × ((p : Plain) → p.code ≡ code → p.consts ≡ vs → HasAt p 0 (marks_in ks m.stacks vs xs))
+    × ((ss : List (List ℕ)) → ss ≡ m.stacks → Shows (shapes_at ks ss [] at) 0 (marks_in ks m.stacks vs xs))
+finished ks vs xs m code at h is_code is_at = (
+  ap length is_code ∙ map_long step_instr xs ∙ sym (marks_long ks m.stacks vs xs),
   λ p is consts.
-      subst (λ (ws : List Val). HasAt p 0 (marks_in ks ws xs)) consts
-      (has_behind p ks [] xs (is ∙ is_code) (subst (λ (ws : List Val). AllByRecursion (IsStep (length ks) (length ws)) xs) (sym consts) h.steps)),
-  subst (λ (l : List ShapeRow). Shows (shapes_at ks l) 0 (marks_in ks vs xs)) (sym is_at) (shows_behind ks vs [] xs),
+      subst (λ (ws : List Val). HasAt p 0 (marks_in ks m.stacks ws xs)) consts
+      (has_behind p ks m.stacks [] xs (is ∙ is_code) (subst (λ (ws : List Val). AllByRecursion (IsStep (length ks) m.stacks (length ws)) xs) (sym consts) h.steps)),
+  λ ss same.
+      subst (λ (ts : List (List ℕ)). Shows (shapes_at ks ts [] at) 0 (marks_in ks m.stacks vs xs)) (sym same)
+      (subst (λ (l : List ShapeRow). Shows (shapes_at ks m.stacks [] l) 0 (marks_in ks m.stacks vs xs)) (sym is_at) (shows_behind ks m.stacks vs [] xs)),
 )

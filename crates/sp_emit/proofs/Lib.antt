@@ -1,4 +1,6 @@
 pub mod Growing
+pub mod Listed
+pub mod Moving
 pub mod Ranges
 pub mod Parts
 pub mod Steps

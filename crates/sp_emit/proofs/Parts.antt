@@ -1,5 +1,5 @@
 -- The numbers of the kinds of parts, and of what is made of them.
-use Rattle.std.proofs.Common.{◌≡◌, ◌≤◌, ◌<◌, ℕ, zero, suc, List, [], ◌∷◌, ◌++◌, length, get_or, take, map, refl, sym, ap, subst, ◌∙◌, arith, Result as Answer, Ok, Err, IfOk}
+use Rattle.std.proofs.Common.{◌≡◌, ◌≤◌, ◌<◌, ℕ, zero, suc, List, [], ◌∷◌, ◌++◌, length, get_or, take, map, refl, sym, ap, subst, ◌∙◌, arith, Result as Answer, Ok, Err, IfOk, Option, Some, None, IfSome, IfNone}
 use Rattle.sp_base.specs.declared.bytes.NoMemory.{NoMemory}
 use Rattle.std.specs.List.{AllByRecursion}
 use Rattle.sp_methods.specs.Kinds.{Kind, Void, VectorOf, SetOf, MapOf, kinds_of}
@@ -9,6 +9,7 @@ use Rattle.sp_types.specs.declared.words.Maker.TheVariants as maker_is
 use Rattle.sp_running.specs.Types.{first_of, behind_first, kind_of_made, kind_of_type, kinds_of_types}
 use Rattle.sp_code.specs.Programs.{kind_at, kinds_at}
 use Rattle.sp_emit.specs.Kinds.{Grows, IsNumberOf}
+use Rattle.sp_emit.specs.Numbered.{IsAt}
 use Rattle.sp_emit.proofs.Growing.{kinds_before, grows_long, below_longer}
 
 -- a part by its place
@@ -17,10 +18,23 @@ part_number ks [] i lt h = absurd (let z : ⊥ = omega (arith, lt) in z)
 part_number ks (n ∷ ns) zero lt h = record { within = h.0; is = refl }
 part_number ks (n ∷ ns) (suc i) lt h = part_number ks ns i (omega (arith, lt)) h.1
 
+pub part_read : (ks : List Kind) (ns : List ℕ) (i n d : ℕ) → i < length ns → AllByRecursion (λ m. m < length ks) ns → n ≡ get_or ns i d → IsNumberOf ks (kind_at (kinds_at ks ns) i) n
+part_read ks [] i n d lt h is = absurd (let z : ⊥ = omega (arith, lt) in z)
+part_read ks (m ∷ ns) zero n d lt h is = subst (λ k. IsNumberOf ks (kind_at ks m) k) (sym is) (record { within = h.0; is = refl })
+part_read ks (m ∷ ns) (suc i) n d lt h is = part_read ks ns i n d (omega (arith, lt)) h.1 is
+
 pub no_part : (ks : List Kind) (ns : List ℕ) (i : ℕ) → length ns ≤ i → kind_at (kinds_at ks ns) i ≡ Void
 no_part ks [] i h = refl
 no_part ks (n ∷ ns) zero h = absurd (let z : ⊥ = omega (arith, h) in z)
 no_part ks (n ∷ ns) (suc i) h = no_part ks ns i (omega (arith, h))
+
+pub part_at : (ks : List Kind) (ns : List ℕ) (i : ℕ) (a : Option ℕ) → AllByRecursion (λ m. m < length ks) ns → IfSome a (IsAt ns i) → IfSome a (IsNumberOf ks (kind_at (kinds_at ks ns) i))
+part_at ks ns i None h at_it = tt
+part_at ks ns i (Some n) h at_it = part_read ks ns i n 0 at_it.within h at_it.is
+
+pub no_part_at : (ks : List Kind) (ns : List ℕ) (i : ℕ) (a : Option ℕ) → IfNone a (length ns ≤ i) → IfNone a (kind_at (kinds_at ks ns) i ≡ Void)
+no_part_at ks ns i None h = no_part ks ns i h
+no_part_at ks ns i (Some n) h = tt
 
 pub first_part : (ranges : List ℕ) (ks : List Kind) → first_of ranges (kinds_of ks) ≡ kind_at ks 0
 first_part ranges [] = refl

@@ -1,4 +1,5 @@
 pub mod Kinds
+pub mod Stacks
 pub mod Numbered
 pub mod Emitted
 pub mod Emission

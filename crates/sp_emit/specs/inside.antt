@@ -1,3 +1,4 @@
 pub mod KindCodes
 pub mod Tables
+pub mod Standing
 pub mod Fields

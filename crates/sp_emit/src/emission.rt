@@ -4,16 +4,18 @@ ghost use Rattle.sp_emit.specs.inside.Fields.{step_instr, step_before};
 
 use crate::emitter::Step;
 use sp_base::NoMemory;
-use sp_code::{Instr, KindRow, ShapeRow};
+use sp_code::{Instr, KindRow, OpenRow, ShapeRow, StackRow};
 use sp_value::Values;
 use std::alloc::Global;
 
-/// Code, its constants, the table of kinds, and the shapes by address.
+/// Code, its constants, the table of kinds, the rows of kinds and of what is open, and the shapes by address.
 #[derive(Drop)]
 pub struct Emission {
     pub code: Vec<Instr>,
     pub consts: Values,
     pub kinds: Vec<KindRow>,
+    pub stacks: Vec<StackRow>,
+    pub opens: Vec<OpenRow>,
     pub at: Vec<ShapeRow>,
 }
 

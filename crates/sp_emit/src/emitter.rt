@@ -1,6 +1,6 @@
 // Programs as they grow.
 use crate::emission::{Emission, apart};
-use crate::here::{Here, row_of};
+use crate::here::Here;
 use crate::kinds::{KindTable, number};
 use sp_base::NoMemory;
 use sp_code::{Instr, KindRow, RoundRow, ShapeRow};
@@ -45,8 +45,9 @@ impl Model for Emitter {
 }
 
 impl Emitter {
-    ghost use Rattle.std.specs.Prelude.{◌≡◌, ◌<◌, [], ◌∷◌, length, IfOk, OnOk};
+    ghost use Rattle.std.specs.Prelude.{◌≡◌, ◌<◌, [], ◌∷◌, length, IfOk, OnOk, IfSome, IfNone};
     ghost use Rattle.std.specs.List.{AllByRecursion};
+    ghost use Rattle.sp_methods.specs.Kinds.{Void};
     ghost use Rattle.sp_running.specs.Types.{kind_of_type};
     ghost use Rattle.sp_bodies.specs.Globals.{range_counts};
     ghost use Rattle.sp_code.specs.Programs.{kind_at, kind_of_row, kinds_at, round_of};
@@ -65,13 +66,7 @@ impl Emitter {
             steps: Vec::new(alloc),
             consts: Vec::new(alloc),
             kinds: KindTable::new(alloc),
-            here: Here {
-                unit: None,
-                round: RoundRow::Unit,
-                locals: Vec::new(alloc),
-                operands: Vec::new(alloc),
-                opens: Vec::new(alloc),
-            },
+            here: Here::new(alloc),
         }
     }
 
@@ -93,7 +88,7 @@ impl Emitter {
         ensures { OnOk result (Adds self.old self.new (mark self.old.now instr ∷ [])
             self.old.now) }
     {
-        let before = row_of(*self.steps.allocator(), &self.here)?;
+        let before = self.here.row()?;
         self.steps.push(Step { before, instr })?;
         Ok(())
     }
@@ -103,8 +98,8 @@ impl Emitter {
         ensures { OnOk result (Adds self.old self.new (constant self.old.now value ∷ [])
             self.old.now) }
     {
-        let before = row_of(*self.steps.allocator(), &self.here)?;
         let instr = Instr::Const(number(self.consts.len())?);
+        let before = self.here.row()?;
         self.consts.push(value)?;
         self.steps.push(Step { before, instr })?;
         Ok(())
@@ -145,29 +140,37 @@ impl Emitter {
         ensures { OnOk result (TurnsTo self.old self.new (push (kind_at self.old.kinds n)
             self.old.now)) }
     {
-        self.here.operands.push(n)?;
+        self.here.push(n)?;
         Ok(())
+    }
+
+    /// The number of the kind of a local, where there is such a local.
+    pub(crate) fn local_kind(&self, l: u32) -> Option<u32>
+        ensures some { IfSome result (IsNumberOf self.now.kinds (kind_at self.now.now.locals l)) }
+        ensures none { IfNone result (kind_at self.now.now.locals l ≡ Void) }
+    {
+        self.here.local(l)
     }
 
     /// The last operand is gone.
     pub fn pop(&mut self)
         ensures { TurnsTo self.old self.new (popped self.old.now) }
     {
-        let _ = self.here.operands.pop();
+        self.here.pop();
     }
 
     /// How many operands there are.
     pub fn depth(&self) -> usize
         ensures { result ≡ length self.now.now.operands }
     {
-        self.here.operands.len()
+        self.here.depth()
     }
 
     /// Only so many operands are left.
     pub fn lower(&mut self, depth: usize)
         ensures { TurnsTo self.old self.new (lowered depth self.old.now) }
     {
-        self.here.operands.truncate(depth);
+        self.here.lower(depth);
     }
 
     /// The shape at the begin of a body, whose locals are of the kinds with these numbers.
@@ -177,14 +180,7 @@ impl Emitter {
         ensures { TurnsTo self.old self.new (body_shape unit (round_of self.old.kinds round)
             (kinds_at self.old.kinds locals.items)) }
     {
-        let alloc = *self.steps.allocator();
-        self.here = Here {
-            unit,
-            round,
-            locals,
-            operands: Vec::new(alloc),
-            opens: Vec::new(alloc),
-        };
+        self.here.begin(unit, round, locals);
     }
 
     /// What was emitted, as parts of a program.
@@ -196,13 +192,15 @@ impl Emitter {
             steps,
             consts,
             kinds,
-            here: _,
+            here,
         } = self;
         let (code, at) = apart(alloc, steps)?;
         Ok(Emission {
             code,
             consts: Values::new(consts),
             kinds: kinds.into_rows(),
+            stacks: here.into_rows(),
+            opens: Vec::new(alloc),
             at,
         })
     }

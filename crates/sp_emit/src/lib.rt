@@ -6,6 +6,7 @@ mod emitter;
 mod here;
 mod kinds;
 mod operands;
+mod stacks;
 mod types;
 
 pub use emission::Emission;

@@ -2,7 +2,7 @@
 ghost use Rattle.std.specs.Prelude.{◌≡◌, [], ◌∷◌, length, OnOk};
 ghost use Rattle.sp_running.specs.Types.{kind_of_type};
 ghost use Rattle.sp_bodies.specs.Globals.{range_counts};
-ghost use Rattle.sp_code.specs.Programs.{kind_of_row};
+ghost use Rattle.sp_code.specs.Programs.{kind_at, kind_of_row};
 ghost use Rattle.sp_code.specs.Shapes.{push};
 ghost use Rattle.sp_lower_expr.specs.Marked.{mark};
 ghost use Rattle.sp_emit.specs.Kinds.{NamesBelow};
@@ -32,6 +32,17 @@ impl Emitter {
     {
         let n = self.row(row)?;
         self.push(n)
+    }
+
+    /// One more operand, of the kind of a local, or void where there is no such local.
+    pub fn push_local(&mut self, l: u32) -> Result<(), NoMemory>
+        ensures { OnOk result (TurnsTo self.old self.new (push (kind_at self.old.now.locals l)
+            self.old.now)) }
+    {
+        match self.local_kind(l) {
+            Some(n) => self.push(n),
+            None => self.push_row(KindRow::Void),
+        }
     }
 
     /// One more instruction, behind which the last operand is gone.

@@ -25,7 +25,7 @@ pub struct Around<'a> {
 }
 
 /// A sum as a number. There is no memory for more than a number can tell.
-pub(crate) fn sum(a: u32, b: u32) -> Result<u32, NoMemory>
+pub fn sum(a: u32, b: u32) -> Result<u32, NoMemory>
     ensures { IfOk result (λ n. n ≡ a + b) }
 {
     match a.checked_add(b) {
@@ -36,7 +36,7 @@ pub(crate) fn sum(a: u32, b: u32) -> Result<u32, NoMemory>
 
 impl Around<'_> {
     /// The bitfields of the list.
-    pub(crate) fn bitfields(&self) -> &[Bitfield]
+    pub fn bitfields(&self) -> &[Bitfield]
         ensures { result.now ≡ self.now.list.now.bitfields }
     {
         self.list.bitfields.as_slice()

@@ -79,9 +79,9 @@ pub fn key(
     ensures { OnOk result (AddsKey around.now out.old out.new owner target.now instr) }
 {
     match target.level() {
-        ExprLevel::Two(_, a, b) => {
+        ExprLevel::Two(_, a, k) => {
             load(out, around, owner, a)?;
-            expr(out, around, b)?;
+            expr(out, around, k)?;
             out.emit_last(instr)?;
             store(out, around, owner, a)
         }

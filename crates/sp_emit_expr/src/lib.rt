@@ -12,7 +12,11 @@ mod rows;
 mod two;
 mod values;
 
-pub use around::{Around, Places};
+pub use around::{Around, Places, sum};
 pub use changes::{key, put, update};
 pub use nodes::{expr, exprs, load, store};
+pub use operands::{push_type, push_value};
 pub use places::slot_local;
+pub use rows::{Row, first_and_rest, row_of};
+pub use two::as_bool;
+pub use values::zero_value;

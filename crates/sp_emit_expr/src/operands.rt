@@ -13,7 +13,7 @@ use sp_typed::Expr;
 use sp_types::Type;
 
 /// One more operand, of the kind of a type.
-pub(crate) fn push_type(out: &mut Emitter, around: &Around<'_>, ty: &Type) -> Result<(), NoMemory>
+pub fn push_type(out: &mut Emitter, around: &Around<'_>, ty: &Type) -> Result<(), NoMemory>
     ensures { OnOk result (TurnsTo out.old out.new (push (kind_of_type
         (globals_in around.now).ranges ty.now) out.old.now)) }
 {
@@ -21,7 +21,7 @@ pub(crate) fn push_type(out: &mut Emitter, around: &Around<'_>, ty: &Type) -> Re
 }
 
 /// One more operand, of the kind of an expression.
-pub(crate) fn push_value(out: &mut Emitter, around: &Around<'_>, e: &Expr) -> Result<(), NoMemory>
+pub fn push_value(out: &mut Emitter, around: &Around<'_>, e: &Expr) -> Result<(), NoMemory>
     ensures { OnOk result (TurnsTo out.old out.new (push (kind_of (globals_in around.now)
         (layout_in around.now) e.now) out.old.now)) }
 {

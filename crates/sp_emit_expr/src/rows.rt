@@ -18,7 +18,7 @@ use sp_words::Method;
 
 /// What is done with any number of parts.
 #[derive(Clone, Copy)]
-pub(crate) enum Row {
+pub enum Row {
     /// What is asked for stands in a local.
     Kept(u32),
     /// A method that changes its receiver, which is the first part, and the slot of its owner.
@@ -60,7 +60,7 @@ fn offset_local(places: &Places, of_self: bool) -> Option<u32>
 }
 
 /// What is done with the parts of a node.
-pub(crate) fn row_of(op: ManyOp, places: &Places, parts: &[Expr]) -> Row
+pub fn row_of(op: ManyOp, places: &Places, parts: &[Expr]) -> Row
     ensures { result ≡ row_of op (offset_local (layout_of places.now) (is_self
         (exprs parts.now))) }
 {
@@ -77,7 +77,7 @@ pub(crate) fn row_of(op: ManyOp, places: &Places, parts: &[Expr]) -> Row
 }
 
 /// The first part and those behind it, where there is one.
-pub(crate) fn first_and_rest(parts: &[Expr]) -> Option<(&Expr, &[Expr])>
+pub fn first_and_rest(parts: &[Expr]) -> Option<(&Expr, &[Expr])>
     ensures some { IfSome result (λ p. exprs parts.now ≡ more p.0.now (exprs p.1.now)) }
     ensures none { IfNone result (exprs parts.now ≡ none) }
 {

@@ -49,7 +49,7 @@ pub(crate) fn joint_of(op: TwoOp) -> Joint
 }
 
 /// The value on top is a Boolean.
-pub(crate) fn as_bool(out: &mut Emitter) -> Result<(), NoMemory>
+pub fn as_bool(out: &mut Emitter) -> Result<(), NoMemory>
     ensures { (s : Shape) (k : Kind) → out.old.now ≡ push k s → OnOk result (TurnsTo out.old out.new
         (push Bools s)) }
 {

@@ -106,11 +106,7 @@ fn zero_values(
 
 /// The value with which a variable of a type begins.
 #[cycle(zero)]
-pub(crate) fn zero_value(
-    alloc: Global,
-    bitfields: &[Bitfield],
-    ty: &Type,
-) -> Result<Value, NoMemory>
+pub fn zero_value(alloc: Global, bitfields: &[Bitfield], ty: &Type) -> Result<Value, NoMemory>
     ensures { IfOk result (λ v. v ≡ zero_value (range_counts bitfields.now) ty.now) }
 {
     match ty.level() {

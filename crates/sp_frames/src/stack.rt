@@ -1,7 +1,7 @@
 // The frames of a fiber.
-ghost use Rattle.std.specs.Prelude.{◌≡◌, ◌∷◌, [], OnOk, OnErr, MatchOption};
+ghost use Rattle.std.specs.Prelude.{◌≡◌, ◌∷◌, [], reverse, OnOk, OnErr, MatchOption};
 ghost use Rattle.sp_code.specs.Machine.{is_failing};
-ghost use Rattle.sp_frames.specs.Frames.{frame_of};
+ghost use Rattle.sp_frames.specs.Frames.{frame_of, frames_of};
 
 use crate::frame::Frame;
 use sp_base::NoMemory;
@@ -64,5 +64,12 @@ impl Stack {
             Some(Frame::Failing { .. }) => true,
             _ => false,
         }
+    }
+
+    /// The frames, the innermost last.
+    pub fn frames(&self) -> &[Frame]
+        ensures { frames_of (reverse result.now) ≡ self.now }
+    {
+        self.frames.as_slice()
     }
 }

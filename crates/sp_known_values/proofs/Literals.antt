@@ -34,13 +34,13 @@ unsigned_within W16 n h = grind (arith, nat_tests)
 unsigned_within W32 n h = grind (arith, nat_tests)
 unsigned_within W64 n h = grind (arith, nat_tests)
 
-signed_within : (x : Width) (n : ℕ) → has_number (word_is.Int x) false n ≡ true → fits_signed x (pos n) ≡ true
+pub signed_within : (x : Width) (n : ℕ) → has_number (word_is.Int x) false n ≡ true → fits_signed x (pos n) ≡ true
 signed_within W8 n h = grind (arith, nat_tests)
 signed_within W16 n h = grind (arith, nat_tests)
 signed_within W32 n h = grind (arith, nat_tests)
 signed_within W64 n h = grind (arith, nat_tests)
 
-negative_within : (x : Width) (n : ℕ) → has_number (word_is.Int x) true n ≡ true → fits_signed x (neg_ℤ (pos n)) ≡ true
+pub negative_within : (x : Width) (n : ℕ) → has_number (word_is.Int x) true n ≡ true → fits_signed x (neg_ℤ (pos n)) ≡ true
 negative_within W8 n h = grind (arith, nat_tests)
 negative_within W16 n h = grind (arith, nat_tests)
 negative_within W32 n h = grind (arith, nat_tests)

@@ -100,7 +100,7 @@ FitAll (t ∷ ts) (o ∷ os) = (fits t o ≡ true) × (is_regex t ≡ false) × 
 FitAll _ _ = ⊥
 
 -- what the worse of two lacks, and what all do, by one that lacks it
-worse_one : Outcome → Outcome → Outcome
+unfoldable pub worse_one : Outcome → Outcome → Outcome
 worse_one (Value v) p = p
 worse_one Error (Value v) = Error
 worse_one Error p = p
@@ -128,11 +128,11 @@ worse_is Unknown NotConstant = refl
 worse_is Unknown Error = refl
 worse_is Unknown Unknown = refl
 
-worst_one : List Outcome → Outcome
+unfoldable pub worst_one : List Outcome → Outcome
 worst_one [] = Value void
 worst_one (o ∷ os) = worse_one o (worst_one os)
 
-worst_is : (os : List Outcome) → worst os ≡ lack_of (worst_one os)
+pub worst_is : (os : List Outcome) → worst os ≡ lack_of (worst_one os)
 unfolding worst_one
 worst_is [] = refl
 worst_is (o ∷ os) = ap (λ l. worse (lack_of o) l) (worst_is os) ∙ worse_is o (worst_one os)

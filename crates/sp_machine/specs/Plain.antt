@@ -33,6 +33,22 @@ state_of m =
       move = None;
     }
 
+-- the state in which a machine begins: no unit is entered, and nothing of the input was read
+abbrev pub first : State
+first =
+    record {
+      instances = [];
+      self = 0;
+      locals = [];
+      now = record { source = Main; place = 0; high = 0; count = 0; views = [] };
+      outer = [];
+      level = 0;
+      stamps = 0;
+      depth = 0;
+      tries = false;
+      move = None;
+    }
+
 -- a machine at an instruction, or one that takes frames off by an end
 abbrev pub plain_in : Mode → Machine → Config
 plain_in Running m = At m.pc m.operands m.stack (state_of m)

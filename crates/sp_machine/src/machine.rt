@@ -1,9 +1,9 @@
 // What a machine keeps, and how it goes on.
-ghost use Rattle.std.specs.Prelude.{◌≡◌, ◌+◌, ◌<◌, ◌^◌, ◌∷◌, OnOk};
+ghost use Rattle.std.specs.Prelude.{◌≡◌, ◌+◌, ◌<◌, ◌^◌, [], ◌∷◌, reverse, OnOk};
 ghost use Rattle.sp_running.specs.States.{Failed, error_at};
 ghost use Rattle.sp_code.specs.Machine.{At, Ending};
 ghost use Rattle.sp_machine.specs.declared.machine.Mode.TheVariants.{Running};
-ghost use Rattle.sp_machine.specs.Plain.{state_of, plain};
+ghost use Rattle.sp_machine.specs.Plain.{first, state_of, plain};
 
 use sp_base::{NoMemory, PKind, ParseError};
 use sp_frames::{Instance, Operands, Spare, Stack};
@@ -56,6 +56,27 @@ pub struct Machine {
 }
 
 impl Machine {
+    /// A machine before an instruction, with these operands, the last of them on top, that has run nothing. Takes no
+    /// memory.
+    pub fn start(alloc: Global, at: usize, operands: Vec<Value>) -> Machine
+        ensures { plain result ≡ At at (reverse operands.items) [] first }
+    {
+        Machine {
+            mode: Mode::Running,
+            pc: at,
+            operands: Operands::new(operands),
+            stack: Stack::new(alloc),
+            locals: Vec::new(alloc),
+            own: 0,
+            instances: Vec::new(alloc),
+            place: 0,
+            high: 0,
+            count: 0,
+            depth: 0,
+            spare: Spare::new(alloc),
+        }
+    }
+
     pub(crate) fn alloc(&self) -> Global {
         *self.locals.allocator()
     }

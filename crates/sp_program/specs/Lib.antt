@@ -1,3 +1,8 @@
 pub mod Routines
 pub mod Programs
+pub mod Named
+pub mod Currents
+pub mod Units
+pub mod Whole
 pub mod Rows
+pub mod WholeRows

@@ -30,10 +30,10 @@ use Rattle.sp_program.specs.Programs.{bodies_end, IsLaid}
 abbrev pub here : Span
 here = record { from = 0; to = 0 }
 
-abbrev byte : Ty
+abbrev pub byte : Ty
 byte = word (word_is.Uint W8)
 
-abbrev leaf_of : Ty → LeafOp → Expr
+abbrev pub leaf_of : Ty → LeafOp → Expr
 leaf_of t o = leaf (record { span = here; ty = t; op = o })
 
 abbrev local : Expr

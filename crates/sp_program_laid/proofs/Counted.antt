@@ -21,7 +21,7 @@ module _ (p : Plain) (hook_names : List (List ℕ)) (list : Typed) (has : HasBod
   call_counted _ n match = tt
 
   mutual
-    expr_counted : (e : Expr) → ArgumentsMatch list.functions e → AreCounted p e
+    pub expr_counted : (e : Expr) → ArgumentsMatch list.functions e → AreCounted p e
     expr_counted (leaf h) match = tt
     expr_counted (one h a) match = expr_counted a match
     expr_counted (two h a b) match = (expr_counted a match.0, expr_counted b match.1)

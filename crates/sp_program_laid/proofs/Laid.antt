@@ -13,13 +13,13 @@ use Rattle.sp_lower_expr.specs.Marked.{Marked, HasAt, Shows}
 use Rattle.sp_lower_expr.specs.Code.{kind_at}
 use Rattle.sp_lower_unit.specs.Bodies.{HasBodies, name_at}
 use Rattle.sp_program.specs.Routines.{function_routine, hook_routine, Routine, function_routines, hook_routines, function_shape, hook_shape}
-use Rattle.sp_program.specs.Programs.{shapes_before, bodies_end, routines_code, IsLaid}
+use Rattle.sp_program.specs.Programs.{shapes_before, bodies_end, routines_code, program_code, IsLaid}
 use Rattle.sp_code_means.specs.Laws.{AllKeep}
 use Rattle.sp_code_means.proofs.Steps.{has_front, has_back}
 use Rattle.sp_code_means.proofs.Keeping.{shows_front, shows_back, keep_both}
 use Rattle.sp_program_laid.specs.Fits.{BodiesFit}
-use Rattle.sp_program_laid.specs.Laws.{LaidProgramsHaveBodies, WhatFollowsStands, LaidProgramsAreSound}
-use Rattle.sp_program_laid.proofs.Placed.{stands, shows, instr_there, keeps_there}
+use Rattle.sp_program_laid.specs.Laws.{LaidProgramsHaveBodies, WhatFollowsStands, WhatStandsIsLaid, LaidProgramsAreSound}
+use Rattle.sp_program_laid.proofs.Placed.{stands, shows, wanted, before, instr_there, keeps_there}
 use Rattle.sp_program_laid.proofs.Routines.{function_at, hook_at, routines_sized, all_routines, IsPlaced, placed_at, IsGood, routines_keep}
 use Rattle.sp_program_laid.proofs.Zeros.{zero_has}
 
@@ -91,6 +91,11 @@ laid_programs_have_bodies p shapes hook_names currents list rest laid = bodies p
 
 pub what_follows_stands : WhatFollowsStands
 what_follows_stands p shapes hook_names currents list rest laid = follows p shapes hook_names currents list rest laid
+
+pub what_stands_is_laid : WhatStandsIsLaid
+what_stands_is_laid p shapes hook_names currents list rest of_bodies of_locals has counted shows_all counted_shapes =
+    let code = program_code hook_names currents list rest in
+    record { bodies = of_bodies; locals = of_locals; code = wanted p code has counted; before = before shapes.at code shows_all counted_shapes }
 
 pub laid_programs_are_sound : LaidProgramsAreSound
 laid_programs_are_sound p shapes hook_names currents list rest laid fit keeps =

@@ -1,11 +1,11 @@
 -- What the instructions and the shapes of a whole code say of each address.
-use Rattle.std.proofs.Common.{◌≡◌, ℕ, zero, suc, ◌+◌, List, [], ◌∷◌, length, Some, None, refl, ap, subst, arith}
+use Rattle.std.proofs.Common.{◌≡◌, ℕ, zero, suc, ◌+◌, List, [], ◌∷◌, length, Some, None, refl, sym, ap, ◌∙◌, subst, arith}
 use Rattle.std.specs.Prelude.{slice_get, unwrap_or}
 use Rattle.sp_value.specs.Val.{Val}
 use Rattle.sp_code.specs.declared.instr.Instr.{Instr}
 use Rattle.sp_code.specs.Machine.{Plain}
 use Rattle.sp_code.specs.Shapes.{Shape, Shapes, Keeps}
-use Rattle.sp_lower_expr.specs.Marked.{Marked, HasAt, Shows}
+use Rattle.sp_lower_expr.specs.Marked.{Marked, IsWanted, HasAt, Shows}
 use Rattle.sp_program.specs.Programs.{AreWanted, shapes_before}
 use Rattle.sp_code_means.specs.Laws.{AllKeep}
 
@@ -44,6 +44,31 @@ instr_there consts [] is n s w e = absurd (let q : None ≡ Some s = e in cc)
 instr_there consts (m ∷ ms) [] n s w e = absurd w
 instr_there consts (m ∷ ms) (i ∷ is) zero s w e = (i, refl)
 instr_there consts (m ∷ ms) (i ∷ is) (suc n) s w e = instr_there consts ms is n s w.1 e
+
+-- instructions that stand so are those that are wanted, if there are no more
+wanted_from : (p : Plain) (pc : ℕ) (ms : List Marked) (is : List Instr) → IsFrom p.code pc is → HasAt p pc ms → length is ≡ length ms → AreWanted p.consts ms is
+wanted_from p pc [] [] h has n = tt
+wanted_from p pc [] (i ∷ is) h has n = absurd (omega (arith, n))
+wanted_from p pc (m ∷ ms) [] h has n = absurd (omega (arith, n))
+wanted_from p pc (m ∷ ms) (i ∷ is) h has n =
+    let same : has.0 ≡ i = ap (λ o. unwrap_or o has.0) (sym has.1 ∙ first_of p.code is pc i h) in
+    (subst (λ i. IsWanted p.consts m.wanted i) same has.2, wanted_from p (pc + 1) ms is (from_next p.code is pc i h) has.3 (omega (arith, n)))
+
+pub wanted : (p : Plain) (ms : List Marked) → HasAt p 0 ms → length p.code ≡ length ms → AreWanted p.consts ms p.code
+wanted p ms has n = wanted_from p 0 ms p.code (from_start p.code) has n
+
+-- and so are shapes
+before_from : (at : List Shape) (pc : ℕ) (ms : List Marked) (ss : List Shape) → IsFrom at pc ss → Shows at pc ms → length ss ≡ length ms → ss ≡ shapes_before ms
+before_from at pc [] [] h shows n = refl
+before_from at pc [] (s ∷ ss) h shows n = absurd (omega (arith, n))
+before_from at pc (m ∷ ms) [] h shows n = absurd (omega (arith, n))
+before_from at pc (m ∷ ms) (s ∷ ss) h shows n =
+    let same : s ≡ m.before = ap (λ o. unwrap_or o s) (sym (first_of at ss pc s h) ∙ shows.0) in
+    let later = before_from at (pc + 1) ms ss (from_next at ss pc s h) shows.1 (omega (arith, n)) in
+    ap (λ s. s ∷ ss) same ∙ ap (λ ss. m.before ∷ ss) later
+
+pub before : (at : List Shape) (ms : List Marked) → Shows at 0 ms → length at ≡ length ms → at ≡ shapes_before ms
+before at ms shows n = before_from at 0 ms at (from_start at) shows n
 
 -- there are as many instructions as are wanted
 pub wanted_length : (consts : List Val) (ms : List Marked) (is : List Instr) → AreWanted consts ms is → length is ≡ length ms

@@ -14,8 +14,8 @@ use Rattle.sp_code.specs.Turns.{Turns}
 use Rattle.sp_lower_expr.specs.Marked.{Marked, HasAt, Shows}
 use Rattle.sp_lower_expr.specs.Code.{kind_at}
 use Rattle.sp_lower_unit.specs.Bodies.{HasBodies}
-use Rattle.sp_program.specs.Routines.{hook_unit, parameter_kinds, handed_kinds}
-use Rattle.sp_program.specs.Programs.{bodies_end, IsLaid}
+use Rattle.sp_program.specs.Routines.{hook_unit, parameter_kinds, handed_kinds, routines_of}
+use Rattle.sp_program.specs.Programs.{entries_from, kinds_of_locals, bodies_end, program_code, IsLaid}
 use Rattle.sp_code_means.specs.Laws.{AllKeep}
 use Rattle.sp_code_bodies.specs.Parts.{BodiesAreCounted}
 use Rattle.sp_code_turns.specs.Falling.{AllTurn}
@@ -36,6 +36,15 @@ WhatFollowsStands =
     (p : Plain) (shapes : Shapes) (hook_names : List (List ℕ)) (currents : List Kind) (list : Typed) (rest : List Marked) →
     IsLaid p shapes hook_names currents list rest →
     HasAt p (bodies_end hook_names currents list) rest × Shows shapes.at (bodies_end hook_names currents list) rest
+
+-- And where all of it stands at the beginning of a program, with its shapes and nothing behind, the program is so laid out.
+abbrev pub WhatStandsIsLaid : Type 0
+WhatStandsIsLaid =
+    (p : Plain) (shapes : Shapes) (hook_names : List (List ℕ)) (currents : List Kind) (list : Typed) (rest : List Marked) →
+    p.bodies ≡ entries_from 0 (routines_of hook_names currents list) → shapes.bodies ≡ kinds_of_locals (routines_of hook_names currents list) →
+    HasAt p 0 (program_code hook_names currents list rest) → length p.code ≡ length (program_code hook_names currents list rest) →
+    Shows shapes.at 0 (program_code hook_names currents list rest) → length shapes.at ≡ length (program_code hook_names currents list rest) →
+    IsLaid p shapes hook_names currents list rest
 
 -- A function of such a program can be called from anywhere with values of the kinds of its parameters, the last on top, and gives a value
 -- of the kind of its result, if what its body changes are places.

@@ -1,5 +1,5 @@
 // A program that is laid out has its bodies, is sound where they fit, and counts a turn in each cycle. These functions do nothing.
-ghost use Rattle.sp_program_laid.specs.Laws.{FittingBodiesKeepToLoops, LaidFunctionsEnter, LaidHooksEnter, LaidProgramsAreSound, LaidProgramsCount, LaidProgramsHaveBodies, LaidProgramsTurn, WhatFollowsStands};
+ghost use Rattle.sp_program_laid.specs.Laws.{FittingBodiesKeepToLoops, LaidFunctionsEnter, LaidHooksEnter, LaidProgramsAreSound, LaidProgramsCount, LaidProgramsHaveBodies, LaidProgramsTurn, WhatFollowsStands, WhatStandsIsLaid};
 
 /// The bodies of a program that is laid out stand where its table says.
 pub fn laid_programs_have_bodies()
@@ -9,6 +9,11 @@ pub fn laid_programs_have_bodies()
 /// What is laid out behind the bodies stands where they end.
 pub fn what_follows_stands()
     ensures { WhatFollowsStands }
+{}
+
+/// A program in which all of it stands, with its shapes and nothing behind, is so laid out.
+pub fn what_stands_is_laid()
+    ensures { WhatStandsIsLaid }
 {}
 
 /// A function of such a program can be called with values of the kinds of its parameters.

@@ -40,14 +40,14 @@ use Rattle.sp_code_continues.specs.Laws.{IsSteady}
 use Rattle.sp_code_bodies.specs.Parts.{StmtIsCounted, BodiesAreCounted}
 use Rattle.sp_unit_told.specs.Told.{first, started, Starts, meant, state_of, MayEndUnit, told_end, Tells}
 
-abbrev here : Span
+abbrev pub here : Span
 here = record { from = 0; to = 0 }
 
-abbrev byte : Ty
+abbrev pub byte : Ty
 byte = word (word_is.Uint W8)
 
 -- `type U = unit { a: uint8; on %done { return; } };`
-abbrev one_field : TypedUnit
+abbrev pub one_field : TypedUnit
 one_field =
     record {
       path = [];
@@ -65,18 +65,18 @@ one_field =
       connects_filter = false;
     }
 
-abbrev hook : Hook
+abbrev pub hook : Hook
 hook = record { «module» = 0; span = here; of = hook_of.Unit 0 hook_name.Done; fits = true; parameters = []; priority = None; rank = None; slots = []; body = bare (record { span = here; op = bare_is.Return }) }
 
-abbrev list : Typed
+abbrev pub list : Typed
 list = record { units = one_field ∷ []; functions = []; hooks = hook ∷ []; constants = []; enums = []; bitfields = []; aliases = []; conversions = []; orders = [] }
 
 -- the name of the hook, `D`
-abbrev name : List ℕ
+abbrev pub name : List ℕ
 name = 68 ∷ []
 
 -- the starter, the code of the hook, and that of the unit, of what is behind its parts, and of its failing
-abbrev program : Plain
+abbrev pub program : Plain
 program =
     record {
       limits = record { turns = 4; depth = 3; fibers = 1 };
@@ -90,14 +90,14 @@ program =
 has_hook : HasHook (globals_of list) program 0 name hook
 has_hook = record { start = 2; shape = body_shape (Some 0) (OfHook false) []; listed = refl; stands = (does.Const 0, refl, (0, refl, refl), (does.Return, refl, refl, (does.Const 0, refl, (0, refl, refl), (does.Return, refl, refl, tt)))) }
 
-abbrev names : List (List ℕ)
+abbrev pub names : List (List ℕ)
 names = name ∷ []
 
 hooks_of : (n : ℕ) (x : Hook) → slice_get list.hooks n ≡ Some x → HasHook (globals_of list) program n (unwrap_or (slice_get names n) []) x
 hooks_of zero x e = subst (λ x. HasHook (globals_of list) program 0 name x) (ap (λ o. unwrap_or o hook) e) has_hook
 hooks_of (suc n) x e = absurd (let q : None ≡ Some x = e in cc)
 
-has_bodies : HasBodies program names list
+pub has_bodies : HasBodies program names list
 has_bodies = record { functions = λ n x e. absurd (let q : None ≡ Some x = e in cc); hooks = λ n x e. subst (λ m. HasHook (globals_of list) program m (unwrap_or (slice_get names n) []) x) (omega arith) (hooks_of n x e) }
 
 has_unit : HasUnit program list 0 one_field
@@ -112,7 +112,7 @@ has_unit =
       failing_stands = (does.LeaveUnit, refl, refl, tt);
     }
 
-has_units : HasUnits program list
+pub has_units : HasUnits program list
 has_units zero x e = subst (λ x. HasUnit program list 0 x) (ap (λ o. unwrap_or o one_field) e) has_unit
 has_units (suc n) x e = absurd (let q : None ≡ Some x = e in cc)
 
@@ -122,7 +122,7 @@ takes_nothing x e = subst (λ x. handed x ≡ 0) (ap (λ o. unwrap_or o hook) e)
 counted_unit : UnitIsCounted program list 0 one_field
 counted_unit = record { variables = tt; parts = (tt, tt); init = tt; done = (takes_nothing, tt); error = tt; finally = tt }
 
-counted : UnitsAreCounted program list
+pub counted : UnitsAreCounted program list
 counted zero x e = subst (λ x. UnitIsCounted program list 0 x) (ap (λ o. unwrap_or o one_field) e) counted_unit
 counted (suc n) x e = absurd (let q : None ≡ Some x = e in cc)
 
@@ -130,11 +130,11 @@ bare_is_counted : (h : ℕ) (x : Hook) → slice_get list.hooks h ≡ Some x →
 bare_is_counted zero x e = subst (λ x. StmtIsCounted program x.body) (ap (λ o. unwrap_or o hook) e) tt
 bare_is_counted (suc n) x e = absurd (let q : None ≡ Some x = e in cc)
 
-counted_bodies : BodiesAreCounted program list
+pub counted_bodies : BodiesAreCounted program list
 counted_bodies = record { functions = λ f x e. absurd (let q : None ≡ Some x = e in cc); hooks = bare_is_counted }
 
 -- the program starts the unit, which takes nothing
-starts : Starts program names list 0 0 []
+abbrev pub starts : Starts program names list 0 0 []
 starts =
     record { bodies = has_bodies; bodies_are_counted = counted_bodies; units = has_units; units_are_counted = counted; unit = one_field; listed = refl; starter = (does.EnterUnit 0, refl, refl, (does.Return, refl, refl, tt)); taken = refl }
 
@@ -145,7 +145,7 @@ the_last_is_on_top : (x y : Parameter)
 the_last_is_on_top x y = refl
 
 -- its shapes
-abbrev byte_kinds : UnitKinds
+abbrev pub byte_kinds : UnitKinds
 byte_kinds = record { parameters = []; members = Unsigned ∷ []; locals = slot_kinds }
 
 abbrev outside : Shape
@@ -157,7 +157,7 @@ in_hook = body_shape (Some 0) (OfHook false) []
 abbrev in_parts : Shape
 in_parts = unit_shape 0 OfUnit
 
-abbrev shapes : Shapes
+abbrev pub shapes : Shapes
 shapes =
     record {
       at = outside ∷ push (UnitOf 0) outside ∷ in_hook ∷ push Void in_hook ∷ in_hook ∷ push Void in_hook ∷ in_parts ∷ push Unsigned in_parts ∷ push (UnitOf 0) (push Unsigned in_parts) ∷ in_parts ∷ in_parts ∷ unit_shape 0 OfEnding ∷ unit_shape 0 OfFailing ∷ [];
@@ -166,7 +166,7 @@ shapes =
     }
 
 -- its parts fit, its shapes are shown, and its starter takes what it takes
-fits : UnitFits program shapes list 0 one_field
+pub fits : UnitFits program shapes list 0 one_field
 fits =
     record {
       begins = tt;
@@ -190,21 +190,21 @@ failing_shows = (refl, tt)
 starter_shows : Shows shapes.at 0 (starter_code list 0 one_field)
 starter_shows = (refl, (refl, tt))
 
-kinds : AreKindsOf one_field (starter_kinds list one_field) byte_kinds
+pub kinds : AreKindsOf one_field (starter_kinds list one_field) byte_kinds
 kinds = record { takes = refl; parameters = refl; members = refl; locals = refl }
 
 it_takes_nothing : Have [] (starter_kinds list one_field) []
 it_takes_nothing = tt
 
 -- sets of tokens that find none
-abbrev none : ℕ → List ℕ → Bool → Verdict
+abbrev pub none : ℕ → List ℕ → Bool → Verdict
 none set w over = NoToken
 
-none_is_steady : IsSteady none
+pub none_is_steady : IsSteady none
 none_is_steady = record { stays = λ set w t over told. refl; fits = λ set w over token n e. absurd (let q : NoToken ≡ Match token n = e in cc) }
 
 -- what the unit means over these bytes
-abbrev over : List ℕ → Close → Result
+abbrev pub over : List ℕ → Close → Result
 over s close = meant program names list (reads none s close) 3 0 []
 
 it_waits : over [] held_open ≡ Ends (Need 0) [] (state_of (over [] held_open))

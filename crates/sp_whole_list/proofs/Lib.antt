@@ -1,9 +1,9 @@
-mod Mentions
-mod Types
-mod Declared
-mod Heads
-mod None
-mod Blind
-mod Functions
-mod Modules
+pub mod Mentions
+pub mod Types
+pub mod Declared
+pub mod Heads
+pub mod None
+pub mod Blind
+pub mod Functions
+pub mod Modules
 pub mod Decided

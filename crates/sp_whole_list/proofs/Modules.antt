@@ -36,21 +36,21 @@ use Rattle.sp_around.specs.declared.written.Place.TheVariants as place_is
 use Rattle.sp_around.specs.Heads.{function_gives}
 use Rattle.sp_around.specs.Members.{UnitMember, unit_members, numbered, kinds_of, range_number, bitfield_width, bitfield_tree}
 use Rattle.sp_around.specs.Methods.{told, begins_with_order, by_order, bytes_methods, text_methods, vector_methods, are_two, get_method, map_methods, method_gives, unit_methods, unit_method_gives, sink_methods, library_call, unit_call, sink_call, method_of, base_ten, utf8, replace, left_out_of}
-use Rattle.sp_around.specs.Arounds.{Facts, word_leaf, type_leaf, declared_at, meaning_at, kind_member, some_member, unit_member, width_type, bit_member, member_of, left_out_by, around}
+use Rattle.sp_around.specs.Arounds.{Facts, word_leaf, type_leaf, declared_at, meaning_at, kind_member, some_member, unit_member, width_type, bit_member, member_of, left_out_by, path_at, around}
 use Rattle.sp_body_rules.specs.Known.{Known}
 use Rattle.sp_known_types.specs.Full.{is_full, is_right}
 use Rattle.sp_known_types.specs.Given.{is_named, is_member_op, is_method_op, IsKnown}
 use Rattle.sp_known_types.proofs.Full.{vector_first, map_second}
 use Rattle.std.proofs.lemmas.Bool.{and_from}
 use Rattle.sp_known_bodies.specs.Decided.{Decides}
-use Rattle.sp_whole_list.specs.Known.{AreKnown}
+use Rattle.sp_whole_list.specs.Known.{HasType, AreKnown}
 use Rattle.sp_whole_list.specs.Types.{is_type}
 use Rattle.sp_whole_list.proofs.Types.{type_full, each_has, type_named}
 
-none_found : {A X : Type 0} (a : A) → None ≡ Some a → X
+pub none_found : {A X : Type 0} (a : A) → None ≡ Some a → X
 none_found a e = absurd (let b : ⊥ = (cc) in b)
 
-some_found : {A : Type 0} (a b : A) → Some a ≡ Some b → a ≡ b
+pub some_found : {A : Type 0} (a b : A) → Some a ≡ Some b → a ≡ b
 some_found a b e = cc
 
 -- the name of a type
@@ -58,7 +58,7 @@ word_named : (result : ℕ → Ty) (span : Span) (w : Word) → is_named result 
 word_named result span word_is.Decoder = refl
 word_named result span _ = refl
 
-type_named_by : (result : ℕ → Ty) (span : Span) (o : Option Ty) → is_named result (leaf_at span unknown (type_leaf o)) ≡ true
+pub type_named_by : (result : ℕ → Ty) (span : Span) (o : Option Ty) → is_named result (leaf_at span unknown (type_leaf o)) ≡ true
 type_named_by result span None = refl
 type_named_by result span (Some (word w)) = word_named result span w
 type_named_by result span (Some (made m ts)) = refl
@@ -78,7 +78,7 @@ bit_op : (t : Ty) (o : Option ℕ) (found : Member) → bit_member t o ≡ Some 
 bit_op t None found e = none_found found e
 bit_op t (Some k) found e = ap (λ (x : Member). is_member_op x.op) (sym (some_found (record { op = one_is.Bit k; ty = t }) found e))
 
-member_op : (list : List Tree) (stored : ℕ → ℕ → Ty) (t : Ty) (x : List ℕ) (found : Member) → member_of list stored t x ≡ Some found → is_member_op found.op ≡ true
+pub member_op : (list : List Tree) (stored : ℕ → ℕ → Ty) (t : Ty) (x : List ℕ) (found : Member) → member_of list stored t x ≡ Some found → is_member_op found.op ≡ true
 member_op list stored (word (word_is.Unit n)) x found e = unit_op (stored n) (unit_members list n) (numbered x 0 (unit_members list n)) found e
 member_op list stored (word (word_is.Bitfield n)) x found e = bit_op (width_type (bitfield_width (bitfield_tree list n))) (range_number list n x) found e
 member_op list stored _ x found e = none_found found e
@@ -107,7 +107,7 @@ sink_call_op : (o : Option SinkMethod) (found : Callable) → sink_call o ≡ So
 sink_call_op None found e = none_found found e
 sink_call_op (Some m) found e = ap (λ (c : Callable). is_method_op c.op) (sym (some_found (record { op = many_is.OfSink m; ty = word word_is.Void }) found e))
 
-method_op : (t : Ty) (x : List ℕ) (span : Span) (ts : List Ty) (found : Callable) → method_of t x span ts ≡ Some found → is_method_op found.op ≡ true
+pub method_op : (t : Ty) (x : List ℕ) (span : Span) (ts : List Ty) (found : Callable) → method_of t x span ts ≡ Some found → is_method_op found.op ≡ true
 method_op (word (word_is.Unit n)) x span ts found e = unit_call_op span (told x unit_methods) found e
 method_op (word word_is.Sink) x span ts found e = sink_call_op (told x (sink_methods ts)) found e
 method_op (word word_is.Bytes) x span ts found e = library_op (word word_is.Bytes) (told x (bytes_methods ts)) found e
@@ -188,10 +188,29 @@ all_right (many_is.Method m slot) span n = left_out_right m span n
 all_right _ span n = refl
 
 module _ (list : List Tree) (facts : Facts) where
-  module _ (only : OneOp → Bool) (known : AreKnown list facts only) where
-    abbrev result : ℕ → Ty
-    result = function_gives list facts.answers
+  abbrev result : ℕ → Ty
+  result = function_gives list facts.answers
 
+  -- what stands round the expressions of the module m, where it is known what each path is that a test lets through
+  pub paths_known : (only : OneOp → Bool) (k : Known) (m rules : ℕ) (is_path : Tree → Bool) → ((g : ℕ) → HasType list facts.answers g)
+      → ((t : Ty) (name : List ℕ) (found : Member) → member_of list facts.stored t name ≡ Some found → only found.op ≡ true → is_full found.ty ≡ true)
+      → ((span : Span) (path : Tree) → is_path path ≡ true → is_named result (path_at list facts.answers facts.constant m span path) ≡ true)
+      → Decides (around list facts m) only k rules (is_type list facts.answers m) is_path → IsKnown (around list facts m) only k rules (is_type list facts.answers m) is_path
+  paths_known only k m rules is_path types members named decides = record {
+    path = named;
+    named = named;
+    itself = λ span. refl;
+    current = λ span. refl;
+    names_types = λ t is. type_named list facts.answers m t is;
+    type_in = λ t is placed. type_full list facts.answers m place_is.Whole t is placed (each_has list facts.answers m types (mentions_in list m t));
+    member = λ t name found e may. and_from (is_member_op found.op) (is_full found.ty) (member_op list facts.stored t name found e) (members t name found e may);
+    method = λ t name span ts found e. method_op t name span ts found e;
+    gives = λ t name span ts found e full. method_full t name span ts found e full;
+    left_out = λ op span n. all_right op span n;
+    index = decides;
+  }
+
+  module _ (only : OneOp → Bool) (known : AreKnown list facts only) where
     declared_named : (span : Span) (g : ℕ) (s : DeclSort) → sort_at list g ≡ s → is_named result (declared_at list facts.answers facts.constant span g s) ≡ true
     declared_named span g sort_is.Constant e = known.constants g e
     declared_named span g sort_is.Function e = known.results g e
@@ -204,18 +223,7 @@ module _ (list : List Tree) (facts : Facts) where
     meaning_named span path meaning_is.Decoder = refl
     meaning_named span path (meaning_is.Nothing n) = refl
 
-    -- what stands round the expressions of the module m
+    -- the same where all paths are known
     pub module_known : (k : Known) (m rules : ℕ) (is_path : Tree → Bool) → Decides (around list facts m) only k rules (is_type list facts.answers m) is_path → IsKnown (around list facts m) only k rules (is_type list facts.answers m) is_path
-    module_known k m rules is_path decides = record {
-      path = λ span path is. meaning_named span path (path_means list facts.answers m path);
-      named = λ span path is. meaning_named span path (path_means list facts.answers m path);
-      itself = λ span. refl;
-      current = λ span. refl;
-      names_types = λ t is. type_named list facts.answers m t is;
-      type_in = λ t is placed. type_full list facts.answers m place_is.Whole t is placed (each_has list facts.answers m known.types (mentions_in list m t));
-      member = λ t name found e may. and_from (is_member_op found.op) (is_full found.ty) (member_op list facts.stored t name found e) (known.members t name found e may);
-      method = λ t name span ts found e. method_op t name span ts found e;
-      gives = λ t name span ts found e full. method_full t name span ts found e full;
-      left_out = λ op span n. all_right op span n;
-      index = decides;
-    }
+    module_known k m rules is_path decides =
+        paths_known only k m rules is_path known.types known.members (λ span path is. meaning_named span path (path_means list facts.answers m path)) decides

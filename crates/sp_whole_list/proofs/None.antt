@@ -32,7 +32,7 @@ none_all tests (x ∷ xs) e =
     let p = none_parts (tests x) (all_tests tests xs) e in
     and_from (none_hold (tests x)) (list_all (λ x. none_hold (tests x)) xs) p.0 (none_all tests xs p.1)
 
-all_parts : {X : Type 0} (p : X → Bool) (xs ys : List X) → list_all p (xs ++ ys) ≡ true → (list_all p xs ≡ true) × (list_all p ys ≡ true)
+pub all_parts : {X : Type 0} (p : X → Bool) (xs ys : List X) → list_all p (xs ++ ys) ≡ true → (list_all p xs ≡ true) × (list_all p ys ≡ true)
 all_parts p xs ys e = and_parts (list_all p xs) (list_all p ys) (sym (list_all-append p xs ys) ∙ e)
 
 -- two tests that hold at each node
@@ -100,7 +100,7 @@ mutual
       let p = none_parts (expr_names m x) (exprs_names m es) e in
       and_from (holds names_something x) (all_hold names_something es) (expr_named m x p.0) (exprs_named m es p.1)
 
-stands_anywhere : (e : Expr) → may_stand any_op e ≡ true
+pub stands_anywhere : (e : Expr) → may_stand any_op e ≡ true
 stands_anywhere (leaf h) = refl
 stands_anywhere (one h a) = refl
 stands_anywhere (two h a b) = refl

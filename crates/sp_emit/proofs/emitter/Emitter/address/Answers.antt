@@ -6,4 +6,4 @@ pub returns : goal.returns
 returns c =
     let e = c.self.inside in
     let long : c.len.result ≡ length e.steps.items = omega arith in
-    subst (λ (m : ℕ). IfOk c.number.result (λ n. n ≡ m)) (long ∙ sym (marks_long e.kinds e.consts.items e.steps.items) ∙ ap (λ x. length x.marks) c.self.view_is) c.number.ensures
+    subst (λ (m : ℕ). IfOk c.number.result (λ n. n ≡ m)) (long ∙ sym (marks_long e.kinds e.here.stacks e.consts.items e.steps.items) ∙ ap (λ x. length x.marks) c.self.view_is) c.number.ensures

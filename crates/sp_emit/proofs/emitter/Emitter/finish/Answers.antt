@@ -1,6 +1,9 @@
-use Rattle.std.proofs.Common.{◌∙◌, subst}
+use Rattle.std.proofs.Common.{List, [], ◌∙◌, subst, sym}
+use Rattle.sp_code.specs.Programs.{stacks_from, opens_from, shapes_at}
+use Rattle.sp_code.specs.declared.program.OpenRow.{OpenRow}
+use Rattle.sp_lower_expr.specs.Marked.{Shows}
 use Rattle.sp_emit.specs.declared.emission.Emission.{Emission}
-use Rattle.sp_emit.specs.Numbered.{here_parts}
+use Rattle.sp_emit.specs.inside.Fields.{marks_in}
 use Rattle.sp_emit.specs.Emission.{IsEmission}
 use Rattle.sp_emit.proofs.Finished.{finished}
 use Rattle.sp_emit.proofs.emitter.Emitter.finish.Goals as goal
@@ -9,6 +12,8 @@ pub returns : goal.returns
 returns c =
     let e = c.self.inside in
     let parts = c.in_ok-code.ensures in
-    let all = finished e.kinds e.consts.items e.steps.items (here_parts e.here) c.in_ok-code.code.items c.in_ok-code.at.items c.self.invariant parts.0 parts.1 in
-    let x : Emission = record { code = c.in_ok-code.code; consts = c.new.result; kinds = c.into_rows.result; at = c.in_ok-code.at } in
-    subst (λ s. IsEmission s x) c.self.view_is (record { kinds = c.into_rows.ensures; counted = all.0; code = λ p is consts. all.1 p is (consts ∙ c.new.ensures); shapes = all.2 })
+    let all = finished e.kinds e.consts.items e.steps.items e.here c.in_ok-code.code.items c.in_ok-code.at.items c.self.invariant parts.0 parts.1 in
+    let rows = c.into_rows-2.result.items in
+    let x : Emission = record { code = c.in_ok-code.code; consts = c.new.result; kinds = c.into_rows.result; stacks = c.into_rows-2.result; opens = c.new-2.result; at = c.in_ok-code.at } in
+    let shows = subst (λ (os : List OpenRow). Shows (shapes_at e.kinds (stacks_from [] rows) (opens_from e.kinds (stacks_from [] rows) [] os) c.in_ok-code.at.items) 0 (marks_in e.kinds e.here.stacks e.consts.items e.steps.items)) (sym c.new-2.ensures.items) (all.2 (stacks_from [] rows) c.into_rows-2.ensures) in
+    subst (λ s. IsEmission s x) c.self.view_is (record { kinds = c.into_rows.ensures; counted = all.0; code = λ p is consts. all.1 p is (consts ∙ c.new.ensures); shapes = shows })

@@ -1,0 +1,5 @@
+pub mod Straight
+pub mod Rounds
+pub mod Choices
+pub mod Tests
+pub mod Sequels

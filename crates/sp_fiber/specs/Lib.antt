@@ -1,0 +1,4 @@
+pub mod Moves
+pub mod Fibers
+pub mod Standing
+pub mod Rows

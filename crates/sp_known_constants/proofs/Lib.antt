@@ -1,0 +1,14 @@
+pub mod Evaluated
+pub mod Fine
+pub mod Declarations
+pub mod Labels
+pub mod Places
+pub mod Paths
+pub mod Clear
+pub mod Spines
+pub mod Typed
+pub mod Constants
+pub mod Enums
+pub mod Rounds
+pub mod Named
+pub mod Whole

@@ -1,0 +1,241 @@
+-- Where the answers of constants and labels stand, and what they are where they are settled.
+use Rattle.std.specs.Prelude.{◌==◌, nat_lt, if◌then◌else◌}
+use Rattle.std.specs.List.{list_all}
+use Rattle.std.proofs.Common.{ℕ, ◌≡◌, ◌<◌, ◌+◌, ◌-◌, zero, suc, Bool, true, false, refl, sym, ap, subst, ◌∙◌, arith, List, [], ◌∷◌, ◌++◌, length, take, Option, Some, None, slice_get}
+use Rattle.std.proofs.lemmas.Bool.{and_parts, and_from}
+use Rattle.std.proofs.lemmas.Bool.Decides.{nat_tests}
+use Rattle.std.proofs.lemmas.List.Folds.{list_all-append}
+use Rattle.sp_ast.specs.Trees.{Tree}
+use Rattle.sp_value.specs.Val.{enum}
+use Rattle.sp_types.specs.declared.words.Word.TheVariants as word_is
+use Rattle.sp_types.specs.Types.{Ty, word}
+use Rattle.sp_solver.specs.declared.attempt.Attempt.{Attempt}
+use Rattle.sp_solver.specs.Rounds.{got, round, IsSettled}
+use Rattle.sp_dependencies.specs.Tries.{first_open, when_open, nowhere, tries}
+use Rattle.sp_dependencies.specs.TryLaws.{try_within, when_done}
+use Rattle.sp_names.specs.declared.rows.Declaration.{Declaration}
+use Rattle.sp_names.specs.declared.sort.DeclSort.{DeclSort}
+use Rattle.sp_names.specs.declared.sort.DeclSort.TheVariants as sort_is
+use Rattle.sp_names.specs.Declarations.{rows, sort_of, sort_or, sort_at, sort_number, all_of, all_from, declaration_at, number_in, number_at, library_enums, type_tree_of}
+use Rattle.sp_names.specs.Names.{declaration_of, enum_labels, own_labels}
+use Rattle.sp_names.specs.Types.{one_or_none}
+use Rattle.sp_typing_units.specs.Attributes.{present}
+use Rattle.sp_constants.specs.declared.outcome.Outcome.{Outcome}
+use Rattle.sp_constants.specs.declared.outcome.Outcome.TheVariants as outcome_is
+use Rattle.sp_constants.specs.Outcomes.{used}
+use Rattle.sp_list_rules.specs.Told.{constant_outcome, constant_told}
+use Rattle.sp_declared_values.specs.declared.valued.Valued.{Valued}
+use Rattle.sp_declared_values.specs.declared.valued.Valued.TheVariants as valued_is
+use Rattle.sp_declared_values.specs.declared.answer.Answer.{Answer}
+use Rattle.sp_declared_values.specs.Valued.{number_tree, if_constant, constants_among, constants, label_of, labels_from, declared_labels, labels_before, labels, valued, constant_place, own_place, label_place, needs}
+use Rattle.sp_declared_values.specs.Answers.{answer_at, value_or, type_or, written_of, constant_type, constant_value, label_value, answer_of, gives}
+use Rattle.sp_declared_values.specs.TypedRows.{shown_value, next_constant, if_declared, constants_from, typed_constants}
+use Rattle.sp_known_types.specs.Full.{is_full}
+use Rattle.sp_known_types.proofs.Full.{never}
+use Rattle.sp_known_values.specs.Values.{fits}
+use Rattle.sp_whole_list.proofs.Modules.{none_found, some_found}
+use Rattle.sp_known_constants.specs.Good.{is_good, is_answered, are_answered}
+use Rattle.sp_known_constants.proofs.Declarations.{is_constant_sort}
+
+-- what fits a type still does where it is named, and where it is told
+pub used_fits : (t : Ty) (o : Outcome) → fits t o ≡ true → fits t (used o) ≡ true
+used_fits t outcome_is.NotConstant e = refl
+used_fits t _ e = e
+
+told_fits : (t : Ty) (o : Outcome) → fits t o ≡ true → fits t (used (constant_outcome (shown_value o))) ≡ true
+told_fits t (outcome_is.Value v) e = e
+told_fits t (outcome_is.Regex text) e = e
+told_fits t outcome_is.NotConstant e = refl
+told_fits t outcome_is.Error e = refl
+told_fits t outcome_is.Unknown e = never e
+
+-- each enum's labels are alike
+pub enum_fits : (x y : ℕ) (o : Outcome) → fits (word (word_is.Enum x)) o ≡ true → fits (word (word_is.Enum y)) o ≡ true
+enum_fits x y (outcome_is.Value (enum k n)) e = refl
+enum_fits x y (outcome_is.Value _) e = never e
+enum_fits x y (outcome_is.Regex text) e = never e
+enum_fits x y outcome_is.NotConstant e = refl
+enum_fits x y outcome_is.Error e = refl
+enum_fits x y outcome_is.Unknown e = never e
+
+type_good : (w : Option Ty) (o : Option Answer) → is_answered o ≡ true → is_full (type_or w o) ≡ true
+type_good None None e = never e
+type_good (Some t) None e = never e
+type_good None (Some a) e = (and_parts (is_full a.ty) (fits a.ty a.value) e).0
+type_good (Some t) (Some a) e = (and_parts (is_full a.ty) (fits a.ty a.value) e).0
+
+value_good : (w : Option Ty) (o : Option Answer) → is_answered o ≡ true → fits (type_or w o) (value_or o) ≡ true
+value_good None None e = never e
+value_good (Some t) None e = never e
+value_good None (Some a) e = (and_parts (is_full a.ty) (fits a.ty a.value) e).1
+value_good (Some t) (Some a) e = (and_parts (is_full a.ty) (fits a.ty a.value) e).1
+
+-- places in rows
+pub behind_front : {A : Type 0} (xs ys : List A) (j : ℕ) → slice_get (xs ++ ys) (length xs + j) ≡ slice_get ys j
+behind_front [] ys j = (let e : 0 + j ≡ j = omega arith in ap (slice_get ys) e)
+behind_front (x ∷ xs) ys j =
+    let e : suc (length xs) + j ≡ suc (length xs + j) = omega arith in
+    ap (slice_get (x ∷ (xs ++ ys))) e ∙ behind_front xs ys j
+
+-- labels are no constants
+abbrev is_label : Valued → Bool
+is_label (valued_is.Constant m written value) = false
+is_label _ = true
+
+label_is : (owner m : ℕ) (first : Bool) (o : Option Tree) → is_label (label_of owner m first o) ≡ true
+label_is owner m first (Some number) = refl
+label_is owner m true None = refl
+label_is owner m false None = refl
+
+labels_are : (owner m : ℕ) (first : Bool) (ts : List Tree) → list_all is_label (labels_from owner m first ts) ≡ true
+labels_are owner m first [] = refl
+labels_are owner m first (t ∷ ts) =
+    and_from (is_label (label_of owner m first (present (number_tree t)))) (list_all is_label (labels_from owner m false ts)) (label_is owner m first (present (number_tree t))) (labels_are owner m false ts)
+
+declared_are : (owner : ℕ) (o : Option Declaration) → list_all is_label (declared_labels owner o) ≡ true
+declared_are owner None = refl
+declared_are owner (Some d) = labels_are owner d.«module» true (enum_labels (type_tree_of d.tree))
+
+all_are : (list : List Tree) (n : ℕ) → list_all is_label (labels_before list n) ≡ true
+all_are list zero = refl
+all_are list (suc n) =
+    let last = declared_labels (library_enums + n) (declaration_of list (slice_get (all_of sort_is.Enum list) n)) in
+    list_all-append is_label (labels_before list n) last
+    ∙ and_from (list_all is_label (labels_before list n)) (list_all is_label last) (all_are list n) (declared_are (library_enums + n) (declaration_of list (slice_get (all_of sort_is.Enum list) n)))
+
+label_at : (vs : List Valued) (j : ℕ) (v : Valued) → list_all is_label vs ≡ true → slice_get vs j ≡ Some v → is_label v ≡ true
+label_at [] j v all e = none_found v e
+label_at (x ∷ vs) zero v all e = sym (ap is_label (some_found x v e)) ∙ (and_parts (is_label x) (list_all is_label vs) all).0
+label_at (x ∷ vs) (suc j) v all e = label_at vs j v (and_parts (is_label x) (list_all is_label vs) all).1 e
+
+module _ (list : List Tree) (f : ℕ → Option Ty) where
+  -- how many constants stand before one
+  one_fewer : (s : DeclSort) (d : Declaration) (vs : List Valued) (xs : List ℕ) (h : ℕ) → length xs < length vs → length (if sort_number s == 6 then h ∷ xs else xs) < length (if_constant list f d s ++ vs)
+  one_fewer sort_is.Constant d vs xs h lt = omega (arith, lt)
+  one_fewer _ d vs xs h lt = lt
+
+  fewer : (ds : List Declaration) (h g : ℕ) (d : Declaration) → slice_get ds g ≡ Some d → sort_of d.tree ≡ sort_is.Constant → length (all_from sort_is.Constant h (take g ds)) < length (constants_among list f ds)
+  fewer [] h g d at is = none_found d at
+  fewer (x ∷ ds) h zero d at is =
+      let s : sort_of x.tree ≡ sort_is.Constant = ap (λ (y : Declaration). sort_of y.tree) (some_found x d at) ∙ is in
+      subst (λ s. 0 < length (if_constant list f x s ++ constants_among list f ds)) (sym s) (omega arith)
+  fewer (x ∷ ds) h (suc g) d at is = one_fewer (sort_of x.tree) x (constants_among list f ds) (all_from sort_is.Constant (suc h) (take g ds)) h (fewer ds (suc h) g d at is)
+
+  pub constant_there : (g : ℕ) → sort_at list g ≡ sort_is.Constant → number_at list g < length (constants list f)
+  constant_there g e = by (declaration_at list g) refl
+    where
+      by : (o : Option Declaration) → declaration_at list g ≡ o → number_at list g < length (constants list f)
+      by None at = never (sym (ap (λ o. is_constant_sort (sort_or o)) at) ∙ ap is_constant_sort e)
+      by (Some d) at =
+          let s : sort_of d.tree ≡ sort_is.Constant = sym (ap sort_or at) ∙ e in
+          subst (λ n. n < length (constants list f)) (sym (ap (number_in (rows list) g) e)) (fewer (rows list) 0 g d at s)
+
+  pub place_is : (n : ℕ) → n < length (constants list f) → constant_place list f n ≡ Some n
+  place_is n lt =
+      let b : nat_lt n (length (constants list f)) ≡ true = grind (arith, nat_tests) in
+      ap (λ b. if b then Some n else None) b
+
+  module _ (known : ℕ → Option Answer) where
+    pub constant_typed : (n : ℕ) → n < length (constants list f) → is_answered (known n) ≡ true → is_full (constant_type list f known n) ≡ true
+    constant_typed n lt e =
+        let w = written_of (slice_get (valued list f) n) in
+        ap (λ p. is_full (type_or w (answer_at known p))) (place_is n lt) ∙ type_good w (known n) e
+
+    pub constant_fits : (n : ℕ) → n < length (constants list f) → is_answered (known n) ≡ true → fits (constant_type list f known n) (constant_value list f known n) ≡ true
+    constant_fits n lt e =
+        let w = written_of (slice_get (valued list f) n) in
+        ap (λ p. fits (type_or w (answer_at known p)) (value_or (answer_at known p))) (place_is n lt) ∙ value_good w (known n) e
+
+    -- what the typed list tells of a constant
+    abbrev Tells : List Declaration → ℕ → ℕ → Type 0
+    Tells ds n k = constant_told (slice_get (constants_from list f known n ds) k) ≡ constant_outcome (shown_value (constant_value list f known (n + k)))
+
+    one_tells : (s : DeclSort) (d : Declaration) (ds : List Declaration) (n k : ℕ) → ((m j : ℕ) → j < length (constants_among list f ds) → Tells ds m j) → k < length (if_constant list f d s ++ constants_among list f ds)
+        → constant_told (slice_get (if_declared list f known n d s ++ constants_from list f known (next_constant list f known n s) ds) k) ≡ constant_outcome (shown_value (constant_value list f known (n + k)))
+    one_tells sort_is.Constant d ds n zero h lt =
+        let e : n ≡ n + 0 = omega arith in
+        ap (λ i. constant_outcome (shown_value (constant_value list f known i))) e
+    one_tells sort_is.Constant d ds n (suc k) h lt =
+        let e : suc n + k ≡ n + suc k = omega arith in
+        h (suc n) k (omega (arith, lt)) ∙ ap (λ i. constant_outcome (shown_value (constant_value list f known i))) e
+    one_tells _ d ds n k h lt = h n k lt
+
+    all_tell : (ds : List Declaration) (n k : ℕ) → k < length (constants_among list f ds) → Tells ds n k
+    all_tell [] n k lt = absurd (let z : ⊥ = omega (arith, lt) in z)
+    all_tell (d ∷ ds) n k lt = one_tells (sort_of d.tree) d ds n k (all_tell ds) lt
+
+    pub constant_tells : (n : ℕ) → n < length (constants list f) → is_answered (known n) ≡ true → fits (constant_type list f known n) (used (constant_told (slice_get (typed_constants list f known) n))) ≡ true
+    constant_tells n lt e =
+        let s : 0 + n ≡ n = omega arith in
+        let t = constant_type list f known n in
+        ap (λ o. fits t (used o)) (all_tell (rows list) 0 n lt)
+        ∙ ap (λ i. fits t (used (constant_outcome (shown_value (constant_value list f known i))))) s
+        ∙ told_fits t (constant_value list f known n) (constant_fits n lt e)
+
+    -- where answers are settled
+    abbrev all : ℕ
+    all = length (valued list f)
+
+    abbrev try : (ℕ → Option Answer) → ℕ → Attempt Answer
+    try = tries all (needs list f) (gives list f)
+
+    nowhere_got : (o : Option Answer) (i : ℕ) (a : Answer) → got (nowhere o i) ≡ Some a → o ≡ Some a
+    nowhere_got None i a e = none_found a e
+    nowhere_got (Some b) i a e = e
+
+    pub in_row : (k i : ℕ) (a : Answer) → round try k i ≡ Some a → i < all
+    in_row zero i a e = none_found a e
+    in_row (suc k) i a e = by (λ h. in_row k i a h) (nat_lt i all) refl e
+      where
+        by : (round try k i ≡ Some a → i < all) → (b : Bool) → nat_lt i all ≡ b → got (if b then when_open (gives list f (round try k) i) (first_open (round try k) (needs list f i)) else nowhere (round try k i) i) ≡ Some a → i < all
+        by before true c h = grind (arith, nat_tests)
+        by before false c h = before (nowhere_got (round try k i) i a h)
+
+    module _ (settled : IsSettled try known) where
+      pub answer_is : (i : ℕ) (a : Answer) → known i ≡ Some a → gives list f known i ≡ a
+      answer_is i a e =
+          let k = settled.found i a e in
+          let lt = in_row k.0 i a k.1 in
+          (when_done (gives list f known i) a (first_open known (needs list f i)) (sym (try_within all (needs list f) (gives list f) known i lt) ∙ settled.solved i a e)).1
+
+      -- the value of a label is one of an enum
+      case_fits : (owner p : ℕ) (v : Valued) → is_label v ≡ true → is_good (answer_of list f known p (Some v)) ≡ true → fits (word (word_is.Enum owner)) (answer_of list f known p (Some v)).value ≡ true
+      case_fits owner p (valued_is.Constant m written value) l e = never l
+      case_fits owner p (valued_is.Numbered x m number) l e = enum_fits x owner (answer_of list f known p (Some (valued_is.Numbered x m number))).value e
+      case_fits owner p (valued_is.First x) l e = enum_fits x owner (answer_of list f known p (Some (valued_is.First x))).value e
+      case_fits owner p (valued_is.Next x) l e = enum_fits x owner (answer_of list f known p (Some (valued_is.Next x))).value e
+
+      entry_fits : (owner p j : ℕ) (a : Answer) (o : Option Valued) → slice_get (labels list) j ≡ o → answer_of list f known p o ≡ a → is_good a ≡ true → fits (word (word_is.Enum owner)) a.value ≡ true
+      entry_fits owner p j a None at same good = sym (ap (λ (a : Answer). fits (word (word_is.Enum owner)) a.value) same)
+      entry_fits owner p j a (Some v) at same good =
+          sym (ap (λ (a : Answer). fits (word (word_is.Enum owner)) a.value) same)
+          ∙ case_fits owner p v (label_at (labels list) j v (all_are list (length (all_of sort_is.Enum list))) at) (ap is_good same ∙ good)
+
+      label_fits : (owner j : ℕ) (a : Answer) → known (length (constants list f) + j) ≡ Some a → is_good a ≡ true → fits (word (word_is.Enum owner)) a.value ≡ true
+      label_fits owner j a at good =
+          let p = length (constants list f) + j in
+          entry_fits owner p j a (slice_get (labels list) j) refl (sym (ap (answer_of list f known p) (behind_front (constants list f) (labels list) j)) ∙ answer_is p a at) good
+
+      -- the same, where it is answered
+      pub placed_fits : (owner j : ℕ) → is_answered (known (length (constants list f) + j)) ≡ true → fits (word (word_is.Enum owner)) (value_or (known (length (constants list f) + j))) ≡ true
+      placed_fits owner j e = by (known (length (constants list f) + j)) refl e
+        where
+          by : (o : Option Answer) → known (length (constants list f) + j) ≡ o → is_answered o ≡ true → fits (word (word_is.Enum owner)) (value_or o) ≡ true
+          by None at h = never h
+          by (Some a) at h = label_fits owner j a at h
+
+      pub value_fits : (owner n : ℕ) → are_answered known (one_or_none (label_place list f owner n)) ≡ true → fits (word (word_is.Enum owner)) (label_value list f known owner n) ≡ true
+      value_fits owner n e = by (nat_lt owner library_enums) e
+        where
+          own : (many before : ℕ) (c : Bool) → ((j : ℕ) → is_answered (known (many + j)) ≡ true → fits (word (word_is.Enum owner)) (value_or (known (many + j))) ≡ true)
+              → are_answered known (one_or_none (if c then Some (many + before + n) else None)) ≡ true → fits (word (word_is.Enum owner)) (value_or (answer_at known (if c then Some (many + before + n) else None))) ≡ true
+          own many before true fit h =
+              let s : many + (before + n) ≡ many + before + n = omega arith in
+              subst (λ p. is_answered (known p) ≡ true → fits (word (word_is.Enum owner)) (value_or (known p)) ≡ true) s (fit (before + n)) (and_parts (is_answered (known (many + before + n))) true h).0
+          own many before false fit h = refl
+
+          by : (b : Bool) → are_answered known (one_or_none (if b then None else own_place list f (owner - library_enums) n)) ≡ true
+              → fits (word (word_is.Enum owner)) (if b then outcome_is.Value (enum owner n) else value_or (answer_at known (if b then None else own_place list f (owner - library_enums) n))) ≡ true
+          by true h = refl
+          by false h =
+              own (length (constants list f)) (length (labels_before list (owner - library_enums))) (nat_lt n (length (own_labels list (owner - library_enums)))) (placed_fits owner) h

@@ -1,0 +1,4 @@
+pub mod Good
+pub mod Fine
+pub mod Given
+pub mod Rows

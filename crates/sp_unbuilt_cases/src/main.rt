@@ -1,0 +1,47 @@
+// Reads lists of modules with the first construct that isn't built in each, and tells which have another. A line of `@` and an
+// answer begins a list, and a line of `@` alone a further module of it; all other lines are the texts of the modules. What
+// stands before the first list is for readers. The answer is `built`, or the place of the construct as `MODULE:LINE:COLUMN`,
+// modules counted from 1 in the order of the list; or `M` and the number of the rule that the list breaks.
+#![tactic(auto)]
+
+mod answers;
+mod lists;
+mod texts;
+
+use answers::answer;
+use lists::{List, Lists};
+use std::alloc::{AllocError, Global};
+use std::io;
+
+/// The line that tells of a list that is answered otherwise.
+fn difference(alloc: Global, list: &List) -> Result<Option<String>, AllocError> {
+    let wanted = list.wanted();
+    let got = answer(alloc, list.texts())?;
+    if got.as_str() == wanted {
+        return Ok(None);
+    }
+    let line = list.line();
+    let got = got.as_str();
+    let told = format!(in alloc; "line {line}: {wanted} : {got}")?;
+    Ok(Some(told))
+}
+
+fn main(rt: HostRuntime) -> io::Result<()> {
+    let mut lists = Lists::new(rt.alloc());
+    for line in rt.lines(rt.alloc()) {
+        let line = line?;
+        lists.add_line(rt.alloc(), line.as_str())?;
+    }
+    let mut asked: u64 = 0;
+    let mut wrong: u64 = 0;
+    for list in lists.as_slice() {
+        asked = asked.saturating_add(1);
+        if let Some(told) = difference(rt.alloc(), list)? {
+            wrong = wrong.saturating_add(1);
+            let told = told.as_str();
+            println!(rt; "{told}")?;
+        }
+    }
+    println!(rt; "{asked} lists, {wrong} answered otherwise")?;
+    Ok(())
+}

@@ -1,0 +1,4 @@
+pub mod Ranking
+pub mod Sorting
+pub mod Bodies
+pub mod Gathering

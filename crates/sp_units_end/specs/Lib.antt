@@ -1,0 +1,5 @@
+pub mod Built
+pub mod Fuel
+pub mod Meaning
+pub mod Laws
+pub mod Rows

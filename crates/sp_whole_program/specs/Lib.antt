@@ -1,0 +1,4 @@
+pub mod Fits
+pub mod Meant
+pub mod Laws
+pub mod Rows
