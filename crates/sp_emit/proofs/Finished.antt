@@ -69,10 +69,12 @@ map_long f (x ∷ xs) = ap suc (map_long f xs)
 
 pub finished : (ks : List Kind) (vs : List Val) (xs : List Step) (m : Numbered) (code : List Instr) (at : List ShapeRow) → StandsOn ks vs xs m → code ≡ map step_instr xs → at ≡ map step_before xs
     → (length code ≡ length (marks_in ks m.stacks vs xs))
+    × (length at ≡ length (marks_in ks m.stacks vs xs))
     × ((p : Plain) → p.code ≡ code → p.consts ≡ vs → HasAt p 0 (marks_in ks m.stacks vs xs))
     × ((ss : List (List ℕ)) → ss ≡ m.stacks → Shows (shapes_at ks ss [] at) 0 (marks_in ks m.stacks vs xs))
 finished ks vs xs m code at h is_code is_at = (
   ap length is_code ∙ map_long step_instr xs ∙ sym (marks_long ks m.stacks vs xs),
+  ap length is_at ∙ map_long step_before xs ∙ sym (marks_long ks m.stacks vs xs),
   λ p is consts.
       subst (λ (ws : List Val). HasAt p 0 (marks_in ks m.stacks ws xs)) consts
       (has_behind p ks m.stacks [] xs (is ∙ is_code) (subst (λ (ws : List Val). AllByRecursion (IsStep (length ks) m.stacks (length ws)) xs) (sym consts) h.steps)),

@@ -113,7 +113,7 @@ fn neither(a: &Option<Expr>, b: &Option<Expr>) -> bool
 
 /// The form of a field, where it is an integer and has no condition, no sink, and no attribute but a byte order.
 #[tactic(auto, using(crate::proofs::Formed::without, crate::proofs::Formed::with_either))]
-pub(crate) fn integer_field(order: Option<u64>, field: &Field) -> Option<IntForm>
+pub fn integer_field(order: Option<u64>, field: &Field) -> Option<IntForm>
     ensures { read_as result ≡ forms.integer_field order field.now }
 {
     if neither(&field.condition, &field.sink) {

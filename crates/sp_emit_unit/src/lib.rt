@@ -12,6 +12,8 @@ mod starters;
 mod units;
 mod variables;
 
+pub use integers::integer_field;
+pub use orders::last_order;
 pub use slots::zero_slots;
 pub use starters::starter;
 pub use units::{ending, failing, unit};

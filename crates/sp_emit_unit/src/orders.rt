@@ -5,7 +5,7 @@ ghost use Rattle.sp_bodies.specs.Units.{last_order};
 use sp_typed_units::OrderProperty;
 
 /// The last of several orders, or the one that stands outside where there is none.
-pub(crate) fn last_order(order: Option<u64>, properties: &[OrderProperty]) -> Option<u64>
+pub fn last_order(order: Option<u64>, properties: &[OrderProperty]) -> Option<u64>
     ensures { result ≡ last_order order properties.now }
 {
     let mut last = order;

@@ -4,5 +4,7 @@ pub mod Members
 pub mod Made
 pub mod Entries
 pub mod Safety
+pub mod InPlace
+pub mod Spots
 pub mod Running
 pub mod Quiet

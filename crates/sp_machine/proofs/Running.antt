@@ -1,6 +1,6 @@
 -- Runs of a machine, put together of its steps.
-use Rattle.std.proofs.Common.{◌≡◌, ◌<◌, List, [], ◌++◌, refl, sym, ap, ◌∙◌, subst, append-nil, append_assoc}
-use Rattle.std.specs.Prelude.{Bool}
+use Rattle.std.proofs.Common.{◌≡◌, ◌<◌, ℕ, suc, List, [], ◌∷◌, ◌++◌, Result, Ok, Err, refl, sym, ap, ◌∙◌, subst, append-nil, append_assoc, arith}
+use Rattle.std.specs.Prelude.{Bool, IfOk}
 use Rattle.sp_events.specs.declared.event.What.{What}
 use Rattle.sp_window.specs.Windows.{Held}
 use Rattle.sp_running.specs.States.{Reading}
@@ -18,12 +18,20 @@ use Rattle.sp_machine.specs.declared.machine.Stop.{Stop}
 use Rattle.sp_machine.specs.declared.machine.Stop.TheVariants as stop_is
 use Rattle.sp_machine.specs.Plain.{no_tokens, close_of, reads_of, Does}
 use Rattle.sp_machine.specs.Safe.{IsSafe}
-use Rattle.sp_machine.specs.Ran.{Came, IsStop, Ran}
+use Rattle.sp_machine.specs.declared.in_place.Slot.{Slot}
+use Rattle.sp_machine.specs.InPlace.{IsStored, IsPut, behind, with_slot}
+use Rattle.sp_machine.specs.Ran.{Came, IsStop, Ran, Advanced}
+use Rattle.sp_machine.proofs.InPlace.{stores}
 
 -- one more step
 further : (p : Plain) (reads : Reading → Ask → Read) (c d e : Config) (es fs : List What) → Comes p reads c es d → step p reads d ≡ Goes fs e → Comes p reads c (es ++ fs) e
 further p reads c _ e _ fs here h = subst (λ l. Comes p reads c l e) (append-nil fs) (next h here)
 further p reads c d e _ fs (next {es = gs} {fs = hs} g rest) h = subst (λ l. Comes p reads c l e) (sym (append_assoc gs hs fs)) (next g (further p reads _ d e hs fs rest h))
+
+-- one run behind another
+then_comes : (p : Plain) (reads : Reading → Ask → Read) (c d e : Config) (es fs : List What) → Comes p reads c es d → Comes p reads d fs e → Comes p reads c (es ++ fs) e
+then_comes p reads c _ e _ fs here h = h
+then_comes p reads c d e _ fs (next {es = gs} {fs = hs} g rest) h = subst (λ l. Comes p reads c l e) (sym (append_assoc gs hs fs)) (next g (then_comes p reads _ d e hs fs rest h))
 
 -- where a step went
 record Went (old new : List What) (after : Config) (n : Next) : Type 0 where
@@ -91,11 +99,65 @@ module _ (p : Plain) (w : Held) (is_ended : Bool) where
   stays stop_is.Over old new before after (Goes es d) isnt h = absurd h
   stays stop_is.Over old new before after (Waits m) isnt h = absurd h
 
+  does_not_go_on : (stop : Stop) (old new : List What) (before after : Config) → (stop ≡ stop_is.GoesOn → ⊥) → Advanced p (reads_of w is_ended) w old new before after stop
+      → Does stop old new before after (step p (reads_of w is_ended) before)
+  does_not_go_on stop_is.GoesOn old new before after isnt h = absurd (isnt refl)
+  does_not_go_on stop_is.Need old new before after isnt h = h
+  does_not_go_on stop_is.Over old new before after isnt h = h
+
   pub ran : (stop : Stop) (start old new : List What) (c before after : Config) → (stop ≡ stop_is.GoesOn → ⊥) → Came p (reads_of w is_ended) w start old c before
-      → Does stop old new before after (step p (reads_of w is_ended) before) → Ran p (reads_of w is_ended) w start new c after stop
+      → Advanced p (reads_of w is_ended) w old new before after stop → Ran p (reads_of w is_ended) w start new c after stop
   ran stop start old new c before after isnt h g =
-      let x = stays stop old new before after (step p (reads_of w is_ended) before) isnt g in
+      let x = stays stop old new before after (step p (reads_of w is_ended) before) isnt (does_not_go_on stop old new before after isnt g) in
       record {
         came = subst (λ l. Came p (reads_of w is_ended) w start l c after) (sym x.0) (subst (λ d. Came p (reads_of w is_ended) w start old c d) (sym x.1) h);
         stops = subst (λ d. IsStop stop (step p (reads_of w is_ended) d)) (sym x.1) x.2;
       }
+
+  -- a further stretch of the run
+  pub came_both : (start old new : List What) (c before after : Config) → Came p (reads_of w is_ended) w start old c before → Came p (reads_of w is_ended) w old new before after
+      → Came p (reads_of w is_ended) w start new c after
+  came_both start old new c before after h g =
+      record {
+        events = h.events ++ g.events;
+        told = g.told ∙ ap (λ l. l ++ g.events) h.told ∙ append_assoc start h.events g.events;
+        comes = then_comes p (reads_of w is_ended) c before after h.events g.events h.comes g.comes;
+        safe = g.safe;
+      }
+
+  -- one step is a turn
+  pub advanced : Turns p → (stop : Stop) (old new : List What) (before after : Config) → IsSafe p w before → Does stop old new before after (step p (reads_of w is_ended) before)
+      → Advanced p (reads_of w is_ended) w old new before after stop
+  advanced turns stop_is.GoesOn old new before after safe h = (came_on old old new before before after (not_yet old before safe) h, fewer_left turns old new before after safe h)
+  advanced turns stop_is.Need old new before after safe h = h
+  advanced turns stop_is.Over old new before after safe h = h
+
+  pub advanced_ok : {E : Type 0} (r : Result Stop E) → Turns p → (old new : List What) (before after : Config) → IsSafe p w before → IfOk r (λ stop. Does stop old new before after (step p (reads_of w is_ended) before))
+      → IfOk r (Advanced p (reads_of w is_ended) w old new before after)
+  advanced_ok (Ok stop) turns old new before after safe h = advanced turns stop old new before after safe h
+  advanced_ok (Err e) turns old new before after safe h = h
+
+  -- some steps, behind which no more are left
+  came_along : Turns p → (old : List What) (c d : Config) (es : List What) → IsSafe p w c → Comes p (reads_of w is_ended) c es d
+      → IsSafe p w d × (steps_left p (whole w.base w.bytes) d < suc (steps_left p (whole w.base w.bytes) c))
+  came_along turns old c _ _ safe here = (safe, omega arith)
+  came_along turns old c d _ safe (next {d = b} {es = es} {fs = fs} g rest) =
+      let fewer = falls_on turns c b es safe g in
+      let h = came_along turns old b d fs (safe_on c b es safe g) rest in
+      let less = h.1 in
+      (h.0, omega (arith, fewer, less))
+
+  -- so is a step and those that store what it gives
+  pub advanced_put : Turns p → (slot : Slot) (at : ℕ) (old : List What) (before after : Config) (n : Next) → IsSafe p w before → step p (reads_of w is_ended) before ≡ n → IsStored p.code at slot → IsPut slot at n after
+      → Advanced p (reads_of w is_ended) w old old before after stop_is.GoesOn
+  advanced_put turns slot at old before after (Goes [] (At pc (v ∷ vs) fs st)) safe e stored put =
+      let there = At (behind slot at) vs fs (with_slot slot v st) in
+      let one = subst (λ q. step p (reads_of w is_ended) before ≡ Goes [] (At q (v ∷ vs) fs st)) put.0 e in
+      let rest = stores p (reads_of w is_ended) slot at v vs fs st stored in
+      let fewer = falls_on turns before (At at (v ∷ vs) fs st) [] safe one in
+      let h = came_along turns old (At at (v ∷ vs) fs st) there [] (safe_on before (At at (v ∷ vs) fs st) [] safe one) rest in
+      let less = h.1 in
+      subst (λ d. Advanced p (reads_of w is_ended) w old old before d stop_is.GoesOn) (sym put.1) (record { events = []; told = sym (append-nil old); comes = next one rest; safe = h.0 }, omega (arith, fewer, less))
+  advanced_put turns slot at old before after (Goes [] (Ending how fs st)) safe e stored put =
+      subst (λ d. Advanced p (reads_of w is_ended) w old old before d stop_is.GoesOn) (sym put) (advanced turns stop_is.GoesOn old old before (Ending how fs st) safe (subst (Does stop_is.GoesOn old old before (Ending how fs st)) (sym e) (sym (append-nil old), refl)))
+  advanced_put turns slot at old before after _ safe e stored put = absurd put

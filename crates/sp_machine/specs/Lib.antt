@@ -3,4 +3,5 @@ pub mod Rows
 pub mod Bodies
 pub mod Methods
 pub mod Safe
+pub mod InPlace
 pub mod Ran

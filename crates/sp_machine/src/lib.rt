@@ -3,6 +3,7 @@
 
 mod calls;
 mod flow;
+mod in_place;
 mod library;
 mod machine;
 mod makes;

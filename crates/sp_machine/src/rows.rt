@@ -83,7 +83,7 @@ pub(crate) enum Spot {
 }
 
 #[tactic(auto, using(sp_value::proofs::Lists::list_of_vals_of))]
-fn spot_of(container: &Value, key: &Value) -> Spot
+pub(crate) fn spot_of(container: &Value, key: &Value) -> Spot
     requires { IsPlace container.now key.now }
     ensures { IsSpot container.now key.now result }
 {

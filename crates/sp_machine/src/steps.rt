@@ -6,7 +6,7 @@ ghost use Rattle.sp_code.specs.Programs.{plain_of};
 ghost use Rattle.sp_machine.specs.declared.machine.Mode.TheVariants.{Running};
 ghost use Rattle.sp_machine.specs.Plain.{state_of, plain, reads_of, Does};
 ghost use Rattle.sp_machine.specs.Safe.{IsSafe};
-ghost use Rattle.sp_machine.specs.Ran.{Ran};
+ghost use Rattle.sp_machine.specs.Ran.{Ran, Advanced};
 ghost use Rattle.sp_code.specs.Turns.{Turns};
 
 use crate::machine::{Machine, Mode, Stop};
@@ -125,9 +125,34 @@ impl Machine {
         }
     }
 
+    /// One step; or a change of a container and the steps that store it, at once.
+    #[tactic(auto, using(crate::proofs::Running::advanced_ok))]
+    fn advance(
+        &mut self,
+        p: &Program,
+        limits: &Limits,
+        window: &Window,
+        is_ended: bool,
+        told: &mut Vec<What>,
+    ) -> Result<Stop, NoMemory>
+        requires safe { IsSafe (plain_of limits.now p.now) window.now (plain self.old) }
+        requires turns { Turns (plain_of limits.now p.now) }
+        ensures { IfOk result (Advanced (plain_of limits.now p.now) (reads_of window.now is_ended) window.now
+            told.old.items told.new.items (plain self.old) (plain self.new)) }
+    {
+        if let Mode::Running = self.mode {
+            if let Some((instr, slot)) = self.change_at_hand(p) {
+                self.change(p, limits, window, is_ended, instr, slot)?;
+                return Ok(Stop::GoesOn);
+            }
+            return self.go(p, limits, window, is_ended, told);
+        }
+        self.step(p, limits, window, is_ended, told)
+    }
+
     /// Steps until the machine waits for more of its input, or all is over. A safe machine whose code
     /// counts its turns comes to such a stop, and is safe there.
-    #[tactic(auto, using(crate::proofs::Running::not_yet, crate::proofs::Running::came_on, crate::proofs::Running::fewer_left, crate::proofs::Running::ran))]
+    #[tactic(auto, using(crate::proofs::Running::not_yet, crate::proofs::Running::came_both, crate::proofs::Running::ran))]
     pub fn run(
         &mut self,
         p: &Program,
@@ -142,7 +167,7 @@ impl Machine {
             told.old.items told.new.items (plain self.old) (plain self.new) stop) }
     {
         loop {
-            match self.step(p, limits, window, is_ended, told)? {
+            match self.advance(p, limits, window, is_ended, told)? {
                 Stop::GoesOn => {}
                 stop => return Ok(stop),
             }

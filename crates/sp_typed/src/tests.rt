@@ -50,29 +50,53 @@ fn a_literal_takes_a_type(rt: HostRuntime) -> Result<(), NoMemory> {
     Ok(())
 }
 
-#[test]
-fn shapes_are_told(rt: HostRuntime) -> Result<(), NoMemory> {
-    let alloc = rt.alloc();
-    let span = Span { from: 0, to: 5 };
-    let ty = Type::word(Word::Uint(Width::W64));
-    let sum = Two {
-        span,
-        ty: ty.copy()?,
+const HERE: Span = Span { from: 0, to: 5 };
+
+fn sum(alloc: Global) -> Result<Expr, NoMemory> {
+    let head = Two {
+        span: HERE,
+        ty: Type::word(Word::Uint(Width::W64)),
         op: TwoOp::Binary(BinaryOp::Add),
     };
-    let sum = Expr::two(alloc, sum, number(0, 1), number(4, 2))?;
+    Expr::two(alloc, head, number(0, 1), number(4, 2))
+}
+
+#[test]
+fn two_parts_are_told(rt: HostRuntime) -> Result<(), NoMemory> {
+    let sum = sum(rt.alloc())?;
     let ExprLevel::Two(_, left, right) = sum.level() else {
         return Err(NoMemory);
     };
-    assert_eq!(rt; left.span().from, 0);
-    assert_eq!(rt; right.span().from, 4);
-    let choice = Expr::three(alloc, Three { span, ty }, sum, number(1, 1), number(2, 2))?;
+    assert!(rt; left.span().from == 0 && right.span().from == 4);
+    Ok(())
+}
+
+fn choice(alloc: Global) -> Result<Expr, NoMemory> {
+    let head = Three {
+        span: HERE,
+        ty: Type::word(Word::Uint(Width::W64)),
+    };
+    let condition = sum(alloc)?;
+    Expr::three(alloc, head, condition, number(1, 1), number(2, 2))
+}
+
+#[test]
+fn three_parts_are_told(rt: HostRuntime) -> Result<(), NoMemory> {
+    let choice = choice(rt.alloc())?;
     assert_eq!(rt; choice.levels(), 3);
-    let ExprParts::Three(_, condition, _, last) = choice.into_parts() else {
+    let ExprLevel::Three(_, condition, _, last) = choice.level() else {
         return Err(NoMemory);
     };
-    assert_eq!(rt; condition.levels(), 2);
-    assert_eq!(rt; last.span().from, 2);
+    assert!(rt; condition.levels() == 2 && last.span().from == 2);
+    Ok(())
+}
+
+#[test]
+fn parts_are_taken_out(rt: HostRuntime) -> Result<(), NoMemory> {
+    let ExprParts::Three(_, condition, _, last) = choice(rt.alloc())?.into_parts() else {
+        return Err(NoMemory);
+    };
+    assert!(rt; condition.levels() == 2 && last.span().from == 2);
     Ok(())
 }
 

@@ -1,10 +1,14 @@
 // Elements, calls, methods and what a `connect` starts.
 ghost use Rattle.std.specs.Prelude.{◌≡◌, ◌∷◌, [], ◌++◌, map, length, IfOk};
 ghost use Rattle.sp_types.specs.Types.{tys};
+ghost use Rattle.sp_ast.specs.Trees.{span_of};
+ghost use Rattle.sp_typed.specs.declared.words.OneOp.TheVariants.{NoMember};
+ghost use Rattle.sp_typed.specs.declared.words.TwoOp.TheVariants.{Index};
+ghost use Rattle.sp_typed.specs.declared.words.ManyOp.TheVariants.{Call};
 ghost use Rattle.sp_typing.specs.Contexts.{Around};
 ghost use Rattle.sp_operands.specs.Literals.{seen};
 ghost use Rattle.sp_operands.specs.Operands.{first_type, unknown};
-ghost use Rattle.sp_typing.specs.Typing.{second_type, part_at, item_of, item_at, index_at, indexed, no_call, call_of, callee_of, call_at, method_found, method_at, started, new_at, name_of};
+ghost use Rattle.sp_typing.specs.Typing.{one_at, two_at, to_target, second_type, part_at, item_of, item_at, index_at, indexed, no_call, call_of, callee_of, call_at, method_found, method_at, started, new_at, name_of};
 
 use crate::context::{Callable, Context};
 use crate::nodes::{many_at, one_at, to_target, two_at};
@@ -53,6 +57,55 @@ fn item_at(
     two_at(alloc, span, Type::word(Word::Unknown), TwoOp::Index, a, i)
 }
 
+/// An element of a vector.
+fn element_at(alloc: Global, span: Span, parts: &[Type], a: Expr, i: Expr) -> Result<Expr, NoMemory>
+    ensures { IfOk result (λ e. e ≡ two_at span (first_type (tys parts.now)) Index a i) }
+{
+    two_at(alloc, span, first_type(parts)?, TwoOp::Index, a, i)
+}
+
+/// What stands for a key, which goes to the type of the first part.
+fn keyed_at(
+    alloc: Global,
+    span: Span,
+    parts: &[Type],
+    ty: Type,
+    a: Expr,
+    i: Expr,
+) -> Result<Expr, NoMemory>
+    ensures { IfOk result (λ e. e ≡ two_at span ty Index a
+        (to_target (first_type (tys parts.now)) i)) }
+{
+    let key = first_type(parts)?;
+    let i = to_target(alloc, &key, i)?;
+    two_at(alloc, span, ty, TwoOp::Index, a, i)
+}
+
+/// The value of a key of a map.
+fn mapped_at(alloc: Global, span: Span, parts: &[Type], a: Expr, i: Expr) -> Result<Expr, NoMemory>
+    ensures { IfOk result (λ e. e ≡ two_at span (second_type (tys parts.now)) Index a
+        (to_target (first_type (tys parts.now)) i)) }
+{
+    let ty = second_type(parts)?;
+    keyed_at(alloc, span, parts, ty, a, i)
+}
+
+/// A member of a tuple, by what is known of its number.
+fn member_at<C: Context>(
+    alloc: Global,
+    context: &C,
+    span: Span,
+    parts: &[Type],
+    a: Expr,
+    i: Expr,
+) -> Result<Expr, NoMemory>
+    ensures { IfOk result (λ e. e ≡ item_at span (tys parts.now)
+        ((C.around context.now).item i) a i) }
+{
+    let number = context.item(alloc, &i)?;
+    item_at(alloc, span, parts, number, a, i)
+}
+
 fn index_at<C: Context>(
     alloc: Global,
     context: &C,
@@ -63,23 +116,13 @@ fn index_at<C: Context>(
 ) -> Result<Expr, NoMemory>
     ensures { IfOk result (λ e. e ≡ index_at (C.around context.now) span of.now a i) }
 {
+    let unknown = Type::word(Word::Unknown);
     match of.level() {
-        Level::Made(Maker::Vector, parts) => {
-            two_at(alloc, span, first_type(parts)?, TwoOp::Index, a, i)
-        }
-        Level::Made(Maker::Map, parts) => {
-            let i = to_target(alloc, &first_type(parts)?, i)?;
-            two_at(alloc, span, second_type(parts)?, TwoOp::Index, a, i)
-        }
-        Level::Made(Maker::Set, parts) => {
-            let i = to_target(alloc, &first_type(parts)?, i)?;
-            two_at(alloc, span, Type::word(Word::Unknown), TwoOp::Index, a, i)
-        }
-        Level::Made(Maker::Tuple, parts) => {
-            let number = context.item(alloc, &i)?;
-            item_at(alloc, span, parts, number, a, i)
-        }
-        Level::Word(_) => two_at(alloc, span, Type::word(Word::Unknown), TwoOp::Index, a, i),
+        Level::Made(Maker::Vector, parts) => element_at(alloc, span, parts, a, i),
+        Level::Made(Maker::Map, parts) => mapped_at(alloc, span, parts, a, i),
+        Level::Made(Maker::Set, parts) => keyed_at(alloc, span, parts, unknown, a, i),
+        Level::Made(Maker::Tuple, parts) => member_at(alloc, context, span, parts, a, i),
+        Level::Word(_) => two_at(alloc, span, unknown, TwoOp::Index, a, i),
     }
 }
 
@@ -151,6 +194,21 @@ fn callee_of(e: &Expr) -> Callee
     }
 }
 
+/// A call of a function, by its number.
+fn function_call<C: Context>(
+    alloc: Global,
+    context: &C,
+    span: Span,
+    n: u32,
+    list: Vec<Expr>,
+) -> Result<Expr, NoMemory>
+    ensures { IfOk result (λ e. e ≡ call_of (C.around context.now) span (Call n)
+        ((C.around context.now).result n) list.items) }
+{
+    let ty = context.result(n)?;
+    call_of(alloc, context, span, ManyOp::Call(n), ty, list)
+}
+
 /// A call of a function, a conversion to an enum, or of what can't be called.
 pub(crate) fn call_at<C: Context>(
     alloc: Global,
@@ -162,10 +220,7 @@ pub(crate) fn call_at<C: Context>(
     ensures { IfOk result (λ e. e ≡ call_at (C.around context.now) span callee list.items) }
 {
     match callee_of(&callee) {
-        Callee::Function(n) => {
-            let ty = context.result(n)?;
-            call_of(alloc, context, span, ManyOp::Call(n), ty, list)
-        }
+        Callee::Function(n) => function_call(alloc, context, span, n, list),
         Callee::Enum(n) => {
             let ty = Type::word(Word::Enum(n));
             call_of(alloc, context, span, ManyOp::Convert(n), ty, list)
@@ -227,6 +282,38 @@ fn method_of<C: Context>(
     many_at(span, method.ty, method.op, parts)
 }
 
+/// The method of a name that an object has for arguments.
+fn method_for<C: Context>(
+    alloc: Global,
+    context: &C,
+    name: &Ref<'_, NameKind>,
+    object: &Expr,
+    list: &[Expr],
+) -> Result<Option<Callable>, NoMemory>
+    ensures { IfOk result (λ o. o ≡ (C.around context.now).method (seen object.now)
+        (name_of name.now) (span_of name.now) (map seen list.now)) }
+{
+    let types = all_seen(alloc, list)?;
+    context.method(alloc, &seen(object)?, name.text(), name.span(), &types)
+}
+
+/// A call of a method that there isn't.
+fn no_method(
+    alloc: Global,
+    span: Span,
+    member: Span,
+    name: Span,
+    object: Expr,
+    list: Vec<Expr>,
+) -> Result<Expr, NoMemory>
+    ensures { IfOk result (λ e. e ≡ no_call span (one_at member unknown (NoMember name) object)
+        list.items) }
+{
+    let unknown = Type::word(Word::Unknown);
+    let callee = one_at(alloc, member, unknown, OneOp::NoMember(name), object)?;
+    no_call(alloc, span, callee, list)
+}
+
 /// A call of a method, where the member before the arguments stands on this slice.
 pub(crate) fn method_at<C: Context>(
     alloc: Global,
@@ -240,13 +327,8 @@ pub(crate) fn method_at<C: Context>(
     ensures { IfOk result (λ e. e ≡ method_at (C.around context.now) span member name.now object
         list.items) }
 {
-    let types = all_seen(alloc, &list)?;
-    match context.method(alloc, &seen(&object)?, name.text(), name.span(), &types)? {
+    match method_for(alloc, context, name, &object, &list)? {
         Some(method) => method_of(alloc, context, span, method, object, list),
-        None => {
-            let unknown = Type::word(Word::Unknown);
-            let callee = one_at(alloc, member, unknown, OneOp::NoMember(name.span()), object)?;
-            no_call(alloc, span, callee, list)
-        }
+        None => no_method(alloc, span, member, name.span(), object, list),
     }
 }

@@ -1,5 +1,7 @@
 // The node of an alternative, over its typed parts.
 ghost use Rattle.std.specs.Prelude.{◌≡◌, IfOk};
+ghost use Rattle.sp_operands.specs.Literals.{seen};
+ghost use Rattle.sp_operands.specs.Operands.{sort_of, result_type, key_of};
 ghost use Rattle.sp_typing.specs.Contexts.{Around};
 ghost use Rattle.sp_typing.specs.Typing.{leaf_at, one_at, two_at, many_at, int_word, widened, to_target, alike, agreeing, both_written, or_else, unary_op, signed_type, unary_at, joined, binary_at, cast_type, choice_type, choice_at, member_at, member_of, set_op, set_member_at, set_member_of};
 
@@ -86,11 +88,18 @@ pub fn to_target(alloc: Global, to: &Type, e: Expr) -> Result<Expr, NoMemory>
     widened(alloc, to, taken(to, e))
 }
 
+/// The type of an operator between two typed operands.
+fn joined_type(op: BinaryOp, a: &Expr, b: &Expr) -> Result<Type, NoMemory>
+    ensures { IfOk result (λ t. t ≡ result_type (sort_of op) (seen a.now) (seen b.now)) }
+{
+    sort_of(op).result(&seen(a)?, &seen(b)?)
+}
+
 /// An operator between two typed operands.
 fn joined(alloc: Global, span: Span, op: BinaryOp, a: Expr, b: Expr) -> Result<Expr, NoMemory>
     ensures { IfOk result (λ e. e ≡ joined span op a b) }
 {
-    let ty = sort_of(op).result(&seen(&a)?, &seen(&b)?)?;
+    let ty = joined_type(op, &a, &b)?;
     two_at(alloc, span, ty, TwoOp::Binary(op), a, b)
 }
 
@@ -102,6 +111,14 @@ fn settle_both(a: Expr, b: Expr) -> (Expr, Expr)
     (a.settle(word), b.settle(word))
 }
 
+/// The types of both.
+fn both_seen(a: &Expr, b: &Expr) -> Result<(Type, Type), NoMemory>
+    ensures { IfOk result (λ p. p ≡ (seen a.now, seen b.now)) }
+{
+    let left = seen(a)?;
+    Ok((left, seen(b)?))
+}
+
 /// Two that have to agree: of a literal and what is none, the literal takes the other's type.
 fn make_agree(a: Expr, b: Expr) -> Result<(Expr, Expr), NoMemory>
     ensures { IfOk result (λ p. p ≡ agreeing a b) }
@@ -109,9 +126,24 @@ fn make_agree(a: Expr, b: Expr) -> Result<(Expr, Expr), NoMemory>
     if a.is_literal() && b.is_literal() {
         return Ok(settle_both(a, b));
     }
-    let left = seen(&a)?;
-    let right = seen(&b)?;
+    let (left, right) = both_seen(&a, &b)?;
     Ok((taken(&right, a), taken(&left, b)))
+}
+
+/// The type of the keys of a container.
+fn key_type(e: &Expr) -> Result<Type, NoMemory>
+    ensures { IfOk result (λ t. t ≡ key_of (seen e.now)) }
+{
+    key_of(&seen(e)?)
+}
+
+/// Whether a key is in a container.
+fn contained_at(alloc: Global, span: Span, op: BinaryOp, a: Expr, b: Expr) -> Result<Expr, NoMemory>
+    ensures { IfOk result (λ e. e ≡ joined span op (to_target (key_of (seen b)) a) b) }
+{
+    let key = key_type(&b)?;
+    let a = to_target(alloc, &key, a)?;
+    joined(alloc, span, op, a, b)
 }
 
 pub(crate) fn binary_at(
@@ -124,9 +156,7 @@ pub(crate) fn binary_at(
     ensures { IfOk result (λ e. e ≡ binary_at span op a b) }
 {
     if let OperatorSort::Member = sort_of(op) {
-        let key = key_of(&seen(&b)?)?;
-        let a = to_target(alloc, &key, a)?;
-        return joined(alloc, span, op, a, b);
+        return contained_at(alloc, span, op, a, b);
     }
     let (a, b) = make_agree(a, b)?;
     joined(alloc, span, op, a, b)

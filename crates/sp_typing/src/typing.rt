@@ -4,7 +4,10 @@ ghost use Rattle.sp_ast.specs.Trees.{trees, tree, in_row, span_of};
 ghost use Rattle.sp_ast.specs.declared.forms.Form.TheVariants as form_is;
 ghost use Rattle.sp_ast.specs.declared.forms.ExprForm.TheVariants as expr_is;
 ghost use Rattle.sp_typing.specs.Contexts.{Around};
-ghost use Rattle.sp_typing.specs.Typing.{typed, typed_all, pairs_typed, is_member};
+ghost use Rattle.sp_types.specs.declared.words.Maker.TheVariants.{Map};
+ghost use Rattle.sp_typed.specs.declared.words.LeafOp.TheVariants.{Empty};
+ghost use Rattle.sp_typed.specs.declared.words.OneOp.TheVariants.{Cast};
+ghost use Rattle.sp_typing.specs.Typing.{typed, typed_all, pairs_typed, is_member, leaf_at, one_at, made_of, both_written, cast_type, led, row_at, choice_at, binary_at, indexed, new_at};
 
 use crate::calls::{call_at, indexed, method_at, new_at};
 use crate::context::Context;
@@ -13,12 +16,13 @@ use crate::nodes::{
     set_member_of, unary_at,
 };
 use crate::rows::{led, map_at, row_at, tuple_at};
-use sp_ast::{ExprKind, ExprView, Members, NameKind, PairKind, Ref};
+use sp_ast::{ExprKind, ExprView, Members, NameKind, PairKind, PathKind, Ref, TypeKind};
 use sp_base::{ByteList, NoMemory, Span, Text};
 use sp_numbers::Width;
 use sp_operands::{made_of_one, made_of_two};
 use sp_typed::{Expr, LeafOp, ManyOp, OneOp};
 use sp_types::{Maker, Type, Word};
+use sp_words::BinaryOp;
 use std::alloc::Global;
 
 /// The typed expressions of trees.
@@ -94,6 +98,133 @@ fn call_typed<C: Context>(
     }
 }
 
+/// A vector or a set of the expressions that trees are.
+#[cycle(typed)]
+fn row_typed<C: Context>(
+    alloc: Global,
+    context: &C,
+    span: Span,
+    maker: Maker,
+    op: ManyOp,
+    members: &Members<'_, ExprKind>,
+) -> Result<Expr, NoMemory>
+    ensures { IfOk result (λ e. e ≡ row_at span maker op (led (typed_all (C.around context.now)
+        (trees members.now)))) }
+{
+    let list = led(alloc, typed_all(alloc, context, members)?)?;
+    row_at(alloc, span, maker, op, list)
+}
+
+/// An empty map of types that are written.
+fn empty_map<C: Context>(
+    alloc: Global,
+    context: &C,
+    span: Span,
+    key: &Ref<'_, TypeKind>,
+    value: &Ref<'_, TypeKind>,
+) -> Result<Expr, NoMemory>
+    ensures { IfOk result (λ e. e ≡ leaf_at span (made_of Map ((C.around context.now).type_in
+        key.now ∷ (C.around context.now).type_in value.now ∷ [])) (Empty (both_written
+        ((C.around context.now).written key.now) ((C.around context.now).written value.now)))) }
+{
+    let key_type = context.type_in(alloc, key)?;
+    let value_type = context.type_in(alloc, value)?;
+    let ty = made_of_two(alloc, Maker::Map, key_type, value_type)?;
+    let written = both_written(context.written(key), context.written(value));
+    Ok(leaf_at(span, ty, LeafOp::Empty(written)))
+}
+
+/// `cast<T>(e)`.
+#[cycle(typed)]
+fn cast_typed<C: Context>(
+    alloc: Global,
+    context: &C,
+    span: Span,
+    to: &Ref<'_, TypeKind>,
+    operand: &Ref<'_, ExprKind>,
+) -> Result<Expr, NoMemory>
+    ensures { IfOk result (λ e. e ≡ one_at span (cast_type ((C.around context.now).type_in to.now))
+        (Cast ((C.around context.now).written to.now)) (typed (C.around context.now)
+        operand.now)) }
+{
+    let operand = typed(alloc, context, operand)?;
+    let ty = cast_type(context.type_in(alloc, to)?);
+    one_at(alloc, span, ty, OneOp::Cast(context.written(to)), operand)
+}
+
+/// `new path(a)`.
+#[cycle(typed)]
+fn new_typed<C: Context>(
+    alloc: Global,
+    context: &C,
+    span: Span,
+    path: &Ref<'_, PathKind>,
+    arguments: &Members<'_, ExprKind>,
+) -> Result<Expr, NoMemory>
+    ensures { IfOk result (λ e. e ≡ new_at (C.around context.now) span (span_of path.now)
+        ((C.around context.now).named (span_of path.now) path.now) (typed_all
+        (C.around context.now) (trees arguments.now))) }
+{
+    let at = path.span();
+    let list = typed_all(alloc, context, arguments)?;
+    let callee = context.named(alloc, at, path)?;
+    new_at(alloc, context, span, at, callee, list)
+}
+
+/// `c ? a : b`.
+#[cycle(typed)]
+fn choice_typed<C: Context>(
+    alloc: Global,
+    context: &C,
+    span: Span,
+    condition: &Ref<'_, ExprKind>,
+    if_true: &Ref<'_, ExprKind>,
+    if_false: &Ref<'_, ExprKind>,
+) -> Result<Expr, NoMemory>
+    ensures { IfOk result (λ e. e ≡ choice_at span (typed (C.around context.now) condition.now)
+        (typed (C.around context.now) if_true.now) (typed (C.around context.now) if_false.now)) }
+{
+    let c = typed(alloc, context, condition)?;
+    let a = typed(alloc, context, if_true)?;
+    let b = typed(alloc, context, if_false)?;
+    choice_at(alloc, span, c, a, b)
+}
+
+/// `a[i]`.
+#[cycle(typed)]
+fn index_typed<C: Context>(
+    alloc: Global,
+    context: &C,
+    span: Span,
+    object: &Ref<'_, ExprKind>,
+    index: &Ref<'_, ExprKind>,
+) -> Result<Expr, NoMemory>
+    ensures { IfOk result (λ e. e ≡ indexed (C.around context.now) span (typed
+        (C.around context.now) object.now) (typed (C.around context.now) index.now)) }
+{
+    let object = typed(alloc, context, object)?;
+    let index = typed(alloc, context, index)?;
+    indexed(alloc, context, span, object, index)
+}
+
+/// An operator with two operands.
+#[cycle(typed)]
+fn binary_typed<C: Context>(
+    alloc: Global,
+    context: &C,
+    span: Span,
+    op: BinaryOp,
+    left: &Ref<'_, ExprKind>,
+    right: &Ref<'_, ExprKind>,
+) -> Result<Expr, NoMemory>
+    ensures { IfOk result (λ e. e ≡ binary_at span op (typed (C.around context.now) left.now)
+        (typed (C.around context.now) right.now)) }
+{
+    let left = typed(alloc, context, left)?;
+    let right = typed(alloc, context, right)?;
+    binary_at(alloc, span, op, left, right)
+}
+
 /// The typed expression that a tree is, in what stands round it.
 #[cycle(typed)]
 pub fn typed<C: Context>(
@@ -127,14 +258,22 @@ pub fn typed<C: Context>(
             Ok(leaf_at(span, Type::word(Word::Regex), op))
         }
         ExprView::Tuple(members) => tuple_at(alloc, span, typed_all(alloc, context, &members)?),
-        ExprView::Vector(members) => {
-            let list = led(alloc, typed_all(alloc, context, &members)?)?;
-            row_at(alloc, span, Maker::Vector, ManyOp::Vector, list)
-        }
-        ExprView::Set(members) => {
-            let list = led(alloc, typed_all(alloc, context, &members)?)?;
-            row_at(alloc, span, Maker::Set, ManyOp::Set, list)
-        }
+        ExprView::Vector(members) => row_typed(
+            alloc,
+            context,
+            span,
+            Maker::Vector,
+            ManyOp::Vector,
+            &members,
+        ),
+        ExprView::Set(members) => row_typed(
+            alloc,
+            context,
+            span,
+            Maker::Set,
+            ManyOp::Set,
+            &members,
+        ),
         ExprView::Map(pairs) => {
             let pairs = pairs_typed(alloc, context, &pairs)?;
             map_at(alloc, span, pairs)
@@ -147,29 +286,13 @@ pub fn typed<C: Context>(
             let ty = made_of_one(alloc, Maker::Set, context.type_in(alloc, &element)?)?;
             Ok(leaf_at(span, ty, LeafOp::Empty(context.written(&element))))
         }
-        ExprView::EmptyMap { key, value } => {
-            let key_type = context.type_in(alloc, &key)?;
-            let value_type = context.type_in(alloc, &value)?;
-            let ty = made_of_two(alloc, Maker::Map, key_type, value_type)?;
-            let written = both_written(context.written(&key), context.written(&value));
-            Ok(leaf_at(span, ty, LeafOp::Empty(written)))
-        }
+        ExprView::EmptyMap { key, value } => empty_map(alloc, context, span, &key, &value),
         ExprView::TypedNumber(word, number) => {
             let ty = Type::word(int_word(word));
             Ok(leaf_at(span, ty, LeafOp::TypedNumber(number.value())))
         }
-        ExprView::Cast(to, operand) => {
-            let ty = cast_type(context.type_in(alloc, &to)?);
-            let written = context.written(&to);
-            let operand = typed(alloc, context, &operand)?;
-            one_at(alloc, span, ty, OneOp::Cast(written), operand)
-        }
-        ExprView::New(path, arguments) => {
-            let at = path.span();
-            let callee = context.named(alloc, at, &path)?;
-            let list = typed_all(alloc, context, &arguments)?;
-            new_at(alloc, context, span, at, callee, list)
-        }
+        ExprView::Cast(to, operand) => cast_typed(alloc, context, span, &to, &operand),
+        ExprView::New(path, arguments) => new_typed(alloc, context, span, &path, &arguments),
         ExprView::Size(operand) => {
             let operand = typed(alloc, context, &operand)?;
             one_at(
@@ -184,12 +307,7 @@ pub fn typed<C: Context>(
             condition,
             if_true,
             if_false,
-        } => {
-            let c = typed(alloc, context, &condition)?;
-            let a = typed(alloc, context, &if_true)?;
-            let b = typed(alloc, context, &if_false)?;
-            choice_at(alloc, span, c, a, b)
-        }
+        } => choice_typed(alloc, context, span, &condition, &if_true, &if_false),
         ExprView::Member(object, name) => {
             let object = typed(alloc, context, &object)?;
             member_of(alloc, context, span, &name, object)
@@ -198,20 +316,12 @@ pub fn typed<C: Context>(
             let object = typed(alloc, context, &object)?;
             set_member_of(alloc, context, span, &name, object)
         }
-        ExprView::Index { object, index } => {
-            let object = typed(alloc, context, &object)?;
-            let index = typed(alloc, context, &index)?;
-            indexed(alloc, context, span, object, index)
-        }
+        ExprView::Index { object, index } => index_typed(alloc, context, span, &object, &index),
         ExprView::Call(callee, arguments) => call_typed(alloc, context, span, &callee, &arguments),
         ExprView::Unary(op, operand) => {
             let operand = typed(alloc, context, &operand)?;
             unary_at(alloc, span, op, operand)
         }
-        ExprView::Binary(op, left, right) => {
-            let left = typed(alloc, context, &left)?;
-            let right = typed(alloc, context, &right)?;
-            binary_at(alloc, span, op, left, right)
-        }
+        ExprView::Binary(op, left, right) => binary_typed(alloc, context, span, op, &left, &right),
     }
 }

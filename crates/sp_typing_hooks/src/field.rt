@@ -1,12 +1,12 @@
 // What `$$` is in the hooks of a field.
 ghost use Rattle.std.specs.Prelude.{◌≡◌, map, slice_get, IfOk};
 ghost use Rattle.sp_ast.specs.Trees.{trees};
-ghost use Rattle.sp_typing_units.specs.Attributes.{element_of};
+ghost use Rattle.sp_typing_units.specs.Attributes.{element_of, converted, conversion};
 ghost use Rattle.sp_hook_rows.specs.HookRows.{is_some_tree};
 ghost use Rattle.sp_typing_hooks.specs.Fields.{nothing_known, field_types, types_in, holder_types, is_container, holds_container};
 
 use crate::contexts::context_at;
-use sp_ast::{FieldKind, Ref};
+use sp_ast::{AttributeKind, FieldKind, Members, Ref};
 use sp_base::NoMemory;
 use sp_hook_rows::{Holder, Site};
 use sp_operands::first_type;
@@ -43,6 +43,23 @@ fn element_of(of: &Type) -> Result<Type, NoMemory>
     }
 }
 
+/// The types of a field that reads a value of a type, which an attribute may convert.
+fn types_of<C: Context>(
+    alloc: Global,
+    context: &C,
+    read: &Type,
+    attributes: &Members<'_, AttributeKind>,
+) -> Result<FieldType, NoMemory>
+    ensures { IfOk result (λ t. t ≡ record {
+      stored = converted (C.around context.now) read.now (conversion (trees attributes.now));
+      element = element_of read.now;
+    }) }
+{
+    let element = element_of(read)?;
+    let stored = converted(alloc, context, read, attributes)?;
+    Ok(FieldType { stored, element })
+}
+
 /// The types of a field, in what stands round its expressions.
 fn field_types<C: Context, V: Constants>(
     alloc: Global,
@@ -55,9 +72,7 @@ fn field_types<C: Context, V: Constants>(
 {
     let view = field.view();
     let read = counted_read(alloc, context, constants, &view.base, &view.counts)?;
-    let element = element_of(&read.ty)?;
-    let stored = converted(alloc, context, &read.ty, &view.attributes)?;
-    Ok(FieldType { stored, element })
+    types_of(alloc, context, &read.ty, &view.attributes)
 }
 
 /// The types of a field of a unit.

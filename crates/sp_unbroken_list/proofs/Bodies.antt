@@ -111,7 +111,7 @@ same_module : (g : Around) (owner : List ℕ) (m : ℕ) (x : Tree) → IsWhole x
 same_module g owner m x w = ap (λ x. (function_of g owner m x).«module») w.is
 
 module _ (list : List Tree) (f : ℕ → Option Ty) (m : ℕ) where
-  parameters_fine : (ps : Trees) → AreFine list f m ps → are_parameters (is_type list f m) ps ≡ true
+  pub parameters_fine : (ps : Trees) → AreFine list f m ps → are_parameters (is_type list f m) ps ≡ true
   parameters_fine none h = refl
   parameters_fine (more (node (form_is.Parameter inout) span (more name (more t none))) ps) h =
       let ts = more name (more t none) in
@@ -143,14 +143,14 @@ module _ (list : List Tree) (a : Answers list) (formed_list : list_all is_formed
   abbrev paths : ℕ → Tree → Bool
   paths m = is_told list f (told a.values) m
 
-  abbrev round_module : ℕ → Around
-  round_module m = in_module list f (told a.values) (told a.stored) m
+  abbrev round_module : (ℕ → Option Ty) → ℕ → Around
+  round_module stored m = in_module list f (told a.values) stored m
 
-  -- what stands round the expressions of a module
-  pub module_told : (slots : List ℕ) (m : ℕ) → AreTold (round_module m) any_op (known_in t (values_of t) slots) m (values_of t) (paths m)
-  module_told slots m =
+  -- what stands round the expressions of a module, whatever is known of members
+  pub module_told : (stored : ℕ → Option Ty) (slots : List ℕ) (m : ℕ) → AreTold (round_module stored m) any_op (known_in t (values_of t) slots) m (values_of t) (paths m)
+  module_told stored slots m =
       let it = are_unbroken list a formed_list unbroken in
-      list_told list f (told a.values) it.settled t refl refl any_op (known_in t (values_of t) slots) m m (stored_by list (told a.stored)) (number_of list f (told a.values))
+      list_told list f (told a.values) it.settled t refl refl any_op (known_in t (values_of t) slots) m m (stored_by list stored) (number_of list f (told a.values))
 
   -- the tree of a function
   tree_whole : (m : ℕ) (p : Bool) (span : Span) (name : Tree) (ps : Trees) (result body : Tree) → IsFine list f m (whole p span name ps result body) → locals_written (whole p span name ps result body) ≡ true
@@ -176,8 +176,8 @@ module _ (list : List Tree) (a : Answers list) (formed_list : list_all is_formed
       let w = shape x s h.0 in
       subst (λ x. IsFine list f m x → locals_written x ≡ true → is_function (is_type list f m) (paths m) x ≡ true) (sym w.is) (tree_whole m w.public w.span w.name w.parameters w.result w.body) h l
 
-  module _ (members : (u : Ty) (name : List ℕ) (found : Member) → member_of list (stored_by list (told a.stored)) u name ≡ Some found → is_full found.ty ≡ true) where
-    all_known : AreKnown list (facts list f (told a.values) (told a.stored)) any_op
+  module _ (stored : ℕ → Option Ty) (members : (u : Ty) (name : List ℕ) (found : Member) → member_of list (stored_by list stored) u name ≡ Some found → is_full found.ty ≡ true) where
+    all_known : AreKnown list (facts list f (told a.values) stored) any_op
     all_known =
         let it = are_unbroken list a formed_list unbroken in
         record {
@@ -187,45 +187,45 @@ module _ (list : List Tree) (a : Answers list) (formed_list : list_all is_formed
           members = λ u name found e may. members u name found e;
         }
 
-    pub module_is_known : (slots : List ℕ) (m : ℕ) → IsKnown (round_module m) any_op (known_in t (values_of t) slots) m (is_type list f m) (paths m)
+    pub module_is_known : (slots : List ℕ) (m : ℕ) → IsKnown (round_module stored m) any_op (known_in t (values_of t) slots) m (is_type list f m) (paths m)
     module_is_known slots m =
-        module_known list (facts list f (told a.values) (told a.stored)) any_op all_known (known_in t (values_of t) slots) m m (paths m)
-        (decides t (values_of t) slots any_op m (is_type list f m) (paths m) (round_module m) (module_told slots m))
+        module_known list (facts list f (told a.values) stored) any_op all_known (known_in t (values_of t) slots) m m (paths m)
+        (decides t (values_of t) slots any_op m (is_type list f m) (paths m) (round_module stored m) (module_told stored slots m))
 
-    module _ (locals : list_all locals_written list ≡ true) where
-      -- a function, and all
-      one_known : (n g : ℕ) (d : Declaration) → slice_get (all_of sort_is.Function list) n ≡ Some g → declaration_at list g ≡ Some d → sort_of d.tree ≡ sort_is.Function → is_known_function (declared list f (told a.values) (told a.stored) d) ≡ true
-      one_known n g d at is sort =
-          let m = d.«module» in
-          let values = values_of t in
-          let env = round_module m in
-          let types = is_type list f m in
-          let fine = declaration_fine list f formed_list (declared_names list a unbroken) g d is in
-          let l = at_all LocalsIn (rows list) g d (modules_locals 0 list locals) is in
-          let names = function_at list f (told a.values) (told a.stored) function_names (all_of sort_is.Function list) n g d at is (are_named list a unbroken).functions in
-          let tests = function_at list f (told a.values) (told a.stored) (function_tests t values) (all_of sort_is.Function list) n g d at is (are_asked list a unbroken).functions in
-          function_whole t values env (module_name (module_at list m)) m types (paths m) d.tree (known_blind t values) (λ slots. module_is_known slots m)
-          (λ slots ps full. (
-          let inner = parameters_told t values slots any_op m types (paths m) env (module_told slots m) 0 false ps in
-          (decides t values slots any_op m types (paths m) (with_parameters 0 false ps env) inner, decides_under t values slots any_op m types (paths m) (with_parameters 0 false ps env) inner)
-          ))
-          (function_tree m d.tree (ap is_function_sort sort) fine l) (subst (λ i. none_hold (stmt_names i (declared list f (told a.values) (told a.stored) d).body) ≡ true) (same_module env (module_name (module_at list m)) m d.tree (shape d.tree (ap is_function_sort sort) fine.0)) names) tests
+  module _ (members : (u : Ty) (name : List ℕ) (found : Member) → member_of list (stored_by list (told a.stored)) u name ≡ Some found → is_full found.ty ≡ true) (locals : list_all locals_written list ≡ true) where
+    -- a function, and all
+    one_known : (n g : ℕ) (d : Declaration) → slice_get (all_of sort_is.Function list) n ≡ Some g → declaration_at list g ≡ Some d → sort_of d.tree ≡ sort_is.Function → is_known_function (declared list f (told a.values) (told a.stored) d) ≡ true
+    one_known n g d at is sort =
+        let m = d.«module» in
+        let values = values_of t in
+        let env = round_module (told a.stored) m in
+        let types = is_type list f m in
+        let fine = declaration_fine list f formed_list (declared_names list a unbroken) g d is in
+        let l = at_all LocalsIn (rows list) g d (modules_locals 0 list locals) is in
+        let names = function_at list f (told a.values) (told a.stored) function_names (all_of sort_is.Function list) n g d at is (are_named list a unbroken).functions in
+        let tests = function_at list f (told a.values) (told a.stored) (function_tests t values) (all_of sort_is.Function list) n g d at is (are_asked list a unbroken).functions in
+        function_whole t values env (module_name (module_at list m)) m types (paths m) d.tree (known_blind t values) (λ slots. module_is_known (told a.stored) members slots m)
+        (λ slots ps full. (
+        let inner = parameters_told t values slots any_op m types (paths m) env (module_told (told a.stored) slots m) 0 false ps in
+        (decides t values slots any_op m types (paths m) (with_parameters 0 false ps env) inner, decides_under t values slots any_op m types (paths m) (with_parameters 0 false ps env) inner)
+        ))
+        (function_tree m d.tree (ap is_function_sort sort) fine l) (subst (λ i. none_hold (stmt_names i (declared list f (told a.values) (told a.stored) d).body) ≡ true) (same_module env (module_name (module_at list m)) m d.tree (shape d.tree (ap is_function_sort sort) fine.0)) names) tests
 
-      abbrev functions_known : List ℕ → Bool
-      functions_known gs = list_all is_known_function (functions_of list f (told a.values) (told a.stored) gs)
+    abbrev functions_known : List ℕ → Bool
+    functions_known gs = list_all is_known_function (functions_of list f (told a.values) (told a.stored) gs)
 
-      each_known : (n : ℕ) (gs : List ℕ) → ((j : ℕ) → slice_get (all_of sort_is.Function list) (n + j) ≡ slice_get gs j) → AllOf (IsFunction list) gs → functions_known gs ≡ true
-      each_known n [] at are = refl
-      each_known n (g ∷ gs) at are =
-          let d = are.0.0 in
-          let e : n ≡ n + 0 = omega arith in
-          let one = one_known n g d (ap (slice_get (all_of sort_is.Function list)) e ∙ at 0) are.0.1 are.0.2 in
-          let next = each_known (suc n) gs (λ j. (let s : suc n + j ≡ n + suc j = omega arith in ap (slice_get (all_of sort_is.Function list)) s ∙ at (suc j))) are.1 in
-          subst (λ o. list_all is_known_function (declared_function list f (told a.values) (told a.stored) o ++ functions_of list f (told a.values) (told a.stored) gs) ≡ true) (sym are.0.1)
-          (and_from (is_known_function (declared list f (told a.values) (told a.stored) d)) (functions_known gs) one next)
+    each_known : (n : ℕ) (gs : List ℕ) → ((j : ℕ) → slice_get (all_of sort_is.Function list) (n + j) ≡ slice_get gs j) → AllOf (IsFunction list) gs → functions_known gs ≡ true
+    each_known n [] at are = refl
+    each_known n (g ∷ gs) at are =
+        let d = are.0.0 in
+        let e : n ≡ n + 0 = omega arith in
+        let one = one_known n g d (ap (slice_get (all_of sort_is.Function list)) e ∙ at 0) are.0.1 are.0.2 in
+        let next = each_known (suc n) gs (λ j. (let s : suc n + j ≡ n + suc j = omega arith in ap (slice_get (all_of sort_is.Function list)) s ∙ at (suc j))) are.1 in
+        subst (λ o. list_all is_known_function (declared_function list f (told a.values) (told a.stored) o ++ functions_of list f (told a.values) (told a.stored) gs) ≡ true) (sym are.0.1)
+        (and_from (is_known_function (declared list f (told a.values) (told a.stored) d)) (functions_known gs) one next)
 
-      -- All functions are known.
-      pub all_functions_known : list_all is_known_function t.functions ≡ true
-      all_functions_known =
-          each_known 0 (all_of sort_is.Function list) (λ j. (let e : 0 + j ≡ j = omega arith in ap (slice_get (all_of sort_is.Function list)) e))
-          (functions_are list 0 (rows list) (λ j. (let e : 0 + j ≡ j = omega arith in ap (slice_get (rows list)) e)))
+    -- All functions are known.
+    pub all_functions_known : list_all is_known_function t.functions ≡ true
+    all_functions_known =
+        each_known 0 (all_of sort_is.Function list) (λ j. (let e : 0 + j ≡ j = omega arith in ap (slice_get (all_of sort_is.Function list)) e))
+        (functions_are list 0 (rows list) (λ j. (let e : 0 + j ≡ j = omega arith in ap (slice_get (rows list)) e)))

@@ -48,6 +48,13 @@ module _ (list : List Tree) (a : Answers list) (unbroken : (x : Fault) → Break
       let q = none_parts (typed_tests t) (limits_from 0 list) p.1 in
       (none_parts (list_tests t (values_of t)) (all_unit_tests t) q.0).0
 
+  -- the rules of units
+  pub unit_rules : none_hold (all_unit_tests t) ≡ true
+  unit_rules =
+      let p = none_parts (name_tests list a) (typed_tests t ++ limits_from 0 list) none_of_all in
+      let q = none_parts (typed_tests t) (limits_from 0 list) p.1 in
+      (none_parts (list_tests t (values_of t)) (all_unit_tests t) q.0).1
+
   -- names of declarations, and names in expressions
   pub declared_names : none_hold (name_faults list (told a.types)) ≡ true
   declared_names = (none_parts (name_faults list (told a.types)) _ names).0

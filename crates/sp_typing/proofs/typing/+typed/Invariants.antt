@@ -4,10 +4,10 @@ use Rattle.sp_typing.specs.Typing.{typed_all, pairs_typed}
 use Rattle.sp_typing.proofs.typing.+typed.Given as goal
 
 abbrev pub decreases-typed : goal.decreases-typed
-decreases-typed g l = 2 * tree_size l.tree.now + 1
+decreases-typed g l = 3 * tree_size l.tree.now + 2
 
 abbrev pub decreases-typed_all : goal.decreases-typed_all
-decreases-typed_all g l = 2 * trees_size (trees l.members.now)
+decreases-typed_all g l = 3 * trees_size (trees l.members.now)
 
 abbrev pub invariant-typed_all-loop-tree : goal.invariant-typed_all-loop-tree
 invariant-typed_all-loop-tree g l =
@@ -16,7 +16,7 @@ invariant-typed_all-loop-tree g l =
     × (trees_size (trees l.tree-iterator) ≤ trees_size (trees l.members))
 
 abbrev pub decreases-pairs_typed : goal.decreases-pairs_typed
-decreases-pairs_typed g l = 2 * trees_size (trees l.pairs.now)
+decreases-pairs_typed g l = 3 * trees_size (trees l.pairs.now)
 
 abbrev pub invariant-pairs_typed-loop-pair : goal.invariant-pairs_typed-loop-pair
 invariant-pairs_typed-loop-pair g l =
@@ -25,4 +25,22 @@ invariant-pairs_typed-loop-pair g l =
     × (trees_size (trees l.pair-iterator) ≤ trees_size (trees l.pairs))
 
 abbrev pub decreases-call_typed : goal.decreases-call_typed
-decreases-call_typed g l = 2 * (tree_size l.callee.now + trees_size (trees l.arguments.now)) + 3
+decreases-call_typed g l = 3 * (tree_size l.callee.now + trees_size (trees l.arguments.now)) + 4
+
+abbrev pub decreases-row_typed : goal.decreases-row_typed
+decreases-row_typed g l = 3 * trees_size (trees l.members.now) + 1
+
+abbrev pub decreases-cast_typed : goal.decreases-cast_typed
+decreases-cast_typed g l = 3 * tree_size l.operand.now + 3
+
+abbrev pub decreases-new_typed : goal.decreases-new_typed
+decreases-new_typed g l = 3 * trees_size (trees l.arguments.now) + 1
+
+abbrev pub decreases-choice_typed : goal.decreases-choice_typed
+decreases-choice_typed g l = 3 * (tree_size l.condition.now + (tree_size l.if_true.now + tree_size l.if_false.now)) + 3
+
+abbrev pub decreases-index_typed : goal.decreases-index_typed
+decreases-index_typed g l = 3 * (tree_size l.object.now + tree_size l.index.now) + 3
+
+abbrev pub decreases-binary_typed : goal.decreases-binary_typed
+decreases-binary_typed g l = 3 * (tree_size l.left.now + tree_size l.right.now) + 3

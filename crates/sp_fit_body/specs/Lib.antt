@@ -1,0 +1,4 @@
+pub mod Bodies
+pub mod Passes
+pub mod Test
+pub mod Rows

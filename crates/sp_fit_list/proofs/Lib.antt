@@ -1,0 +1,5 @@
+pub mod Noting
+pub mod Rows
+pub mod Handed
+pub mod Parts
+pub mod Whole

@@ -1,0 +1,4 @@
+pub mod Locals
+pub mod Stored
+pub mod Bodies
+pub mod Units

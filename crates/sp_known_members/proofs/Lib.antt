@@ -1,0 +1,15 @@
+pub mod Shapes
+pub mod Readings
+pub mod Contexts
+pub mod Fields
+pub mod Items
+pub mod Ranges
+pub mod Units
+pub mod Answered
+pub mod Every
+pub mod CanRead
+pub mod Rounds
+pub mod Named
+pub mod Readable
+pub mod Parts
+pub mod Built

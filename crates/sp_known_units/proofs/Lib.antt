@@ -1,0 +1,8 @@
+pub mod Closed
+pub mod ReadKinds
+pub mod Values
+pub mod Fields
+pub mod Parts
+pub mod Members
+pub mod Units
+pub mod Lists

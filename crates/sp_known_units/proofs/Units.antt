@@ -1,0 +1,106 @@
+-- All is known of the units of a list in which no rule is broken, and in which each reading can be read.
+use Rattle.std.specs.List.{list_all}
+use Rattle.std.proofs.Common.{ℕ, ◌≡◌, ◌+◌, ◌<◌, arith, true, ap, ◌∙◌, List, length, Some, slice_get}
+use Rattle.std.proofs.lemmas.Bool.{and_from}
+use Rattle.sp_ast.specs.Trees.{Tree, Trees}
+use Rattle.sp_ast.specs.Slots.{is_formed}
+use Rattle.sp_rules.specs.declared.fault.Fault.{Fault}
+use Rattle.sp_typed_units.specs.declared.declarations.Parameter.{Parameter}
+use Rattle.sp_typed_units.specs.declared.declarations.Unit.{Unit}
+use Rattle.sp_typed_units.specs.Parts.{parts}
+use Rattle.sp_typing_units.specs.Parts.{Fields}
+use Rattle.sp_solver.specs.Told.{told}
+use Rattle.sp_names.specs.declared.rows.Declaration.{Declaration}
+use Rattle.sp_names.specs.declared.sort.DeclSort.TheVariants as sort_is
+use Rattle.sp_names.specs.Declarations.{all_of, sort_of, declaration_at}
+use Rattle.sp_names.specs.Names.{declaration_of}
+use Rattle.sp_around.specs.Members.{members_of, first_member, declared_unit, unit_declaration, unit_members}
+use Rattle.sp_around.specs.Arounds.{stored_by}
+use Rattle.sp_body_rules.specs.Known.{Known}
+use Rattle.sp_list_rules.specs.Lists.{all_tests}
+use Rattle.sp_list_rules.specs.Names.{order_names, variable_names, sink_names, parts_names}
+use Rattle.sp_list_rules.specs.Bodies.{parameter_tests, order_tests, variable_tests}
+use Rattle.sp_list_rules.specs.Fields.{parts_tests}
+use Rattle.sp_unit_rules.specs.Units.{in_unit as rules_in, variables_tests, parts_tests as parts_rules}
+use Rattle.sp_typed_list.specs.Settled.{Answers}
+use Rattle.sp_typed_list.specs.Lists.{typed_of}
+use Rattle.sp_check_unit.specs.Rules.{Breaks}
+use Rattle.sp_whole_list.specs.Whole.{is_known_parameter, is_known_member, is_known_variable, are_known_parts, is_known_order, is_known_unit}
+use Rattle.sp_whole_list.proofs.None.{none_parts}
+use Rattle.sp_known_members.specs.Given.{unit_reads}
+use Rattle.sp_known_members.proofs.Shapes.{unit_tree, is_unit_sort}
+use Rattle.sp_known_members.proofs.Fields.{AllFull}
+use Rattle.sp_known_members.proofs.Units.{k, unit_at, members_full, fine, items, ps, fields, row_here, suits, items_are_fine, tests, names, rules, parameters_are_full}
+use Rattle.sp_known_members.proofs.Rounds.{NoneIsPassed, rounds_full, stored_full, members_known}
+use Rattle.sp_known_members.proofs.Every.{every_unit}
+use Rattle.sp_known_units.proofs.Members.{rows_full, found_below, is_asked}
+use Rattle.sp_known_units.proofs.Parts.{variables_known, orders_known, items_known}
+
+module _ (list : List Tree) (a : Answers list) (formed_list : list_all is_formed list ≡ true) (unbroken : (x : Fault) → Breaks list x → ⊥) (reads : list_all unit_reads (typed_of list a).units ≡ true) (passed : NoneIsPassed) where
+  abbrev us : List Unit
+  us = (typed_of list a).units
+
+  abbrev known : Known
+  known = k list a formed_list unbroken
+
+  answers : AllFull (told a.stored)
+  answers i u e = (let k = a.kept.settled.found i u e in rounds_full list a formed_list unbroken reads passed k.0 i u k.1)
+
+  module _ (n g : ℕ) (d : Declaration) (at : slice_get (all_of sort_is.Unit list) n ≡ Some g) (is : declaration_at list g ≡ Some d) (sort : is_unit_sort (sort_of d.tree) ≡ true) where
+    abbrev m : ℕ
+    m = d.«module»
+
+    abbrev here : Trees
+    here = items list a formed_list unbroken n g d at is sort
+
+    abbrev own : List Parameter
+    own = ps list a formed_list unbroken n g d at is sort
+
+    abbrev row_ : Unit
+    row_ = row_here list a formed_list unbroken n g d at is sort
+
+    abbrev facts : Fields
+    facts = fields list a formed_list unbroken n g d at is sort
+
+    full : list_all is_known_parameter own ≡ true
+    full = parameters_are_full list a formed_list unbroken n g d at is sort
+
+    abbrev tree_ : Tree
+    tree_ = unit_tree (fine list a formed_list unbroken n g d at is sort).1.span (fine list a formed_list unbroken n g d at is sort).1.parameters here
+
+    members_are_full : list_all is_known_member row_.members ≡ true
+    members_are_full =
+        let there : unit_declaration list n ≡ Some d = ap (declaration_of list) at ∙ is in
+        let same : length (unit_members list n) ≡ length (members_of tree_) =
+        ap (λ o. length (members_of (declared_unit o))) there ∙ ap (λ x. length (members_of x)) (fine list a formed_list unbroken n g d at is sort).1.is in
+        let lt = found_below (all_of sort_is.Unit list) n g at in
+        rows_full (stored_by list (told a.stored) n) 0 (members_of tree_) (λ j below. (
+        let s : 0 + j < length (unit_members list n) = omega (arith, below, same) in
+        stored_full list a formed_list unbroken reads passed (first_member list n + (0 + j)) (is_asked list n (0 + j) lt s)
+        ))
+
+    pub one_known : is_known_unit row_ ≡ true
+    one_known =
+        let p = none_parts (all_tests (parameter_tests m) row_.parameters) _ (tests list a formed_list unbroken n g d at is sort) in
+        let q = none_parts (all_tests (order_tests known) row_.orders) _ p.1 in
+        let o = none_parts (all_tests (variable_tests known m row_.members) row_.variables) (parts_tests known m (parts row_.parts)) q.1 in
+        let x = none_parts (all_tests order_names row_.orders) _ (names list a formed_list unbroken n g d at is sort) in
+        let y = none_parts (all_tests (variable_names m) row_.variables) _ x.1 in
+        let z = none_parts (all_tests (sink_names m) row_.sinks) (parts_names m (parts row_.parts)) y.1 in
+        let r = none_parts (variables_tests us (rules_in row_) row_.variables) (parts_rules us (rules_in row_) (parts row_.parts)) (rules list a formed_list unbroken n g d at is sort) in
+        let readings = unit_at list a formed_list unbroken unit_reads n g d (fine list a formed_list unbroken n g d at is sort).1 at is reads in
+        let any_members = members_full list a formed_list unbroken in
+        let members = members_known list a formed_list unbroken reads passed in
+        let stored = stored_full list a formed_list unbroken reads passed in
+        let suits_ = (suits list a formed_list unbroken n g d at is sort).1 in
+        let fine_ = items_are_fine list a formed_list unbroken n g d at is sort in
+        and_from (list_all is_known_parameter row_.parameters) _ full
+        (and_from (list_all is_known_member row_.members) _ members_are_full
+        (and_from (list_all is_known_variable row_.variables) _ (variables_known list a formed_list unbroken n m own full any_members members answers stored us (rules_in row_) facts row_.members here suits_ fine_ o.0 y.0)
+        (and_from (are_known_parts (parts row_.parts)) (list_all is_known_order row_.orders)
+        (items_known list a formed_list unbroken n m own full any_members members answers stored us (rules_in row_) facts here suits_ fine_ (o.1, z.1, readings, r.1))
+        (orders_known list a formed_list unbroken n m own full any_members members answers stored us (rules_in row_) facts here x.0 q.0))))
+
+  -- All is known of all units.
+  pub units_known : list_all is_known_unit us ≡ true
+  units_known = every_unit list a formed_list unbroken is_known_unit one_known

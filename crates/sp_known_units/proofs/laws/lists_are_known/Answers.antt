@@ -1,0 +1,5 @@
+use Rattle.sp_known_units.proofs.Lists.{list_known}
+use Rattle.sp_known_units.proofs.laws.lists_are_known.Goals as goal
+
+pub returns : goal.returns
+returns c = λ list a formed locals unbroken reads hooks. list_known list a formed locals unbroken reads c.none_is_passed_over.ensures hooks

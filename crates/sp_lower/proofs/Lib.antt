@@ -1,0 +1,6 @@
+mod Each
+mod Laid
+mod Framed
+mod Hooked
+mod Counted
+mod Assembled

@@ -1,0 +1,3 @@
+pub mod Laid
+pub mod Units
+pub mod Whole

@@ -1,0 +1,14 @@
+//! The compiler: the program of a typed list.
+#![tactic(auto)]
+
+mod bodies;
+mod functions;
+mod hooks;
+mod programs;
+mod starters;
+#[cfg(test)]
+mod tests;
+mod units;
+mod values;
+
+pub use programs::lower;

@@ -1,0 +1,4 @@
+pub mod Numbered
+mod Noted
+mod Told
+mod Read

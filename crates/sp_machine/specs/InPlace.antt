@@ -1,0 +1,44 @@
+-- A value that an instruction gives, and its store in a local or a member, at once.
+use Rattle.std.specs.Prelude.{◌≡◌, ◌<◌, ◌+◌, ℕ, Bool, true, false, List, [], ◌∷◌, length, Some, slice_get}
+use Rattle.sp_words.specs.Methods.{changes}
+use Rattle.sp_value.specs.Val.{Val}
+use Rattle.sp_running.specs.States.{State, instance_of, set_local, set_member}
+use Rattle.sp_code.specs.declared.instr.Instr.{Instr}
+use Rattle.sp_code.specs.declared.instr.Instr.TheVariants.{Store, SelfUnit, SetField, Binary, SetIndex, Lib, AddKey, DeleteKey}
+use Rattle.sp_code.specs.Machine.{Next, Goes, Config, At, Ending}
+use Rattle.sp_machine.specs.declared.in_place.Slot.{Slot}
+use Rattle.sp_machine.specs.declared.in_place.Slot.TheVariants.{Local, Member}
+
+-- the code from an address on stores a value in this slot
+abbrev pub IsStored : List Instr → ℕ → Slot → Type 0
+IsStored code pc (Local l) = slice_get code pc ≡ Some (Store l)
+IsStored code pc (Member m) = (slice_get code pc ≡ Some SelfUnit) × (slice_get code (pc + 1) ≡ Some (SetField m))
+
+-- the address behind that
+abbrev pub behind : Slot → ℕ → ℕ
+behind (Local l) pc = pc + 1
+behind (Member m) pc = pc + 1 + 1
+
+-- the slot is there
+abbrev pub IsSlot : Slot → State → Type 0
+IsSlot (Local l) st = l < length st.locals
+IsSlot (Member m) st = (st.self < length st.instances) × (m < length (instance_of st st.self).members)
+
+abbrev pub with_slot : Slot → Val → State → State
+with_slot (Local l) v st = set_local l v st
+with_slot (Member m) v st = set_member st.self m v st
+
+-- Where a step leads, which gives a value before this address, once the value is stored in the slot; or the error of the step.
+abbrev pub IsPut : Slot → ℕ → Next → Config → Type 0
+IsPut slot at (Goes [] (At pc (v ∷ vs) fs st)) after = (pc ≡ at) × (after ≡ At (behind slot at) vs fs (with_slot slot v st))
+IsPut slot at (Goes [] (Ending how fs st)) after = after ≡ Ending how fs st
+IsPut slot at next after = ⊥
+
+-- an instruction that can change a container, or that joins bytes or texts
+abbrev pub may_change : Instr → Bool
+may_change (Binary o) = true
+may_change (Lib m) = changes m
+may_change SetIndex = true
+may_change AddKey = true
+may_change DeleteKey = true
+may_change i = false

@@ -1,0 +1,410 @@
+// Changes of containers in place. What an instruction gives is stored at once where the code behind it stores it. The slot gives up
+// its own value before a change, so that the container has no other owner, and isn't copied.
+ghost use Rattle.std.specs.Prelude.{◌≡◌, ◌≢◌, ◌↔◌, ◌+◌, ◌<◌, ◌≤◌, ◌^◌, ◌∷◌, [], length, take, drop, true, slice_get, IsTrue, Ok, Some, OnOk, IfOk, IfSome};
+ghost use Rattle.sp_words.specs.Methods.{arity, changes};
+ghost use Rattle.sp_words.specs.declared.methods.Method.TheVariants as of;
+ghost use Rattle.sp_value.specs.Val.{void};
+ghost use Rattle.sp_value.specs.Changes.{IsSet, IsKeyed, IsVector, items_of, with_member, without_key};
+ghost use Rattle.sp_operators.specs.Operands.{are_added, are_joined, takes};
+ghost use Rattle.sp_operators.specs.Operators.{added, binary};
+ghost use Rattle.sp_methods.specs.Methods.{method, suits};
+ghost use Rattle.sp_methods.specs.Taken.{popped};
+ghost use Rattle.sp_running.specs.Values as values;
+ghost use Rattle.sp_machine.specs.declared.in_place.Slot.TheVariants as slot_is;
+ghost use Rattle.sp_code.specs.Can.{Can, top, second, third, below_top, IsPlace};
+ghost use Rattle.sp_code.specs.Machine.{At, Goes, act, put, put_all};
+ghost use Rattle.sp_code.specs.Programs.{plain_of};
+ghost use Rattle.sp_machine.specs.declared.machine.Mode.TheVariants.{Running};
+ghost use Rattle.sp_machine.specs.Plain.{state_of, plain, reads_of};
+ghost use Rattle.sp_machine.specs.InPlace.{IsStored, IsSlot, IsPut, behind, with_slot, may_change};
+
+use crate::machine::Machine;
+use crate::rows::{Spot, spot_of};
+use sp_base::{Limits, NoMemory, PKind};
+use sp_code::{Instr, Program};
+use sp_lib::pop_back;
+use sp_operators::{ValueFault, add, binary};
+use sp_value::{Level, Value};
+use sp_window::Window;
+use sp_words::{BinaryOp, Method};
+
+/// Where code stores a value.
+#[derive(Clone, Copy)]
+pub(crate) enum Slot {
+    Local(u32),
+    /// a member of the unit at hand
+    Member(u32),
+}
+
+/// Whether an instruction can change a container, or joins bytes or texts.
+pub(crate) fn may_change(instr: Instr) -> bool
+    ensures { result ≡ may_change instr }
+{
+    match instr {
+        Instr::Binary(_) => true,
+        Instr::Lib(called) => called.changes(),
+        Instr::SetIndex => true,
+        Instr::AddKey => true,
+        Instr::DeleteKey => true,
+        _ => false,
+    }
+}
+
+/// Whether the second of two operands is put behind the first, and not added.
+fn joins(left: &Value, right: &Value) -> bool
+    ensures { result ≡ are_joined left.now right.now }
+{
+    match (left.level(), right.level()) {
+        (Level::Bytes(_), Level::Bytes(_)) => true,
+        (Level::Str(_), Level::Str(_)) => true,
+        _ => false,
+    }
+}
+
+/// Bytes or a text with more behind.
+fn joined(left: Value, right: &Value) -> Result<Value, NoMemory>
+    requires { IsTrue (are_joined left right.now) }
+    ensures { IfOk result (λ value. added left right.now ≡ Ok value) }
+{
+    let mut all = left;
+    match right.level() {
+        Level::Bytes(more) => all.append_bytes(more)?,
+        Level::Str(more) => all.append_str(more)?,
+        _ => unreachable!(),
+    }
+    Ok(all)
+}
+
+fn is_empty(vector: &Value) -> bool
+    requires { IsVector vector.now }
+    ensures { IsTrue result ↔ (items_of vector.now ≡ []) }
+{
+    match vector.level() {
+        Level::Vector(items) => items.is_empty(),
+        _ => unreachable!(),
+    }
+}
+
+/// Takes the last item of a vector that has one.
+#[tactic(auto, using(crate::proofs::Spots::never_empty))]
+fn last_of(vector: &mut Value) -> Result<Value, NoMemory>
+    requires vector { IsVector vector.old }
+    requires there { items_of vector.old ≢ [] }
+    ensures { IfOk result (λ item. popped vector.old ≡ Ok (vector.new, item)) }
+{
+    match pop_back(vector) {
+        Ok(item) => Ok(item),
+        Err(ValueFault::Run(_)) => unreachable!(),
+        Err(ValueFault::NoMemory) => Err(NoMemory),
+    }
+}
+
+impl Machine {
+    /// The slot in which the code stores what the instruction at hand gives.
+    pub(crate) fn slot_behind(&self, p: &Program) -> Option<Slot>
+        requires within { self.now.pc + 1 + 1 < 2 ^ 64 }
+        ensures { IfSome result (λ slot. IsStored p.now.code.items (self.now.pc + 1) slot × IsSlot slot (state_of self.now)) }
+    {
+        match p.code.get(self.pc + 1) {
+            Some(Instr::Store(l)) => self.local_slot(*l),
+            Some(Instr::SelfUnit) => match p.code.get(self.pc + 2) {
+                Some(Instr::SetField(m)) => self.member_slot(*m),
+                _ => None,
+            },
+            _ => None,
+        }
+    }
+
+    fn local_slot(&self, l: u32) -> Option<Slot>
+        ensures { IfSome result (λ slot. (slot ≡ slot_is.Local l) × IsSlot slot (state_of self.now)) }
+    {
+        if (l as usize) < self.locals.len() {
+            Some(Slot::Local(l))
+        } else {
+            None
+        }
+    }
+
+    fn member_slot(&self, m: u32) -> Option<Slot>
+        ensures { IfSome result (λ slot. (slot ≡ slot_is.Member m) × IsSlot slot (state_of self.now)) }
+    {
+        if self.own < self.instances.len()
+            && (m as usize) < self.instances[self.own].member_count()
+        {
+            Some(Slot::Member(m))
+        } else {
+            None
+        }
+    }
+
+    fn set_slot(&mut self, slot: Slot, value: Value)
+        requires there { IsSlot slot (state_of self.old) }
+        ensures rest { self.new ≡ record self.old { locals = self.new.locals; instances = self.new.instances } }
+        ensures state { state_of self.new ≡ with_slot slot value (state_of self.old) }
+        ensures there { IsSlot slot (state_of self.new) }
+    {
+        match slot {
+            Slot::Local(l) => self.locals[l as usize] = value,
+            Slot::Member(m) => self.instances[self.own].set_member(m as usize, value),
+        }
+    }
+
+    /// Stores a value, and goes on behind that.
+    fn store_in(&mut self, slot: Slot, value: Value)
+        requires running { self.old.mode ≡ Running }
+        requires within { self.old.pc + 1 + 1 + 1 < 2 ^ 64 }
+        requires there { IsSlot slot (state_of self.old) }
+        ensures { plain self.new ≡ At (behind slot (self.old.pc + 1)) self.old.operands self.old.stack
+            (with_slot slot value (state_of self.old)) }
+    {
+        self.set_slot(slot, value);
+        match slot {
+            Slot::Local(_) => self.pc += 2,
+            Slot::Member(_) => self.pc += 3,
+        }
+    }
+
+    #[tactic(auto, using(crate::proofs::InPlace::given_up))]
+    fn push_back_in(&mut self, slot: Slot) -> Result<(), NoMemory>
+        requires running { self.old.mode ≡ Running }
+        requires within { self.old.pc + 1 + 1 + 1 < 2 ^ 64 }
+        requires there { IsSlot slot (state_of self.old) }
+        requires operands { 1 < length self.old.operands }
+        requires taken { IsTrue (suits of.PushBack (take 2 self.old.operands)) }
+        ensures { OnOk result (IsPut slot (self.old.pc + 1) (put_all (method of.PushBack (take 2 self.old.operands))
+            (self.old.pc + 1) (drop 2 self.old.operands) self.old.stack (state_of self.old)) (plain self.new)) }
+    {
+        let item = self.operands.pop();
+        let mut vector = self.operands.pop();
+        self.set_slot(slot, Value::void());
+        vector.push_back(item)?;
+        self.store_in(slot, vector);
+        Ok(())
+    }
+
+    /// Puts a value at a key of a container.
+    #[tactic(auto, using(crate::proofs::InPlace::given_up, crate::proofs::Spots::past_error, crate::proofs::Spots::with_item_at))]
+    fn put_at_in(
+        &mut self,
+        container: Value,
+        key: Value,
+        x: Value,
+        slot: Slot,
+    ) -> Result<(), NoMemory>
+        requires running { self.old.mode ≡ Running }
+        requires within { self.old.pc + 1 + 1 + 1 < 2 ^ 64 }
+        requires there { IsSlot slot (state_of self.old) }
+        requires place { IsPlace container key }
+        ensures { OnOk result (IsPut slot (self.old.pc + 1) (put (values.with_at container key x) (self.old.pc + 1)
+            self.old.operands self.old.stack (state_of self.old)) (plain self.new)) }
+    {
+        let mut changed = container;
+        match spot_of(&changed, &key) {
+            Spot::Past => self.fails(PKind::Index),
+            Spot::Within(i) => {
+                self.set_slot(slot, Value::void());
+                changed.set_item(i, x)?;
+                self.store_in(slot, changed);
+            }
+            Spot::Keyed => {
+                self.set_slot(slot, Value::void());
+                changed.insert(key, x)?;
+                self.store_in(slot, changed);
+            }
+        }
+        Ok(())
+    }
+
+    fn set_index_in(&mut self, slot: Slot) -> Result<(), NoMemory>
+        requires running { self.old.mode ≡ Running }
+        requires within { self.old.pc + 1 + 1 + 1 < 2 ^ 64 }
+        requires there { IsSlot slot (state_of self.old) }
+        requires operands { 2 < length self.old.operands }
+        requires place { IsPlace (third self.old.operands) (second self.old.operands) }
+        ensures { OnOk result (IsPut slot (self.old.pc + 1) (put
+            (values.with_at (third self.old.operands) (second self.old.operands) (top self.old.operands)) (self.old.pc + 1)
+            (below_top (below_top (below_top self.old.operands))) self.old.stack (state_of self.old)) (plain self.new)) }
+    {
+        let x = self.operands.pop();
+        let key = self.operands.pop();
+        let container = self.operands.pop();
+        self.put_at_in(container, key, x, slot)
+    }
+
+    #[tactic(auto, using(crate::proofs::InPlace::given_up))]
+    fn add_key_in(&mut self, slot: Slot) -> Result<(), NoMemory>
+        requires running { self.old.mode ≡ Running }
+        requires within { self.old.pc + 1 + 1 + 1 < 2 ^ 64 }
+        requires there { IsSlot slot (state_of self.old) }
+        requires operands { 1 < length self.old.operands }
+        requires set { IsSet (second self.old.operands) }
+        ensures { OnOk result (IsPut slot (self.old.pc + 1) (Goes [] (At (self.old.pc + 1)
+            (with_member (second self.old.operands) (top self.old.operands) ∷ below_top (below_top self.old.operands))
+            self.old.stack (state_of self.old))) (plain self.new)) }
+    {
+        let key = self.operands.pop();
+        let mut set = self.operands.pop();
+        self.set_slot(slot, Value::void());
+        set.add(key)?;
+        self.store_in(slot, set);
+        Ok(())
+    }
+
+    #[tactic(auto, using(crate::proofs::InPlace::given_up))]
+    fn delete_key_in(&mut self, slot: Slot) -> Result<(), NoMemory>
+        requires running { self.old.mode ≡ Running }
+        requires within { self.old.pc + 1 + 1 + 1 < 2 ^ 64 }
+        requires there { IsSlot slot (state_of self.old) }
+        requires operands { 1 < length self.old.operands }
+        requires keyed { IsKeyed (second self.old.operands) }
+        ensures { OnOk result (IsPut slot (self.old.pc + 1) (Goes [] (At (self.old.pc + 1)
+            (without_key (second self.old.operands) (top self.old.operands) ∷ below_top (below_top self.old.operands))
+            self.old.stack (state_of self.old))) (plain self.new)) }
+    {
+        let key = self.operands.pop();
+        let mut keyed = self.operands.pop();
+        self.set_slot(slot, Value::void());
+        keyed.delete(&key)?;
+        self.store_in(slot, keyed);
+        Ok(())
+    }
+
+    #[tactic(auto, using(crate::proofs::InPlace::given_up))]
+    fn pop_back_in(&mut self, slot: Slot) -> Result<(), NoMemory>
+        requires running { self.old.mode ≡ Running }
+        requires within { self.old.pc + 1 + 1 + 1 < 2 ^ 64 }
+        requires there { IsSlot slot (state_of self.old) }
+        requires operands { 0 < length self.old.operands }
+        requires taken { IsTrue (suits of.PopBack (take 1 self.old.operands)) }
+        ensures { OnOk result (IsPut slot (self.old.pc + 1) (put_all (method of.PopBack (take 1 self.old.operands))
+            (self.old.pc + 1) (drop 1 self.old.operands) self.old.stack (state_of self.old)) (plain self.new)) }
+    {
+        let mut vector = self.operands.pop();
+        if is_empty(&vector) {
+            self.fails(PKind::Index);
+            return Ok(());
+        }
+        self.set_slot(slot, Value::void());
+        let item = last_of(&mut vector)?;
+        self.operands.push(item)?;
+        self.store_in(slot, vector);
+        Ok(())
+    }
+
+    /// Joins or adds two operands.
+    #[tactic(auto, using(crate::proofs::InPlace::given_up))]
+    fn add_in(&mut self, left: Value, right: &Value, slot: Slot) -> Result<(), NoMemory>
+        requires running { self.old.mode ≡ Running }
+        requires within { self.old.pc + 1 + 1 + 1 < 2 ^ 64 }
+        requires there { IsSlot slot (state_of self.old) }
+        requires taken { IsTrue (are_added left right.now) }
+        ensures { OnOk result (IsPut slot (self.old.pc + 1) (put (added left right.now) (self.old.pc + 1)
+            self.old.operands self.old.stack (state_of self.old)) (plain self.new)) }
+    {
+        if joins(&left, right) {
+            self.set_slot(slot, Value::void());
+            let all = joined(left, right)?;
+            self.store_in(slot, all);
+            return Ok(());
+        }
+        match add(left, right) {
+            Ok(sum) => {
+                self.store_in(slot, sum);
+                Ok(())
+            }
+            Err(ValueFault::Run(kind)) => {
+                self.fails(kind);
+                Ok(())
+            }
+            Err(ValueFault::NoMemory) => Err(NoMemory),
+        }
+    }
+
+    fn binary_in(&mut self, op: BinaryOp, slot: Slot) -> Result<(), NoMemory>
+        requires running { self.old.mode ≡ Running }
+        requires within { self.old.pc + 1 + 1 + 1 < 2 ^ 64 }
+        requires there { IsSlot slot (state_of self.old) }
+        requires operands { 1 < length self.old.operands }
+        requires taken { IsTrue (takes op (second self.old.operands) (top self.old.operands)) }
+        ensures { OnOk result (IsPut slot (self.old.pc + 1) (put
+            (binary op (second self.old.operands) (top self.old.operands)) (self.old.pc + 1)
+            (below_top (below_top self.old.operands)) self.old.stack (state_of self.old)) (plain self.new)) }
+    {
+        let right = self.operands.pop();
+        let left = self.operands.pop();
+        if let BinaryOp::Add = op {
+            return self.add_in(left, &right, slot);
+        }
+        match binary(op, &left, &right) {
+            Ok(found) => {
+                self.store_in(slot, found);
+                Ok(())
+            }
+            Err(ValueFault::Run(kind)) => {
+                self.fails(kind);
+                Ok(())
+            }
+            Err(ValueFault::NoMemory) => Err(NoMemory),
+        }
+    }
+
+    fn call_method_in(&mut self, called: Method, slot: Slot) -> Result<(), NoMemory>
+        requires running { self.old.mode ≡ Running }
+        requires within { self.old.pc + 1 + 1 + 1 < 2 ^ 64 }
+        requires there { IsSlot slot (state_of self.old) }
+        requires changes { changes called ≡ true }
+        requires operands { arity called ≤ length self.old.operands }
+        requires taken { IsTrue (suits called (take (arity called) self.old.operands)) }
+        ensures { OnOk result (IsPut slot (self.old.pc + 1) (put_all (method called (take (arity called) self.old.operands))
+            (self.old.pc + 1) (drop (arity called) self.old.operands) self.old.stack (state_of self.old)) (plain self.new)) }
+    {
+        match called {
+            Method::PushBack => self.push_back_in(slot),
+            Method::PopBack => self.pop_back_in(slot),
+            _ => unreachable!(),
+        }
+    }
+
+    /// Does the instruction, and stores what it gives in the slot, or fails as it does.
+    pub(crate) fn change(
+        &mut self,
+        p: &Program,
+        limits: &Limits,
+        window: &Window,
+        is_ended: bool,
+        instr: Instr,
+        slot: Slot,
+    ) -> Result<(), NoMemory>
+        requires running { self.old.mode ≡ Running }
+        requires within { self.old.pc + 1 + 1 + 1 < 2 ^ 64 }
+        requires there { IsSlot slot (state_of self.old) }
+        requires changes { IsTrue (may_change instr) }
+        requires can { Can (plain_of limits.now p.now) (Some instr) self.old.operands (state_of self.old) }
+        ensures { OnOk result (IsPut slot (self.old.pc + 1) (act (plain_of limits.now p.now) (reads_of window.now is_ended)
+            (Some instr) self.old.pc self.old.operands self.old.stack (state_of self.old)) (plain self.new)) }
+    {
+        match instr {
+            Instr::Binary(op) => self.binary_in(op, slot),
+            Instr::Lib(called) => self.call_method_in(called, slot),
+            Instr::SetIndex => self.set_index_in(slot),
+            Instr::AddKey => self.add_key_in(slot),
+            Instr::DeleteKey => self.delete_key_in(slot),
+            _ => unreachable!(),
+        }
+    }
+
+    /// The instruction at hand and the slot in which the code stores what it gives, where it may change a container.
+    pub(crate) fn change_at_hand(&self, p: &Program) -> Option<(Instr, Slot)>
+        ensures { IfSome result (λ found. (slice_get p.now.code.items self.now.pc ≡ Some found.0)
+            × IsTrue (may_change found.0) × IsStored p.now.code.items (self.now.pc + 1) found.1
+            × IsSlot found.1 (state_of self.now) × (self.now.pc + 1 + 1 + 1 < 2 ^ 64)) }
+    {
+        match p.code.get(self.pc) {
+            Some(instr) if may_change(*instr) => match self.slot_behind(p) {
+                Some(slot) => Some((*instr, slot)),
+                None => None,
+            },
+            _ => None,
+        }
+    }
+}
