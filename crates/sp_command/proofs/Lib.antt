@@ -1,3 +1,2 @@
 pub mod PartPuts
 pub mod Files
-pub mod Between

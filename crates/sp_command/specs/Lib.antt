@@ -2,4 +2,3 @@ pub mod Refusals
 pub mod Puts
 pub mod Words
 pub mod Files
-pub mod Directories

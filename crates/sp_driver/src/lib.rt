@@ -1,13 +1,12 @@
-//! The driver: loads a list of modules, runs a unit of it over an input in pieces, and writes the lines that it tells.
+//! The driver: reads a module, runs its unit over an input in pieces, and writes the lines that it tells.
 #![tactic(auto)]
 
-mod compile;
 mod driver;
 mod exits;
-mod loading;
-mod options;
+mod load;
 mod pieces;
 mod run;
-mod texts;
+mod words;
 
 pub use driver::spicy_driver;
+pub use sp_session as session;

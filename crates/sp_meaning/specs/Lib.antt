@@ -1,3 +1,6 @@
+pub mod Leaf
 pub mod Meaning
+pub mod Result
 pub mod Steady
-pub mod Rows
+pub mod Told
+pub mod Width

@@ -1,7 +1,2 @@
-pub mod Fronts
-pub mod Lawful
-pub mod Endings
-pub mod Tellings
-pub mod Meanings
 pub mod Stands
-pub mod Example
+pub mod Steps

@@ -1,6 +1,2 @@
-pub mod Units
+pub mod Reading
 pub mod Session
-pub mod Telling
-pub mod Laws
-pub mod Example
-pub mod Rows

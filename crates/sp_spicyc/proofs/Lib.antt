@@ -1,4 +1,5 @@
 pub mod Causing
+pub mod Between
 pub mod Reports
 pub mod Single
 pub mod Wholes

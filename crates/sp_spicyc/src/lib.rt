@@ -2,6 +2,7 @@
 #![tactic(auto)]
 
 mod command;
+mod directories;
 mod exits;
 mod files;
 mod laws;

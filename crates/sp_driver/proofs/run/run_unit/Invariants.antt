@@ -1,20 +1,19 @@
-use Rattle.std.proofs.Common.{◌≡◌, ◌≤◌, ◌-◌, ℕ, List}
+use Rattle.std.proofs.Common.{◌≡◌, ◌≤◌, ◌-◌, ◌^◌, ℕ, List}
 use Rattle.sp_session.specs.Session.{means, received}
-use Rattle.sp_session.specs.Units.{unit_meaning}
-use Rattle.sp_driver.specs.Options.{limits_of}
+use Rattle.sp_driver.specs.Driver.{run_meaning}
 use Rattle.sp_driver.specs.inside.Fed.{IsFedBy}
 use Rattle.sp_driver.proofs.run.run_unit.Given as goal
 
 abbrev pub invariant-pieces : goal.invariant-pieces
 invariant-pieces g l = record {
-  room : received l.session ≤ l.options.most;
-  means : means l.session ≡ unit_meaning l.list (limits_of l.turns) l.compiled.unit;
+  room : received l.session ≤ 2 ^ 62;
+  means : means l.session ≡ run_meaning l.program.fields.items;
   input_quiet : g.S.Source.faults l.input ≡ g.S.Source.faults l.fn.input;
   out_quiet : g.O.Out.faults l.out ≡ g.O.Out.faults l.fn.out;
   fed :
       (s : List ℕ) × (j : ℕ)
-      × IsFedBy (unit_meaning l.list (limits_of l.turns) l.compiled.unit) l.options l.session (g.S.Source.left l.fn.input) (g.S.Source.left l.input) (g.O.Out.held l.fn.out) (g.O.Out.held l.out) s j;
+      × IsFedBy (run_meaning l.program.fields.items) l.n l.session (g.S.Source.left l.fn.input) (g.S.Source.left l.input) (g.O.Out.held l.fn.out) (g.O.Out.held l.out) s j;
 }
 
 abbrev pub decreases-pieces : goal.decreases-pieces
-decreases-pieces g l = l.options.most - received l.session
+decreases-pieces g l = 2 ^ 62 - received l.session

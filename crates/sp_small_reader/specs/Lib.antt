@@ -1,0 +1,3 @@
+pub mod IntegerUnit
+pub mod Names
+pub mod Tokens

@@ -1,0 +1,6 @@
+pub mod Units
+pub mod Session
+pub mod Telling
+pub mod Laws
+pub mod Example
+pub mod Rows
