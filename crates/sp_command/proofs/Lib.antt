@@ -1,2 +1,3 @@
 pub mod PartPuts
 pub mod Files
+pub mod Between

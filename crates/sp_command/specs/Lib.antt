@@ -2,3 +2,4 @@ pub mod Refusals
 pub mod Puts
 pub mod Words
 pub mod Files
+pub mod Directories

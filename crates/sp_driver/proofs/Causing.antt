@@ -1,8 +1,10 @@
 -- The causes of the statuses.
 use Rattle.std.specs.Prelude.{◌⊎◌}
 use Rattle.std.proofs.Common.{◌≡◌, ◌≢◌, ◌<◌, ℕ, sym, ◌∙◌, refl, arith, inl, inr, ⊎_elim}
+use Rattle.sp_read_file.specs.declared.unread.Unread.{Unread}
 use Rattle.sp_driver.specs.declared.exits.Exit.{Exit}
 use Rattle.sp_driver.specs.declared.exits.RunExit.{RunExit}
+use Rattle.sp_driver.specs.declared.exits.Unready.{Unready}
 use Rattle.sp_driver.specs.Causes.{Counts, IsCausedBy}
 use Rattle.sp_driver.specs.Driver.{Faults, Messages, ExitCause, Reported, status_of}
 
@@ -18,9 +20,12 @@ counts faults messages = record { modules = faults.modules; input = faults.input
 
 kind_of : (before after : Faults) (told_before told_after : Messages) (exit : Exit) → ExitCause before after exit → Kind (counts before told_before) (counts after told_after) (status_of exit)
 kind_of before after told_before told_after Exit.Usage c = calm c.0 c.1 c.2 (λ e. omega arith) (λ e. omega arith)
-kind_of before after told_before told_after (Exit.Refused r) c = calm c.0 c.1 c.2 (λ e. omega arith) (λ e. omega arith)
-kind_of before after told_before told_after Exit.ModulesFault c = reading (inl c.0) c.2 refl
-kind_of before after told_before told_after Exit.NoMemory c = calm c.0 c.1 c.2 (λ e. omega arith) (λ e. omega arith)
+kind_of before after told_before told_after (Exit.Unread (Unread.Refused r)) c = calm c.0 c.1 c.2 (λ e. omega arith) (λ e. omega arith)
+kind_of before after told_before told_after (Exit.Unread Unread.ModulesFault) c = reading (inl c.0) c.2 refl
+kind_of before after told_before told_after (Exit.Unread Unread.NoMemory) c = calm c.0 c.1 c.2 (λ e. omega arith) (λ e. omega arith)
+kind_of before after told_before told_after (Exit.Unready Unready.NoParser) c = calm c.0 c.1 c.2 (λ e. omega arith) (λ e. omega arith)
+kind_of before after told_before told_after (Exit.Unready (Unready.Unbuilt r)) c = calm c.0 c.1 c.2 (λ e. omega arith) (λ e. omega arith)
+kind_of before after told_before told_after (Exit.Unready Unready.NoMemory) c = calm c.0 c.1 c.2 (λ e. omega arith) (λ e. omega arith)
 kind_of before after told_before told_after (Exit.Ran RunExit.Done) c = calm c.0 c.1.0 c.1.1 (λ e. omega arith) (λ e. omega arith)
 kind_of before after told_before told_after (Exit.Ran RunExit.Failed) c = calm c.0 c.1.0 c.1.1 (λ e. omega arith) (λ e. omega arith)
 kind_of before after told_before told_after (Exit.Ran RunExit.InputFault) c = reading (inr c.1.0) c.1.1 refl

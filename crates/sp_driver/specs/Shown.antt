@@ -1,34 +1,23 @@
--- What a run of a unit writes of an input that comes in pieces of n bytes, by what the unit means.
-use Rattle.std.specs.Prelude.{ℕ, zero, suc, ◌+◌, ◌*◌, ◌/◌, ◌^◌, List, [], ◌++◌, length, take, drop, codes, nat_lt, if◌then◌else◌}
+-- What a run of a unit writes of an input that comes in pieces, by what the unit means and the options of the run.
+use Rattle.std.specs.Prelude.{ℕ, zero, suc, ◌+◌, ◌*◌, ◌/◌, List, [], ◌++◌, length, take, drop, nat_lt, if◌then◌else◌}
 use Rattle.sp_base.specs.Input.{Close, held_open, ended}
 use Rattle.sp_meaning.specs.Meaning.{UnitMeaning}
-use Rattle.sp_json.specs.Lines.{lines_of}
+use Rattle.sp_driver.specs.Lines.{event_lines}
+use Rattle.sp_driver.specs.declared.options.RunOptions.{RunOptions}
 
--- the name of the one flow of a run
-abbrev pub flow_name : List ℕ
-flow_name = codes "0"
+-- the lines of the events that the meaning of the later bytes has, and that of the earlier bytes, held open, has not
+abbrev pub added : UnitMeaning → RunOptions → List ℕ → List ℕ → Close → List ℕ
+added meaning o earlier later close = event_lines o.trace (drop (length (meaning earlier held_open).events) (meaning later close).events)
 
--- the most bytes that a run takes
-abbrev pub most_taken : ℕ
-most_taken = 2 ^ 62
+-- what is out after the first j pieces of the input s: the lines of no bytes, and then those that each piece adds
+abbrev pub shown : UnitMeaning → RunOptions → List ℕ → ℕ → List ℕ
+shown meaning o s zero = event_lines o.trace (meaning [] held_open).events
+shown meaning o s (suc j) = shown meaning o s j ++ added meaning o (take (j * o.increment) s) (take ((j + 1) * o.increment) s) held_open
 
--- the lines of the events that the meaning of the later bytes has, and that of the earlier bytes, held
--- open, has not
-abbrev pub added : UnitMeaning → List ℕ → List ℕ → Close → List ℕ
-added meaning earlier later close = lines_of flow_name (drop (length (meaning earlier held_open).events) (meaning later close).events)
+-- what is out at the end of the input s: the lines of all pieces, the last being shorter, and then those that the end adds
+abbrev pub whole : UnitMeaning → RunOptions → List ℕ → List ℕ
+whole meaning o s = shown meaning o s (suc (length s / o.increment)) ++ added meaning o s s ended
 
--- what is out after the first j pieces of the input s: the lines of no bytes, and then those that each
--- piece adds
-abbrev pub shown : UnitMeaning → ℕ → List ℕ → ℕ → List ℕ
-shown meaning n s zero = lines_of flow_name (meaning [] held_open).events
-shown meaning n s (suc j) = shown meaning n s j ++ added meaning (take (j * n) s) (take ((j + 1) * n) s) held_open
-
--- what is out at the end of the input s: the lines of all pieces, the last being shorter, and then those
--- that the end adds
-abbrev pub whole : UnitMeaning → ℕ → List ℕ → List ℕ
-whole meaning n s = shown meaning n s (suc (length s / n)) ++ added meaning s s ended
-
--- what a run writes that meets no fault and has memory; of an input that is too long, the lines of the
--- whole pieces that may be taken
-abbrev pub run_lines : UnitMeaning → ℕ → List ℕ → List ℕ
-run_lines meaning n s = if nat_lt most_taken (length s) then shown meaning n s (most_taken / n) else whole meaning n s
+-- what a run writes that meets no fault and has memory; of an input that is too long, the lines of the whole pieces that may be taken
+abbrev pub run_lines : UnitMeaning → RunOptions → List ℕ → List ℕ
+run_lines meaning o s = if nat_lt o.most (length s) then shown meaning o s (o.most / o.increment) else whole meaning o s

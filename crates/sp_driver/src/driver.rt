@@ -1,18 +1,73 @@
-// The program: it reads its words, the module and the input, and answers a status.
-ghost use Rattle.std.specs.Prelude.{◌≡◌, ◌<◌, ◌-◌, ◌^◌, IfOk};
+// The program: it reads its words, the list of modules and the input, and answers a status.
+ghost use Rattle.std.specs.Prelude.{◌≡◌, ◌≤◌, ◌<◌, ◌-◌, ◌^◌, Some, option_map, IfOk, IfSome};
+ghost use Rattle.sp_driver_words.specs.Wants.{wanted_words, AreInRange};
+ghost use Rattle.sp_driver_words.specs.Words.{Words, words_of};
 ghost use Rattle.sp_driver.specs.Causes.{IsCausedBy};
 ghost use Rattle.sp_driver.specs.Whole.{IsAnswered};
-ghost use Rattle.sp_driver.specs.Driver.{Says, ExitCause, Reported, Ended, status_of, run_status, message_of, run_message};
+ghost use Rattle.sp_driver.specs.Options.{options_of};
+ghost use Rattle.sp_driver.specs.inside.Listed.{IsRunOf, IsRunCause};
+ghost use Rattle.sp_driver.specs.Driver.{Says, ExitCause, Reported, Ended, status_of, unread_status, unready_status, run_status, message_of, unread_message, unready_message, run_message};
 
-use crate::exits::{Exit, RunExit};
-use crate::load::load;
+use crate::compile::compile;
+use crate::exits::{Exit, RunExit, Unready};
+use crate::loading::load_list;
+use crate::options::RunOptions;
 use crate::run::run_unit;
-use crate::words::words_wanted;
 use sp_base::{ByteList, NoMemory, Text};
+use sp_driver_words::{Wanted, words_wanted};
 use sp_io::{Modules, Out, OutFault, Source, put_all};
+use sp_load::Loaded;
+use sp_read_file::Unread;
 use std::alloc::Global;
 
+fn options_of(wanted: &Wanted<'_>) -> RunOptions
+    ensures { result ≡ options_of (wanted_words wanted.now) }
+{
+    RunOptions {
+        increment: wanted.increment,
+        most: wanted.most,
+        trace: wanted.trace,
+    }
+}
+
+/// What the words want. Their pieces have at least one byte.
+fn wanted_of(words: &[Text]) -> Option<Wanted<'_>>
+    ensures value { option_map wanted_words result ≡ words_of words.now }
+    ensures range { IfSome result AreInRange }
+    ensures some { (w : Words) → words_of words.now ≡ Some w → 1 ≤ w.increment }
+{
+    words_wanted(words)
+}
+
+/// Compiles a list, and runs the unit of it that the words want.
+fn run_list<S: Source, O: Out>(
+    alloc: Global,
+    wanted: &Wanted<'_>,
+    list: &Loaded,
+    input: &mut S,
+    out: &mut O,
+) -> Exit
+    requires range { AreInRange wanted.now }
+    requires input_faults { S.faults input.old < 2 ^ 64 - 1 }
+    requires out_faults { O.faults out.old < 2 ^ 64 - 1 }
+    ensures says { IsRunOf (wanted_words wanted.now) list.now.sources.items list.now.modules.items
+        list.now.typed (S.left input.old) (S.left input.new) (O.held out.old) (O.held out.new)
+        result }
+    ensures cause { IsRunCause (S.faults input.old) (S.faults input.new) (O.faults out.old)
+        (O.faults out.new) result }
+{
+    match compile(alloc, wanted.unit, list) {
+        Ok(compiled) => {
+            let options = options_of(wanted);
+            let turns = wanted.turns;
+            Exit::Ran(run_unit(alloc, &list.typed, &compiled, turns, options, input, out))
+        }
+        Err(unready) => Exit::Unready(unready),
+    }
+}
+
 /// What the program does but for its message.
+#[tactic(auto, using(crate::proofs::Says::says_run_of, crate::proofs::Says::cause_run_of))]
 fn drive<M: Modules, S: Source, O: Out>(
     alloc: Global,
     words: &[Text],
@@ -42,6 +97,7 @@ fn drive<M: Modules, S: Source, O: Out>(
             out = O.faults out.new;
           };
         }) result }
+    ensures some { (w : Words) → words_of words.now ≡ Some w → 1 ≤ w.increment }
     ensures cause { ExitCause
         (record {
           modules = M.faults modules.old;
@@ -54,13 +110,14 @@ fn drive<M: Modules, S: Source, O: Out>(
           out = O.faults out.new;
         }) result }
 {
-    let Some(wanted) = words_wanted(words) else {
+    let Some(wanted) = wanted_of(words) else {
         return Exit::Usage;
     };
-    match load(alloc, wanted.file, modules) {
-        Ok(program) => Exit::Ran(run_unit(alloc, &program, wanted.increment, input, out)),
-        Err(exit) => exit,
-    }
+    let list = match load_list(alloc, wanted.files, wanted.directories, modules) {
+        Ok(list) => list,
+        Err(unread) => return Exit::Unread(unread),
+    };
+    run_list(alloc, &wanted, &list, input, out)
 }
 
 /// The message of an exit.
@@ -69,8 +126,14 @@ fn message(alloc: Global, exit: &Exit) -> Result<ByteList, NoMemory>
 {
     match exit {
         Exit::Usage => ByteList::from_slice(alloc, b"spicy-driver: usage\n"),
-        Exit::Refused(refusal) => refusal.message(alloc),
-        Exit::ModulesFault | Exit::Ran(RunExit::InputFault) => ByteList::from_slice(
+        Exit::Unread(Unread::Refused(refusal)) | Exit::Unready(Unready::Unbuilt(refusal)) => {
+            refusal.message(alloc)
+        }
+        Exit::Unready(Unready::NoParser) => ByteList::from_slice(
+            alloc,
+            b"spicy-driver: M32 NoParser\n",
+        ),
+        Exit::Unread(Unread::ModulesFault) | Exit::Ran(RunExit::InputFault) => ByteList::from_slice(
             alloc,
             b"spicy-driver: read fault\n",
         ),
@@ -87,9 +150,15 @@ fn status(exit: &Exit) -> u8
 {
     match exit {
         Exit::Usage => 2,
-        Exit::Refused(_) => 3,
-        Exit::ModulesFault => 4,
-        Exit::NoMemory => 7,
+        Exit::Unread(unread) => match unread {
+            Unread::Refused(_) => 3,
+            Unread::ModulesFault => 4,
+            Unread::NoMemory => 7,
+        },
+        Exit::Unready(unready) => match unready {
+            Unready::NoParser | Unready::Unbuilt(_) => 3,
+            Unready::NoMemory => 7,
+        },
         Exit::Ran(exit) => match exit {
             RunExit::Done => 0,
             RunExit::Failed => 1,
@@ -118,8 +187,8 @@ fn report<E: Out>(alloc: Global, exit: &Exit, err: &mut E) -> u8
     }
 }
 
-/// Runs the unit of the module that the words name over the input, writes the lines that it tells to `out`
-/// and a message where something is wrong to `err`, and answers the status of the program.
+/// Loads the list of modules that the words name, compiles it, and runs a unit of it over the input. Writes the lines that it tells to
+/// `out` and a message where something is wrong to `err`, and answers the status of the program.
 pub fn spicy_driver<M: Modules, S: Source, O: Out, E: Out>(
     alloc: Global,
     words: &[Text],

@@ -1,9 +1,9 @@
 // How the program ends.
 ghost use Rattle.std.specs.Prelude.{◌≡◌};
-ghost use Rattle.sp_driver.specs.declared.exits.Stop.TheVariants;
 
 use sp_base::NoMemory;
 use sp_command::Refusal;
+use sp_read_file::Unread;
 
 /// How the run of a unit ends.
 #[derive(Clone, Copy, Debug, PartialEq, Eq)]
@@ -22,17 +22,36 @@ pub enum RunExit {
     NoMemory,
 }
 
+/// Why no unit of a list runs.
+#[derive(Drop)]
+pub enum Unready {
+    /// No unit is the one that runs, or more than one.
+    NoParser,
+    /// Something in the list can't be run yet.
+    Unbuilt(Refusal),
+    /// There was no memory.
+    NoMemory,
+}
+
+impl From<NoMemory> for Unready {
+    ghost use Rattle.sp_driver.specs.declared.exits.Unready.TheVariants as unready_is;
+
+    ghost from_gives = { λ _ e. e ≡ unready_is.NoMemory };
+
+    fn from(_: NoMemory) -> Self {
+        Unready::NoMemory
+    }
+}
+
 /// How the program ends.
 #[derive(Drop)]
 pub enum Exit {
     /// The command line is faulty.
     Usage,
-    /// A module was refused.
-    Refused(Refusal),
-    /// A module could not be read.
-    ModulesFault,
-    /// There was no memory before the unit ran.
-    NoMemory,
+    /// The list of modules was not loaded.
+    Unread(Unread),
+    /// No unit of it runs.
+    Unready(Unready),
     /// The unit ran.
     Ran(RunExit),
 }
@@ -45,7 +64,9 @@ pub enum Stop {
 }
 
 impl From<NoMemory> for Stop {
-    ghost from_gives = { λ _ e. e ≡ TheVariants.NoMemory };
+    ghost use Rattle.sp_driver.specs.declared.exits.Stop.TheVariants as stop;
+
+    ghost from_gives = { λ _ e. e ≡ stop.NoMemory };
 
     fn from(_: NoMemory) -> Self {
         Stop::NoMemory

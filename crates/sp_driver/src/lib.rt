@@ -1,12 +1,13 @@
-//! The driver: reads a module, runs its unit over an input in pieces, and writes the lines that it tells.
+//! The driver: loads a list of modules, runs a unit of it over an input in pieces, and writes the lines that it tells.
 #![tactic(auto)]
 
+mod compile;
 mod driver;
 mod exits;
-mod load;
+mod loading;
+mod options;
 mod pieces;
 mod run;
-mod words;
+mod texts;
 
 pub use driver::spicy_driver;
-pub use sp_session as session;

@@ -2,34 +2,58 @@
 ghost use Rattle.std.specs.Prelude.{◌≡◌, ◌≤◌, ◌<◌, ◌-◌, ◌^◌, ℕ, List, [], ◌∷◌, ◌++◌, Ok, Err, length, take, drop, true, false, IfOk, OnOk, OnErr, MatchResult, MatchOption};
 ghost use Rattle.sp_io.specs.Causes.{SourceCause};
 ghost use Rattle.sp_io.specs.Moved.{appended, prepended};
-ghost use Rattle.sp_json.specs.Lines.{lines_of};
 ghost use Rattle.sp_command.specs.Puts.{IsPartPut};
+ghost use Rattle.sp_driver.specs.Lines.{is_told, event_line, event_lines};
 ghost use Rattle.sp_driver.specs.Parts.{StopCause};
 
 use crate::exits::Stop;
-use sp_base::ByteList;
-use sp_events::Event;
+use sp_base::{ByteList, NoMemory};
+use sp_events::{Event, What};
 use sp_io::{Out, OutFault, Source, SourceFault, Took, put_all};
 use sp_json::line;
 use std::alloc::Global;
 
+/// The name of the one flow of a run.
+const FLOW: &str = "0";
+
+/// Whether something that happened always has a line.
+fn is_told(what: &What) -> bool
+    ensures { result ≡ is_told what.now }
+{
+    match what {
+        What::Print(_) | What::Done(_) | What::Failed(_) => true,
+        What::Hook { .. } | What::Write { .. } | What::Forward(_) | What::ForwardEod => false,
+    }
+}
+
+/// The line of an event, or nothing where it has none.
+fn event_line(alloc: Global, trace: bool, event: &Event) -> Result<ByteList, NoMemory>
+    ensures { IfOk result (λ text. text ≡ event_line trace event.now) }
+{
+    if trace || is_told(&event.what) {
+        line(alloc, FLOW, event)
+    } else {
+        Ok(ByteList::new(alloc))
+    }
+}
+
 /// Puts the lines of events of the flow. Where that stops, a front of them was put.
 pub fn put_lines<O: Out>(
     alloc: Global,
-    flow: &str,
+    trace: bool,
     events: &[Event],
     out: &mut O,
 ) -> Result<(), Stop>
     requires { O.faults out.old < 2 ^ 64 - 1 }
     ensures held { OnOk result (O.held out.new ≡ appended (O.held out.old)
-        (lines_of flow.now events.now)) }
+        (event_lines trace events.now)) }
     ensures part { OnErr result (IsPartPut (O.held out.old) (O.held out.new)
-        (lines_of flow.now events.now)) }
+        (event_lines trace events.now)) }
     ensures cause { MatchResult result (λ _. O.faults out.new ≡ O.faults out.old)
         (StopCause (O.faults out.old) (O.faults out.new)) }
 {
     for event in events {
-        let text = line(alloc, flow, event)?;
+        let text = event_line(alloc, trace, event)?;
         match put_all(out, text.as_slice()) {
             Ok(()) => {}
             Err(OutFault::Failed) => return Err(Stop::Failed),

@@ -3,41 +3,33 @@ ghost use Rattle.std.specs.Prelude.{◌≡◌, ◌≢◌, ◌≤◌, ◌<◌, �
 ghost use Rattle.sp_base.specs.Input.{held_open, ended};
 ghost use Rattle.sp_io.specs.Moved.{appended};
 ghost use Rattle.sp_meaning.specs.declared.stand.Stand.TheVariants.{Waiting};
-ghost use Rattle.sp_session.specs.Session.{StandsFor, IsFed, means, received, told_by};
-ghost use Rattle.sp_json.specs.Lines.{lines_of};
+ghost use Rattle.sp_session.specs.Session.{StandsFor, IsFresh, IsFed, means, received, told_by};
+ghost use Rattle.sp_session.specs.Units.{unit_meaning};
 ghost use Rattle.sp_command.specs.Puts.{IsPartPut};
+ghost use Rattle.sp_driver.specs.Lines.{event_lines};
+ghost use Rattle.sp_driver.specs.Options.{AreOptions, limits_of};
 ghost use Rattle.sp_driver.specs.Parts.{StopCause};
-ghost use Rattle.sp_driver.specs.Shown.{added, flow_name};
+ghost use Rattle.sp_driver.specs.Shown.{added};
 ghost use Rattle.sp_driver.specs.Run.{Runs, RunCause};
-ghost use Rattle.sp_driver.specs.Driver.{run_meaning};
 ghost use Rattle.sp_driver.specs.inside.Fed.{IsFedBy, Turned, TurnCause, IsOver, exit_of_stop, exit_of_stand};
+ghost use Rattle.sp_driver.specs.inside.Ready.{AlwaysRuns};
 
+use crate::compile::Compiled;
 use crate::exits::{RunExit, Stop, Turn};
+use crate::options::RunOptions;
 use crate::pieces::{fill, put_lines};
-use crate::session::{Program, Session, Stand};
 use sp_base::{ByteList, Limits};
 use sp_events::Events;
 use sp_io::{Out, Source, SourceFault};
+use sp_meaning::Stand;
+use sp_session::Session;
+use sp_typed_units::Typed;
 use std::alloc::Global;
-
-/// The most bytes that a run takes.
-const MOST_TAKEN: u64 = 1 << 62;
-
-const FLOW: &str = "0";
-
-/// The number of the unit that runs: the first of the program.
-const FIRST_UNIT: u32 = 0;
-
-/// The limits of a run.
-const LIMITS: Limits = Limits {
-    turns: 1_000_000,
-    depth: 100,
-    fibers: 8,
-};
 
 /// Feeds a piece, and puts the lines that it adds.
 fn step<O: Out>(
     alloc: Global,
+    options: RunOptions,
     session: &mut Session<'_>,
     piece: &[u8],
     out: &mut O,
@@ -51,11 +43,11 @@ fn step<O: Out>(
         ≡ received session.old + length piece.now) }
     ensures held { (s : List ℕ) → StandsFor session.old s
         → OnOk result (O.held out.new ≡ appended (O.held out.old)
-        (lines_of flow_name (drop (length (told_by session.old s))
+        (event_lines options.trace (drop (length (told_by session.old s))
         (means session.old (s ++ piece.now) held_open).events))) }
     ensures part { (s : List ℕ) → StandsFor session.old s
         → OnErr result (IsPartPut (O.held out.old) (O.held out.new)
-        (lines_of flow_name (drop (length (told_by session.old s))
+        (event_lines options.trace (drop (length (told_by session.old s))
         (means session.old (s ++ piece.now) held_open).events))) }
     ensures means { means session.new ≡ means session.old }
     ensures cause { MatchResult result (λ _. O.faults out.new ≡ O.faults out.old)
@@ -63,18 +55,23 @@ fn step<O: Out>(
 {
     let mut events = Events::new(alloc);
     session.feed(piece, &mut events)?;
-    put_lines(alloc, FLOW, events.as_slice(), out)
+    put_lines(alloc, options.trace, events.as_slice(), out)
 }
 
 /// Ends the input, puts the last lines, and answers the exit of the run.
-fn finish<O: Out>(alloc: Global, session: &mut Session<'_>, out: &mut O) -> Result<RunExit, Stop>
+fn finish<O: Out>(
+    alloc: Global,
+    options: RunOptions,
+    session: &mut Session<'_>,
+    out: &mut O,
+) -> Result<RunExit, Stop>
     requires { O.faults out.old < 2 ^ 64 - 1 }
     ensures held { (s : List ℕ) → StandsFor session.old s → IsFed session.old
         → OnOk result (O.held out.new ≡ appended (O.held out.old)
-        (added (means session.old) s s ended)) }
+        (added (means session.old) options s s ended)) }
     ensures part { (s : List ℕ) → StandsFor session.old s → IsFed session.old
         → OnErr result (IsPartPut (O.held out.old) (O.held out.new)
-        (added (means session.old) s s ended)) }
+        (added (means session.old) options s s ended)) }
     ensures exit { (s : List ℕ) → StandsFor session.old s
         → IfOk result (λ exit. exit ≡ exit_of_stand (means session.old s ended).stand) }
     ensures decided { (s : List ℕ) → StandsFor session.old s
@@ -85,7 +82,7 @@ fn finish<O: Out>(alloc: Global, session: &mut Session<'_>, out: &mut O) -> Resu
 {
     let mut events = Events::new(alloc);
     let exit = exit_by(&session.end(&mut events)?);
-    put_lines(alloc, FLOW, events.as_slice(), out)?;
+    put_lines(alloc, options.trace, events.as_slice(), out)?;
     Ok(exit)
 }
 
@@ -111,78 +108,107 @@ fn stopped(stop: Stop) -> RunExit
 /// Takes the next piece, feeds it and puts its lines; behind the last piece it ends the input.
 fn turn<S: Source, O: Out>(
     alloc: Global,
-    n: u64,
+    options: RunOptions,
     session: &mut Session<'_>,
     piece: &mut ByteList,
     input: &mut S,
     out: &mut O,
 ) -> Turn
-    requires some { 1 ≤ n }
-    requires small { n ≤ 65536 }
-    requires room { received session.old ≤ 2 ^ 62 }
+    requires options { AreOptions options }
+    requires room { received session.old ≤ options.most }
     requires input_faults { S.faults input.old < 2 ^ 64 - 1 }
     requires out_faults { O.faults out.old < 2 ^ 64 - 1 }
     ensures turned { (left held : Option (List ℕ)) (s : List ℕ) (j : ℕ)
-        → IsFedBy (means session.old) n session.old left (S.left input.old) held (O.held out.old)
-        s j
-        → Turned (means session.old) n session.new left (S.left input.new) held (O.held out.new)
-        result }
-    ensures room { result ≡ Turn.More → received session.new ≤ 2 ^ 62 }
+        → IsFedBy (means session.old) options session.old left (S.left input.old) held
+        (O.held out.old) s j
+        → Turned (means session.old) options session.new left (S.left input.new) held
+        (O.held out.new) result }
+    ensures room { result ≡ Turn.More → received session.new ≤ options.most }
     ensures more { result ≡ Turn.More → received session.old < received session.new }
     ensures means { result ≡ Turn.More → means session.new ≡ means session.old }
     ensures cause { TurnCause (S.faults input.old) (S.faults input.new) (O.faults out.old)
         (O.faults out.new) result }
 {
+    let room = options.most - session.received();
     piece.clear();
-    let full = match fill(n, input, piece) {
+    let full = match fill(options.increment, input, piece) {
         Ok(full) => full,
         Err(SourceFault::Failed) => return Turn::Ends(RunExit::InputFault),
         Err(SourceFault::NoMemory) => return Turn::Ends(RunExit::NoMemory),
     };
-    if MOST_TAKEN - session.received() < piece.len() as u64 {
+    if room < piece.len() as u64 {
         return Turn::Ends(RunExit::TooLong);
     }
-    if let Err(stop) = step(alloc, session, piece.as_slice(), out) {
+    if let Err(stop) = step(alloc, options, session, piece.as_slice(), out) {
         return Turn::Ends(stopped(stop));
     }
     if full {
         return Turn::More;
     }
-    match finish(alloc, session, out) {
+    match finish(alloc, options, session, out) {
         Ok(exit) => Turn::Ends(exit),
         Err(stop) => Turn::Ends(stopped(stop)),
     }
 }
 
-/// Runs the unit over the input in pieces of `n` bytes, the last one shorter, and puts out the lines that
-/// each piece adds before it takes the next one. It reads to the end of the input, also behind the unit.
-pub fn run_unit<S: Source, O: Out>(
+/// Runs a session that was only started over the input in pieces, the last one shorter, and puts out the lines that each piece adds before
+/// it takes the next one. It reads to the end of the input, also behind the unit.
+fn run_session<S: Source, O: Out>(
     alloc: Global,
-    program: &Program,
-    n: u64,
+    options: RunOptions,
+    session: &mut Session<'_>,
     input: &mut S,
     out: &mut O,
 ) -> RunExit
-    requires some { 1 ≤ n }
-    requires small { n ≤ 65536 }
+    requires stands { StandsFor session.old [] }
+    requires fresh { IsFresh session.old }
+    requires options { AreOptions options }
     requires input_faults { S.faults input.old < 2 ^ 64 - 1 }
     requires out_faults { O.faults out.old < 2 ^ 64 - 1 }
-    ensures runs { Runs (run_meaning program.now.fields.items) n (S.left input.old)
-        (S.left input.new) (O.held out.old) (O.held out.new) result }
+    ensures runs { Runs (means session.old) options (S.left input.old) (S.left input.new)
+        (O.held out.old) (O.held out.new) result }
     ensures cause { RunCause (S.faults input.old) (S.faults input.new) (O.faults out.old)
         (O.faults out.new) result }
 {
-    let Ok(mut session) = Session::start(alloc, program, FIRST_UNIT, LIMITS) else {
-        return RunExit::NoMemory;
-    };
-    if let Err(stop) = step(alloc, &mut session, &[], out) {
+    if let Err(stop) = step(alloc, options, session, &[], out) {
         return stopped(stop);
     }
     let mut piece = ByteList::new(alloc);
     'pieces: loop {
-        match turn(alloc, n, &mut session, &mut piece, input, out) {
+        match turn(alloc, options, session, &mut piece, input, out) {
             Turn::More => {}
             Turn::Ends(exit) => return exit,
         }
+    }
+}
+
+/// Runs a unit of a list over the input in pieces.
+pub fn run_unit<S: Source, O: Out>(
+    alloc: Global,
+    list: &Typed,
+    compiled: &Compiled,
+    turns: u64,
+    options: RunOptions,
+    input: &mut S,
+    out: &mut O,
+) -> RunExit
+    requires runs { AlwaysRuns list.now compiled.now.program compiled.now.unit }
+    requires turns { 1 ≤ turns }
+    requires options { AreOptions options }
+    requires input_faults { S.faults input.old < 2 ^ 64 - 1 }
+    requires out_faults { O.faults out.old < 2 ^ 64 - 1 }
+    ensures runs { Runs (unit_meaning list.now (limits_of turns) compiled.now.unit) options
+        (S.left input.old) (S.left input.new) (O.held out.old) (O.held out.new) result }
+    ensures cause { RunCause (S.faults input.old) (S.faults input.new) (O.faults out.old)
+        (O.faults out.new) result }
+{
+    let limits = Limits {
+        turns,
+        depth: 100,
+        fibers: 8,
+    };
+    match Session::start(alloc, list, &compiled.program, compiled.unit, limits) {
+        Ok(mut session) => run_session(alloc, options, &mut session, input, out),
+        Err(_) => RunExit::NoMemory,
     }
 }

@@ -1,6 +1,3 @@
-pub mod Leaf
 pub mod Meaning
-pub mod Result
 pub mod Steady
-pub mod Told
-pub mod Width
+pub mod Rows

@@ -1,2 +1,7 @@
+pub mod Fronts
+pub mod Lawful
+pub mod Endings
+pub mod Tellings
+pub mod Meanings
 pub mod Stands
-pub mod Steps
+pub mod Example

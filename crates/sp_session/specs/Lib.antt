@@ -1,2 +1,6 @@
-pub mod Reading
+pub mod Units
 pub mod Session
+pub mod Telling
+pub mod Laws
+pub mod Example
+pub mod Rows

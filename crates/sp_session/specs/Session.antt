@@ -1,54 +1,71 @@
 -- What a session stands for.
 use Rattle.std.specs.Prelude.{◌≡◌, ℕ, List, [], length}
 use Rattle.sp_base.specs.Input.{held_open, ended}
+use Rattle.sp_base.specs.declared.places.Limits.{Limits}
 use Rattle.sp_events.specs.declared.event.Event.{Event}
-use Rattle.sp_meaning.specs.declared.grammar.Field.{Field}
+use Rattle.sp_events.specs.declared.event.What.{What}
+use Rattle.sp_typed_units.specs.declared.declarations.Typed.{Typed}
+use Rattle.sp_code.specs.declared.program.Program.{Program}
+use Rattle.sp_code.specs.Machine.{Config}
+use Rattle.sp_code.specs.Programs.{plain_of, shapes_of, IsSoundProgram}
+use Rattle.sp_program.specs.Named.{hook_names_of}
+use Rattle.sp_program.specs.Whole.{starter_at, IsCompiled}
+use Rattle.sp_units_end.specs.Meaning.{RunsUnit}
+use Rattle.sp_fiber.specs.declared.phase.Phase.{Phase as FiberPhase}
+use Rattle.sp_fiber.specs.declared.phase.Phase.TheVariants as fiber_is
+use Rattle.sp_fiber.specs.Fibers.{Suspended, started, HasRun}
+use Rattle.sp_fiber.specs.Fibers as fibers
 use Rattle.sp_meaning.specs.declared.stand.Stand.{Stand}
-use Rattle.sp_meaning.specs.declared.stand.Stand.TheVariants.{Waiting, Done, Failed}
-use Rattle.sp_meaning.specs.Meaning.{UnitMeaning, unit_means}
-use Rattle.sp_session.specs.declared.progress.Progress.{Progress}
+use Rattle.sp_meaning.specs.declared.stand.Stand.TheVariants.{Waiting}
+use Rattle.sp_meaning.specs.Meaning.{UnitMeaning}
 use Rattle.sp_session.specs.declared.session.Phase.{Phase}
 use Rattle.sp_session.specs.declared.session.Session.{Session}
-use Rattle.sp_session.specs.Reading.{Leads, Waits, state_of}
+use Rattle.sp_session.specs.Units.{unit_meaning}
 
--- the fields that a session reads
-abbrev pub grammar : Session → List Field
-grammar session = session.program.now.fields.items
+-- A program is that of a list of modules, it is sound, and it runs the unit u of the list within limits and without arguments.
+pub record Runs (list : Typed) (program : Program) (limits : Limits) (u : ℕ) : Type 0 where
+  pub compiled : IsCompiled list program
+  pub sound : IsSoundProgram program
+  pub unit : RunsUnit (plain_of limits program) (shapes_of program) (hook_names_of list) list (starter_at list u) u []
+
+-- where such a run begins: before the starter of the unit
+abbrev pub start : Typed → ℕ → Config
+start list u = started (starter_at list u) []
 
 -- what the unit that a session reads means, within its limits
 abbrev pub means : Session → UnitMeaning
-means session = unit_means (grammar session)
+means session = unit_meaning session.list.now session.limits session.unit
 
 -- how many bytes it was fed
 abbrev pub received : Session → ℕ
-received session = session.received
+received session = session.fiber.received
 
--- what is stored where a unit was fed some bytes, by how it stands
-abbrev pub Stores : Stand → List Field → Progress → List ℕ → Type 0
-Stores Waiting fields p s = Waits fields p s
-Stores Done fields p s = p.window ≡ []
-Stores (Failed e) fields p s = p.window ≡ []
+-- How far the fiber is, and how the unit stands, by the phase of a session that stands for some bytes: before its first piece nothing ran.
+abbrev pub IsLive : Phase → UnitMeaning → Stand → FiberPhase → List ℕ → Type 0
+IsLive Phase.Fresh meaning stand phase s = (phase ≡ fiber_is.Fresh) × (stand ≡ Waiting)
+IsLive Phase.Fed meaning stand phase s = HasRun phase × (stand ≡ (meaning s held_open).stand)
+IsLive _ meaning stand phase s = ⊥
 
-abbrev pub IsLive : Phase → Stand → List Field → Progress → List ℕ → Type 0
-IsLive Phase.Fresh stand fields p s = (s ≡ []) × (stand ≡ Waiting) × Leads fields p.next (state_of p) p.window []
-IsLive Phase.Fed stand fields p s = (stand ≡ (unit_means fields s held_open).stand) × Stores stand fields p s
-IsLive Phase.Ended stand fields p s = ⊥
-IsLive Phase.Broken stand fields p s = ⊥
-
--- these parts of a session stand for the bytes s, held open
-pub record IsAt (fields : List Field) (phase : Phase) (stand : Stand) (p : Progress) (received : ℕ) (s : List ℕ) : Type 0 where
-  pub live : IsLive phase stand fields p s
-  pub counted : received ≡ length s
+-- These parts of a session stand for the bytes s, held open: its fiber began before the starter of the unit, and has told some events over
+-- these bytes.
+pub record IsAt (list : Typed) (program : Program) (limits : Limits) (u : ℕ) (phase : Phase) (stand : Stand) (f : Suspended) (s : List ℕ) : Type 0 where
+  pub runs : Runs list program limits u
+  pub code : f.code ≡ plain_of limits program
+  pub told : List What
+  pub stands : fibers.StandsFor f (start list u) s told
+  pub counted : f.received ≡ length s
+  pub live : IsLive phase (unit_meaning list limits u) stand f.phase s
 
 -- a session that was started, and was then fed pieces that make the bytes s
 abbrev pub StandsFor : Session → List ℕ → Type 0
-StandsFor session s = IsAt (grammar session) session.phase session.stand session.progress session.received s
+StandsFor session s = IsAt session.list.now session.program.now session.limits session.unit session.phase session.stand session.fiber s
 
 -- a session that was fed pieces that make the bytes s, and then had the end of its input
 pub record EndedFor (session : Session) (s : List ℕ) : Type 0 where
   pub phase : session.phase ≡ Phase.Ended
   pub stand : session.stand ≡ (means session s ended).stand
-  pub window : session.progress.window ≡ []
+  pub told : List What
+  pub over : fibers.EndedFor session.fiber (start session.list.now session.unit) s told
 
 -- a session for which there was no memory
 abbrev pub IsBroken : Session → Type 0

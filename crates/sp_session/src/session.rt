@@ -1,12 +1,15 @@
 // A session: one unit, read from pieces of its input.
 ghost use Rattle.std.specs.Prelude.{◌≡◌, ◌≤◌, ◌+◌, ◌^◌, length};
-ghost use Rattle.sp_session.specs.Reading.{stand_by};
 
-use crate::progress::Progress;
-use crate::reading::{Ending, advance, close, short};
+use crate::starter::starter_address;
+use crate::telling::tell_on;
 use sp_base::{Limits, NoMemory};
+use sp_code::Program;
 use sp_events::Events;
-use sp_meaning::{Program, Stand};
+use sp_fiber::Fiber;
+use sp_meaning::Stand;
+use sp_typed_units::Typed;
+use sp_value::Values;
 use std::alloc::Global;
 
 #[derive(Clone, Copy, Debug, PartialEq, Eq)]
@@ -17,52 +20,54 @@ enum Phase {
     Broken,
 }
 
-/// A unit that is read from pieces. It keeps the bytes of the field at which it waits, and no others.
+/// A unit of a list of modules that is read from pieces. It keeps the bytes from the least place on that the unit still needs, and no
+/// others. The list is lent for what clauses say of it.
 #[derive(Drop)]
 pub struct Session<'p> {
     alloc: Global,
+    list: &'p Typed,
     program: &'p Program,
-    progress: Progress,
-    received: u64,
+    unit: u32,
+    limits: Limits,
+    fiber: Fiber<'p>,
     phase: Phase,
     stand: Stand,
-    ghost next: { progress.next ≤ length program.now.fields.items },
-    ghost bound: { progress.place + length progress.window ≤ received },
 }
 
 impl<'p> Session<'p> {
     ghost use Rattle.std.specs.Prelude.{◌≢◌, ◌++◌, ◌-◌, List, ℕ, [], drop, IfOk, OnOk, OnErr, IsErr};
     ghost use Rattle.sp_base.specs.Input.{held_open, ended};
-    ghost use Rattle.sp_meaning.specs.Meaning.{IsUnit, mean, low};
+    ghost use Rattle.sp_meaning.specs.Meaning.{low};
     ghost use Rattle.sp_meaning.specs.declared.stand.Stand.TheVariants.{Waiting};
-    ghost use Rattle.sp_session.specs.Session.{means, received, StandsFor, EndedFor, IsBroken, IsFresh, IsFed, told_by};
+    ghost use Rattle.sp_session.specs.Units.{unit_meaning};
+    ghost use Rattle.sp_session.specs.Telling.{IsFront};
+    ghost use Rattle.sp_session.specs.Session.{Runs, means, received, StandsFor, EndedFor, IsBroken, IsFresh, IsFed, told_by};
 
     /// A session that has run nothing: it stands for no bytes, and has told nothing.
     ///
-    /// The number is that of a unit of the program, which has one. Each limit is at least 1; a unit of integers then
-    /// meets none of them.
+    /// The program is that of the list, and runs the unit of this number within the limits and without arguments.
     pub fn start(
         alloc: Global,
+        list: &'p Typed,
         program: &'p Program,
         unit: u32,
         limits: Limits,
     ) -> Result<Session<'p>, NoMemory>
-        requires unit { IsUnit unit }
-        requires turns { 1 ≤ limits.turns }
-        requires depth { 1 ≤ limits.depth }
-        requires fibers { 1 ≤ limits.fibers }
+        requires { Runs list.now program.now limits unit }
         ensures stands { IfOk result (λ session. StandsFor session []) }
         ensures fresh { IfOk result (λ session. IsFresh session) }
-        ensures means { IfOk result (λ session. means session
-            ≡ mean program.now.fields.items unit limits) }
+        ensures received { IfOk result (λ session. received session ≡ 0) }
+        ensures means { IfOk result (λ session. means session ≡ unit_meaning list.now limits unit) }
     {
-        let _ = unit;
-        let _ = limits;
+        let at = starter_address(program, unit)?;
+        let fiber = Fiber::start(alloc, program, at, Values::new(Vec::new(alloc)), limits);
         Ok(Session {
             alloc,
+            list,
             program,
-            progress: Progress::new(alloc),
-            received: 0,
+            unit,
+            limits,
+            fiber,
             phase: Phase::Fresh,
             stand: Stand::Waiting,
         })
@@ -72,8 +77,8 @@ impl<'p> Session<'p> {
     /// those of the meaning of the bytes so far, held open, that the session has not told before; the first
     /// call, also with an empty piece, tells what needs no input.
     ///
-    /// After the end of the input it answers the same again and appends nothing. After want of memory it
-    /// answers that for good.
+    /// After the end of the input it answers the same again and appends nothing. After want of memory, where a front
+    /// of these events may have been appended, it answers that for good.
     pub fn feed(&mut self, piece: &[u8], out: &mut Events) -> Result<Stand, NoMemory>
         requires { received self.old + length piece.now ≤ 2 ^ 62 }
         ensures stands { (s : List ℕ) → StandsFor self.old s
@@ -89,34 +94,36 @@ impl<'p> Session<'p> {
         ensures same { (s : List ℕ) → EndedFor self.old s
             → IfOk result (λ stand. stand ≡ (means self.old s ended).stand) }
         ensures received { OnOk result (received self.new ≡ received self.old + length piece.now) }
-        ensures memory { OnErr result (IsBroken self.new × (out.new ≡ out.old)) }
-        ensures broken { IsBroken self.old → IsErr result }
+        ensures memory { OnErr result (IsBroken self.new) }
+        ensures front { (s : List ℕ) → StandsFor self.old s → OnErr result (IsFront out.old out.new
+            (drop (length (told_by self.old s)) (means self.old (s ++ piece.now) held_open).events)) }
+        ensures broken { IsBroken self.old → IsErr result × (out.new ≡ out.old) }
         ensures means { means self.new ≡ means self.old }
     {
         match self.phase {
             Phase::Broken => Err(NoMemory),
             Phase::Ended => {
-                self.received += piece.len() as u64;
-                self.again()
+                self.phase = Phase::Broken;
+                let mut nothing = Vec::new(self.alloc);
+                self.fiber.feed(piece, &mut nothing)?;
+                let stand = self.stand.copy()?;
+                self.phase = Phase::Ended;
+                Ok(stand)
             }
             Phase::Fresh | Phase::Fed => {
+                self.phase = Phase::Broken;
+                let mut told = Vec::new(self.alloc);
+                self.fiber.feed(piece, &mut told)?;
+                let stand = tell_on(
+                    self.alloc,
+                    self.program,
+                    &self.fiber,
+                    told,
+                    &mut self.stand,
+                    out,
+                )?;
                 self.phase = Phase::Fed;
-                self.received += piece.len() as u64;
-                let Stand::Waiting = self.stand else {
-                    return self.again();
-                };
-                let fields = self.program.fields.as_slice();
-                match advance(self.alloc, fields, &mut self.progress, piece, out) {
-                    Ok(true) => {
-                        self.stand = Stand::Done;
-                        Ok(Stand::Done)
-                    }
-                    Ok(false) => Ok(Stand::Waiting),
-                    Err(NoMemory) => {
-                        self.phase = Phase::Broken;
-                        Err(NoMemory)
-                    }
-                }
+                Ok(stand)
             }
         }
     }
@@ -124,8 +131,8 @@ impl<'p> Session<'p> {
     /// Ends the input, and answers how the unit stands, which is never `Waiting`. The events that it appends
     /// are those of the meaning of the whole input that the session has not told before.
     ///
-    /// Called again it answers the same again and appends nothing. After want of memory it answers that for
-    /// good.
+    /// Called again it answers the same again and appends nothing. After want of memory, where a front of these events
+    /// may have been appended, it answers that for good.
     pub fn end(&mut self, out: &mut Events) -> Result<Stand, NoMemory>
         ensures stands { (s : List ℕ) → StandsFor self.old s → OnOk result (EndedFor self.new s) }
         ensures events { (s : List ℕ) → StandsFor self.old s → OnOk result (out.new
@@ -139,46 +146,36 @@ impl<'p> Session<'p> {
         ensures same { (s : List ℕ) → EndedFor self.old s
             → IfOk result (λ stand. stand ≡ (means self.old s ended).stand) }
         ensures received { received self.new ≡ received self.old }
-        ensures memory { OnErr result (IsBroken self.new × (out.new ≡ out.old)) }
-        ensures broken { IsBroken self.old → IsErr result }
+        ensures memory { OnErr result (IsBroken self.new) }
+        ensures front { (s : List ℕ) → StandsFor self.old s → OnErr result (IsFront out.old out.new
+            (drop (length (told_by self.old s)) (means self.old s ended).events)) }
+        ensures broken { IsBroken self.old → IsErr result × (out.new ≡ out.old) }
         ensures means { means self.new ≡ means self.old }
     {
         match self.phase {
             Phase::Broken => Err(NoMemory),
-            Phase::Ended => self.again(),
-            Phase::Fresh | Phase::Fed => {
+            Phase::Ended => {
+                self.phase = Phase::Broken;
+                let stand = self.stand.copy()?;
                 self.phase = Phase::Ended;
-                let Stand::Waiting = self.stand else {
-                    return self.again();
-                };
-                let fields = self.program.fields.as_slice();
-                match close(self.alloc, fields, &mut self.progress, out) {
-                    Ok(ending) => {
-                        self.stand = stand_of(ending);
-                        Ok(stand_of(ending))
-                    }
-                    Err(NoMemory) => {
-                        self.phase = Phase::Broken;
-                        Err(NoMemory)
-                    }
-                }
+                Ok(stand)
+            }
+            Phase::Fresh | Phase::Fed => {
+                self.phase = Phase::Broken;
+                let mut rest = Vec::new(self.alloc);
+                self.fiber.end(&mut rest)?;
+                let stand = tell_on(
+                    self.alloc,
+                    self.program,
+                    &self.fiber,
+                    rest,
+                    &mut self.stand,
+                    out,
+                )?;
+                self.phase = Phase::Ended;
+                Ok(stand)
             }
         }
-    }
-
-    // The answer that was given before.
-    fn again(&mut self) -> Result<Stand, NoMemory>
-        ensures ok { OnOk result (self.new ≡ self.old) }
-        ensures stand { IfOk result (λ stand. stand ≡ self.old.stand) }
-        ensures err { OnErr result (IsBroken self.new) }
-        ensures received { self.new.received ≡ self.old.received }
-        ensures means { means self.new ≡ means self.old }
-    {
-        let answer = self.stand.copy();
-        if answer.is_err() {
-            self.phase = Phase::Broken;
-        }
-        answer
     }
 
     /// How the unit stands; `Waiting` before the first call.
@@ -198,7 +195,7 @@ impl<'p> Session<'p> {
         ensures fed { (s : List ℕ) → StandsFor self.now s → result ≡ length s }
         ensures count { result ≡ received self.now }
     {
-        self.received
+        self.fiber.received()
     }
 
     /// How many bytes of the input it keeps: those from the meaning's oldest retention point on, and none where the unit
@@ -208,15 +205,6 @@ impl<'p> Session<'p> {
             → result ≡ length s - low (means self.now) s held_open }
         ensures over { (s : List ℕ) → EndedFor self.now s → result ≡ 0 }
     {
-        self.progress.window.len() as u64
-    }
-}
-
-fn stand_of(ending: Ending) -> Stand
-    ensures { result ≡ stand_by ending }
-{
-    match ending {
-        Ending::Whole => Stand::Done,
-        Ending::Short(place) => Stand::Failed(short(place)),
+        self.fiber.kept()
     }
 }

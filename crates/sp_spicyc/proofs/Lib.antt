@@ -1,5 +1,4 @@
 pub mod Causing
-pub mod Between
 pub mod Reports
 pub mod Single
 pub mod Wholes

@@ -1,7 +1,8 @@
 -- What the words of a call say, as the code holds them.
 use Rattle.std.specs.Prelude.{ℕ, List}
 use Rattle.sp_spicyc.specs.declared.words.Wanted.{Wanted}
-use Rattle.sp_spicyc.specs.Words.{Words, directories_of}
+use Rattle.sp_command.specs.Directories.{directories_of}
+use Rattle.sp_spicyc.specs.Words.{Words}
 
 -- the words with these directories
 abbrev pub with_directories : List (List ℕ) → Wanted → Words

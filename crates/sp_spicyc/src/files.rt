@@ -1,5 +1,6 @@
 // The list is loaded, and its named files are printed.
 ghost use Rattle.std.specs.Prelude.{◌≡◌, ◌<◌, ◌-◌, ◌^◌, List, if◌then◌else◌, [], take, length, flat_map, IfOk, IfErr, MatchResult};
+ghost use Rattle.sp_command.specs.Directories.{directories_of};
 ghost use Rattle.sp_print.specs.Canonical.{canonical};
 ghost use Rattle.sp_read_file.specs.Loads.{UnreadCause};
 ghost use Rattle.sp_front.specs.declared.entries.ModuleFile.{ModuleFile as File};
@@ -7,12 +8,11 @@ ghost use Rattle.sp_front.specs.inside.Follow.{IsRefusedBy};
 ghost use Rattle.sp_load.specs.Loads.{IsLoaded, IsLoadRefused};
 ghost use Rattle.sp_spicyc.specs.Files.{printed, printed_first};
 ghost use Rattle.sp_spicyc.specs.Wants.{wanted_words, with_directories};
-ghost use Rattle.sp_spicyc.specs.Words.{directories_of};
 
-use crate::directories::directories_of;
 use crate::words::Wanted;
 use sp_ast::Module;
 use sp_base::{ByteList, NoMemory, Text};
+use sp_command::directories_of;
 use sp_io::Modules;
 use sp_load::load;
 use sp_print::print_module;

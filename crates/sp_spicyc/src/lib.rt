@@ -2,7 +2,6 @@
 #![tactic(auto)]
 
 mod command;
-mod directories;
 mod exits;
 mod files;
 mod laws;

@@ -1,7 +1,8 @@
 // The command line.
 ghost use Rattle.std.specs.Prelude.{◌≡◌, option_map};
+ghost use Rattle.sp_command.specs.Directories.{directories_of};
 ghost use Rattle.sp_spicyc.specs.Wants.{wanted_words};
-ghost use Rattle.sp_spicyc.specs.Words.{are_files, with_files, behind_directories, behind_library, words_of, directories_of};
+ghost use Rattle.sp_spicyc.specs.Words.{are_files, with_files, behind_directories, behind_library, words_of};
 
 use sp_base::Text;
 use sp_command::is_path;

@@ -1,10 +1,7 @@
 // Whole runs over objects in memory.
-use sp_base::{ByteList, Limits, NoMemory, Text};
-use sp_driver::session::Session;
+use sp_base::{ByteList, NoMemory, Text};
 use sp_driver::spicy_driver;
-use sp_events::Events;
 use sp_io::{MemModules, MemOut, MemSource};
-use sp_small_reader::read_program;
 use std::alloc::Global;
 use std::test::Fail;
 
@@ -19,6 +16,17 @@ const WIDTHS: &[u8] =
 
 const SIGNED: &[u8] = b"module M;\npublic type U = unit { a: int8; };\n";
 
+const TWO: &[u8] =
+    b"module M;\npublic type U = unit { a: uint8; };\npublic type V = unit { b: uint8; };\n";
+
+const HOOKED: &[u8] = b"module M;\npublic type U = unit { a: uint8 { print $$ + 1; } };\n";
+
+const BEGUN: &[u8] = b"module M;\npublic type U = unit { on %init { } a: uint8; };\n";
+
+const SIZED: &[u8] = b"module M;\npublic type U = unit { a: uint8; b: bytes &size=2; };\n";
+
+const UNKNOWN: &[u8] = b"module M;\npublic type U = unit { on %init { print x; } };\n";
+
 /// A run: the words, the text of m.spicy, the pieces of the input, the calls of the modules, of the source
 /// and of the output that fail; and what it must answer: the status, the output and the messages.
 struct Run {
@@ -31,7 +39,7 @@ struct Run {
     answer: &'static str,
 }
 
-const RUNS: [Run; 12] = [
+const RUNS: [Run; 21] = [
     Run {
         words: &["m.spicy"],
         text: PAIR,
@@ -78,6 +86,96 @@ const RUNS: [Run; 12] = [
         answer: "0|{\"at\":\"0\",\"done\":{\"a\":15,\"b\":3342,\"c\":151653132,\"d\":72623859790382856}}\n",
     },
     Run {
+        words: &["m.spicy"],
+        text: SIGNED,
+        pieces: &[&[255]],
+        modules_fails: &[],
+        source_fails: &[],
+        out_fails: &[],
+        answer: "0|{\"at\":\"0\",\"done\":{\"a\":-1}}\n",
+    },
+    Run {
+        words: &["--trace", "m.spicy"],
+        text: HOOKED,
+        pieces: &[&[255]],
+        modules_fails: &[],
+        source_fails: &[],
+        out_fails: &[],
+        answer: "1|{\"args\":[255],\"at\":\"0\",\"hook\":\"M::U::a\"}\n{\"at\":\"0\",\"error\":\"Overflow\",\"offset\":1}\n",
+    },
+    Run {
+        words: &["m.spicy"],
+        text: HOOKED,
+        pieces: &[&[255]],
+        modules_fails: &[],
+        source_fails: &[],
+        out_fails: &[],
+        answer: "1|{\"at\":\"0\",\"error\":\"Overflow\",\"offset\":1}\n",
+    },
+    Run {
+        words: &["-p", "M::V", "m.spicy"],
+        text: TWO,
+        pieces: &[&[7]],
+        modules_fails: &[],
+        source_fails: &[],
+        out_fails: &[],
+        answer: "0|{\"at\":\"0\",\"done\":{\"b\":7}}\n",
+    },
+    Run {
+        words: &["m.spicy"],
+        text: TWO,
+        pieces: &[&[7]],
+        modules_fails: &[],
+        source_fails: &[],
+        out_fails: &[],
+        answer: "3|spicy-driver: M32 NoParser\n",
+    },
+    Run {
+        words: &["-p", "V", "m.spicy"],
+        text: TWO,
+        pieces: &[&[7]],
+        modules_fails: &[],
+        source_fails: &[],
+        out_fails: &[],
+        answer: "3|spicy-driver: M32 NoParser\n",
+    },
+    Run {
+        words: &["m.spicy"],
+        text: SIZED,
+        pieces: &[&[7]],
+        modules_fails: &[],
+        source_fails: &[],
+        out_fails: &[],
+        answer: "3|m.spicy:2:34: M30 OutOfProfile\n",
+    },
+    Run {
+        words: &["m.spicy"],
+        text: UNKNOWN,
+        pieces: &[],
+        modules_fails: &[],
+        source_fails: &[],
+        out_fails: &[],
+        answer: "3|m.spicy:2:41: M8 UnknownName\n",
+    },
+    Run {
+        words: &["--max-input", "1", "m.spicy"],
+        text: PAIR,
+        pieces: &[&[1, 2, 3]],
+        modules_fails: &[],
+        source_fails: &[],
+        out_fails: &[],
+        answer: "6|spicy-driver: input too long\n",
+    },
+    Run {
+        words: &["--max-turns", "1", "m.spicy"],
+        text: BEGUN,
+        pieces: &[&[1]],
+        modules_fails: &[],
+        source_fails: &[],
+        out_fails: &[],
+        answer: "1|{\"at\":\"0\",\"error\":\"Turns\",\"offset\":0}\n",
+    },
+    Run {
         words: &[],
         text: PAIR,
         pieces: &[],
@@ -94,15 +192,6 @@ const RUNS: [Run; 12] = [
         source_fails: &[],
         out_fails: &[],
         answer: "2|spicy-driver: usage\n",
-    },
-    Run {
-        words: &["m.spicy"],
-        text: SIGNED,
-        pieces: &[],
-        modules_fails: &[],
-        source_fails: &[],
-        out_fails: &[],
-        answer: "3|m.spicy:1:1: M30 OutOfProfile\n",
     },
     Run {
         words: &["other.spicy"],
@@ -165,26 +254,40 @@ fn files(alloc: Global, text: &[u8]) -> Result<Vec<(Text, ByteList)>, NoMemory> 
     Ok(files)
 }
 
-fn answer_of(alloc: Global, run: &Run) -> Result<String, Fail> {
-    let words = texts(alloc, run.words)?;
-    let pieces = lists(alloc, run.pieces)?;
-    let files = files(alloc, run.text)?;
-    let mut modules = MemModules::new(alloc, files.as_slice(), run.modules_fails)?;
-    let mut input = MemSource::new(alloc, pieces.as_slice(), run.source_fails)?;
+/// The status and what was put out, as a text.
+fn told(alloc: Global, status: u8, out: &MemOut, err: &MemOut) -> Result<String, Fail> {
+    let out = std::str::from_utf8(out.written()).unwrap_or("?");
+    let err = std::str::from_utf8(err.written()).unwrap_or("?");
+    Ok(format!(in alloc; "{status}|{out}{err}")?)
+}
+
+/// The answer of a run with these words over these files and pieces.
+fn answer_over(
+    alloc: Global,
+    run: &Run,
+    words: &[Text],
+    files: &[(Text, ByteList)],
+    pieces: &[ByteList],
+) -> Result<String, Fail> {
+    let mut modules = MemModules::new(alloc, files, run.modules_fails)?;
+    let mut input = MemSource::new(alloc, pieces, run.source_fails)?;
     let mut out = MemOut::new(alloc, run.out_fails)?;
     let mut err = MemOut::new(alloc, &[])?;
-    let status = spicy_driver(
+    let status = spicy_driver(alloc, words, &mut modules, &mut input, &mut out, &mut err);
+    told(alloc, status, &out, &err)
+}
+
+fn answer_of(alloc: Global, run: &Run) -> Result<String, Fail> {
+    let words = texts(alloc, run.words)?;
+    let files = files(alloc, run.text)?;
+    let pieces = lists(alloc, run.pieces)?;
+    answer_over(
         alloc,
+        run,
         words.as_slice(),
-        &mut modules,
-        &mut input,
-        &mut out,
-        &mut err,
-    );
-    let mut answer = format!(in alloc; "{status}|")?;
-    answer.push_str(std::str::from_utf8(out.written()).unwrap_or("?"))?;
-    answer.push_str(std::str::from_utf8(err.written()).unwrap_or("?"))?;
-    Ok(answer)
+        files.as_slice(),
+        pieces.as_slice(),
+    )
 }
 
 #[test]
@@ -193,36 +296,5 @@ fn runs(rt: HostRuntime) -> Result<(), Fail> {
         let answer = answer_of(rt.alloc(), run)?;
         assert_eq!(rt; answer.as_str(), run.answer);
     }
-    Ok(())
-}
-
-/// The events that a session has told after each piece fed by itself, an empty one first.
-#[test]
-fn pieces(rt: HostRuntime) -> Result<(), Fail> {
-    let alloc = rt.alloc();
-    let program = read_program(alloc, PAIR)?;
-    let limits = Limits {
-        turns: 1,
-        depth: 1,
-        fibers: 1,
-    };
-    let mut session = Session::start(alloc, &program, 0, limits)?;
-    let mut events = Events::new(alloc);
-    for (piece, told) in [
-        (b"".as_slice(), 0),
-        (b"\x01", 0),
-        (b"", 0),
-        (b"\x02", 0),
-        (b"\x03", 1),
-        (b"\x04", 0),
-    ] {
-        assert!(rt; session.received() < 9);
-        assert!(rt; piece.len() < 9);
-        events.clear();
-        session.feed(piece, &mut events)?;
-        assert_eq!(rt; events.as_slice().len(), told);
-    }
-    assert_eq!(rt; session.received(), 4);
-    assert_eq!(rt; session.kept(), 0);
     Ok(())
 }

@@ -9,24 +9,25 @@ use Rattle.sp_driver.specs.declared.exits.RunExit.{RunExit}
 use Rattle.sp_driver.specs.declared.exits.Stop.{Stop}
 use Rattle.sp_driver.specs.declared.exits.Turn.{Turn}
 use Rattle.sp_driver.specs.declared.exits.Turn.TheVariants.{More, Ends}
+use Rattle.sp_driver.specs.declared.options.RunOptions.{RunOptions}
 use Rattle.sp_driver.specs.Run.{Runs, RunCause}
 use Rattle.sp_driver.specs.Shown.{shown}
 
 -- j whole pieces, which make the bytes s, were fed, and their lines were put
-pub record IsFedBy (meaning : UnitMeaning) (n : ℕ) (session : Session) (left_before left_after held_before held_after : Option (List ℕ)) (s : List ℕ) (j : ℕ) : Type 0 where
+pub record IsFedBy (meaning : UnitMeaning) (o : RunOptions) (session : Session) (left_before left_after held_before held_after : Option (List ℕ)) (s : List ℕ) (j : ℕ) : Type 0 where
   pub stands : StandsFor session s
   pub fed : IsFed session
   pub means : means session ≡ meaning
   pub took : left_before ≡ prepended s left_after
-  pub put : held_after ≡ appended held_before (shown meaning n s j)
-  pub size : length s ≡ j * n
+  pub put : held_after ≡ appended held_before (shown meaning o s j)
+  pub size : length s ≡ j * o.increment
 
 -- behind one more piece
-abbrev pub Turned : UnitMeaning → ℕ → Session → Option (List ℕ) → Option (List ℕ) → Option (List ℕ) → Option (List ℕ) → Turn → Type 0
-Turned meaning n session left_before left_after held_before held_after More =
-    (s : List ℕ) × (j : ℕ) × IsFedBy meaning n session left_before left_after held_before held_after s j
-Turned meaning n session left_before left_after held_before held_after (Ends exit) =
-    Runs meaning n left_before left_after held_before held_after exit
+abbrev pub Turned : UnitMeaning → RunOptions → Session → Option (List ℕ) → Option (List ℕ) → Option (List ℕ) → Option (List ℕ) → Turn → Type 0
+Turned meaning o session left_before left_after held_before held_after More =
+    (s : List ℕ) × (j : ℕ) × IsFedBy meaning o session left_before left_after held_before held_after s j
+Turned meaning o session left_before left_after held_before held_after (Ends exit) =
+    Runs meaning o left_before left_after held_before held_after exit
 
 abbrev pub TurnCause : ℕ → ℕ → ℕ → ℕ → Turn → Type 0
 TurnCause input_before input_after out_before out_after More = (input_after ≡ input_before) × (out_after ≡ out_before)

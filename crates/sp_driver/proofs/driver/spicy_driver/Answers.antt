@@ -18,4 +18,4 @@ returns-clause-answer g c =
     (record { left = g.S.Source.left c.drive-exit.new.input; held = g.O.Out.held c.drive-exit.new.out; faults = record { modules = g.M.Modules.faults c.drive-exit.new.modules; input = g.S.Source.faults c.drive-exit.new.input; out = g.O.Out.faults c.drive-exit.new.out } })
     (record { held = g.E.Out.held c.args.err.now; faults = g.E.Out.faults c.args.err.now })
     (record { held = g.E.Out.held c.report.new.err; faults = g.E.Out.faults c.report.new.err })
-    c.drive-exit.result c.report.result c.drive-exit.ensures.says c.report.ensures
+    c.drive-exit.result c.report.result c.drive-exit.ensures.some c.drive-exit.ensures.says c.report.ensures

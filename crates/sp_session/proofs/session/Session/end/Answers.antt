@@ -1,35 +1,49 @@
-use Rattle.std.proofs.Common.{refl, sym, ◌∙◌, subst, rules}
-use Rattle.sp_meaning.specs.declared.stand.Stand.{Stand}
-use Rattle.sp_session.specs.declared.session.Session.{Session}
-use Rattle.sp_session.specs.Session.{EndedFor, IsLive, grammar}
-use Rattle.sp_session.proofs.Stands.{leads_at, lacks_at, told_next, over_stand, over_events, over_window, on_ok, if_ok}
+use Rattle.std.proofs.Common.{◌++◌, length, drop, refl, sym, ◌∙◌}
+use Rattle.sp_base.specs.Input.{ended}
+use Rattle.sp_session.specs.Session.{start, means, told_by}
+use Rattle.sp_session.specs.Telling.{IsFront}
+use Rattle.sp_session.proofs.Fronts.{on_err}
+use Rattle.sp_session.proofs.Meanings.{decided}
+use Rattle.sp_session.proofs.Stands.{closed_whole, closed_front}
 use Rattle.sp_session.proofs.session.Session.end.Goals as goal
 
-pub returns-in_default : goal.returns-in_default
-returns-in_default c =
+pub returns-in_err-stand-in-Fresh-clause-front : goal.returns-in_err-stand-in-Fresh-clause-front
+returns-in_err-stand-in-Fresh-clause-front c = λ s is.
     let h = c.args.self.now in
-    let r = c.again-in_default.result in
-    let e = c.again-in_default.ensures in
-    let final = c.in_default.not-Waiting in
-    let fields = grammar h in
-    record {
-      stands = λ s is. on_ok r _ _ (λ same. subst (λ (x : Session). EndedFor x s) (sym same) (record { phase = refl; stand = over_stand fields h.phase h.stand h.progress s final is.live; window = over_window fields h.phase h.stand h.progress s final is.live })) e.ok;
-      events = λ s is. on_ok r _ _ (λ _. over_events fields h.phase h.stand h.progress s c.args.out.now final is.live) e.ok;
-      stand = λ s is. if_ok r _ _ (λ v same. same ∙ over_stand fields h.phase h.stand h.progress s final is.live) e.stand;
-      decided = λ s is. if_ok r _ _ (λ v same waits. final (sym same ∙ waits)) e.stand;
-      again = search rules;
-      same = search rules;
-      received = search rules;
-      memory = search rules;
-      broken = search rules;
-      means = search rules;
-    }
+    let closed = c.in_ok-end-in-Fresh.ensures.closed (start h.list.now h.unit) s is.told is.stands in
+    on_err c.from_residual-in_err-stand-in-Fresh.result (IsFront c.args.out.now c.tell_on.new.out (drop (length (told_by h s)) (means h s ended).events))
+    (closed_front h.list.now h.program.now h.limits h.unit h.phase h.stand h.fiber s is c.end.new.self c.in_ok-end-in-Fresh.ensures.code c.new-rest.result.items c.end.new.told.items c.new-rest.ensures.items closed
+    c.args.out.now c.tell_on.new.out c.in_err-stand-in-Fresh.ensures.front)
 
-pub returns-in-Ok-clause-events : goal.returns-in-Ok-clause-events
-returns-in-Ok-clause-events c =
+pub returns-in_ok-stand-in-Fresh-clause-stands : goal.returns-in_ok-stand-in-Fresh-clause-stands
+returns-in_ok-stand-in-Fresh-clause-stands c = λ s is.
     let h = c.args.self.now in
-    let fields = grammar h in
-    let closed = rw c.as_slice-fields.ensures.value at c.in-Ok.ensures.closed in
-    λ s is.
-    let live = subst (λ (stand : Stand). IsLive h.phase stand fields h.progress s) c.in-Waiting.is is.live in
-    told_next fields h.phase h.progress s c.args.out.now c.close.new.out _ live (closed s (leads_at fields h.phase h.progress s live) (lacks_at fields h.phase h.progress s live)).events
+    let closed = c.in_ok-end-in-Fresh.ensures.closed (start h.list.now h.unit) s is.told is.stands in
+    let whole =
+    closed_whole h.list.now h.program.now h.limits h.unit h.phase h.stand h.fiber s is c.end.new.self c.in_ok-end-in-Fresh.ensures.code c.new-rest.result.items c.end.new.told.items c.new-rest.ensures.items closed
+    c.tell_on.new.stand c.args.out.now c.tell_on.new.out c.in_ok-stand-in-Fresh.ensures.told in
+    record { phase = refl; stand = whole.1; told = is.told ++ closed.events; over = closed.stands }
+
+pub returns-in_ok-stand-in-Fresh-clause-events : goal.returns-in_ok-stand-in-Fresh-clause-events
+returns-in_ok-stand-in-Fresh-clause-events c = λ s is.
+    let h = c.args.self.now in
+    let closed = c.in_ok-end-in-Fresh.ensures.closed (start h.list.now h.unit) s is.told is.stands in
+    (closed_whole h.list.now h.program.now h.limits h.unit h.phase h.stand h.fiber s is c.end.new.self c.in_ok-end-in-Fresh.ensures.code c.new-rest.result.items c.end.new.told.items c.new-rest.ensures.items closed
+    c.tell_on.new.stand c.args.out.now c.tell_on.new.out c.in_ok-stand-in-Fresh.ensures.told).0
+
+pub returns-in_ok-stand-in-Fresh-clause-stand : goal.returns-in_ok-stand-in-Fresh-clause-stand
+returns-in_ok-stand-in-Fresh-clause-stand c = λ s is.
+    let h = c.args.self.now in
+    let closed = c.in_ok-end-in-Fresh.ensures.closed (start h.list.now h.unit) s is.told is.stands in
+    c.in_ok-stand-in-Fresh.ensures.stand
+    ∙ (closed_whole h.list.now h.program.now h.limits h.unit h.phase h.stand h.fiber s is c.end.new.self c.in_ok-end-in-Fresh.ensures.code c.new-rest.result.items c.end.new.told.items c.new-rest.ensures.items closed
+    c.tell_on.new.stand c.args.out.now c.tell_on.new.out c.in_ok-stand-in-Fresh.ensures.told).1
+
+pub returns-in_ok-stand-in-Fresh-clause-decided : goal.returns-in_ok-stand-in-Fresh-clause-decided
+returns-in_ok-stand-in-Fresh-clause-decided c = λ s is waits.
+    let h = c.args.self.now in
+    let closed = c.in_ok-end-in-Fresh.ensures.closed (start h.list.now h.unit) s is.told is.stands in
+    let whole =
+    closed_whole h.list.now h.program.now h.limits h.unit h.phase h.stand h.fiber s is c.end.new.self c.in_ok-end-in-Fresh.ensures.code c.new-rest.result.items c.end.new.told.items c.new-rest.ensures.items closed
+    c.tell_on.new.stand c.args.out.now c.tell_on.new.out c.in_ok-stand-in-Fresh.ensures.told in
+    decided h.list.now h.limits h.unit h.program.now is.runs s (sym whole.1 ∙ sym c.in_ok-stand-in-Fresh.ensures.stand ∙ waits)

@@ -1,3 +1,0 @@
-pub mod IntegerUnit
-pub mod Names
-pub mod Tokens

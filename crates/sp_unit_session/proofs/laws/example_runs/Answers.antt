@@ -1,5 +1,0 @@
-use Rattle.sp_unit_session.proofs.Example.{example_runs}
-use Rattle.sp_unit_session.proofs.laws.example_runs.Goals as goal
-
-pub returns : goal.returns
-returns c = example_runs

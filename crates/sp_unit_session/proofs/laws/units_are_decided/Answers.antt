@@ -1,5 +1,0 @@
-use Rattle.sp_unit_session.proofs.Meanings.{units_are_decided}
-use Rattle.sp_unit_session.proofs.laws.units_are_decided.Goals as goal
-
-pub returns : goal.returns
-returns c = units_are_decided
