@@ -57,10 +57,12 @@ abbrev pub word_leaf : Word → LeafOp
 word_leaf word_is.Decoder = leaf_is.Decoder
 word_leaf w = leaf_is.TypeName w
 
+-- The name of a declaration's type. Only one in which a rule is broken is unknown; one that is made of others takes no arguments,
+-- as void takes none, and stands as that.
 abbrev pub type_leaf : Option Ty → LeafOp
 type_leaf None = leaf_is.TypeName word_is.Unknown
 type_leaf (Some (word w)) = word_leaf w
-type_leaf (Some (made m ts)) = leaf_is.TypeName word_is.Unknown
+type_leaf (Some (made m ts)) = leaf_is.TypeName word_is.Void
 
 -- the path to a declaration of a sort
 abbrev pub declared_at : List Tree → (ℕ → Option Ty) → (ℕ → Ty) → Span → ℕ → DeclSort → Expr

@@ -99,7 +99,7 @@ bits x = of form_is.Bits (name x ∷ of (form_is.Number 0) [] ∷ absent ∷ [])
 -- module M; import spicy; type E = enum { A };
 -- type U = unit (p: uint16, q: E) { var v: bool; a: uint8; sink s; switch { .. } v: uint8; };
 -- type F = bitfield(16) { x: 0; y: 0; x: 0; }; const C = 1; function f(x: uint8, y: bytes): string { } function g() { }
--- type V = unit { c: uint8; };
+-- type V = unit { c: uint8; }; type T = vector<uint8>; type A = A;
 abbrev m : Tree
 m =
     of form_is.Module (name (codes "M") ∷ in_row (
@@ -113,6 +113,8 @@ m =
     ∷ function (codes "f") (parameter (codes "x") (integer int.Uint8) ∷ parameter (codes "y") (typed type_is.Bytes []) ∷ []) (typed type_is.String [])
     ∷ function (codes "g") [] absent
     ∷ type (codes "V") (typed type_is.Unit (of form_is.Unit (in_row [] ∷ in_row (item (field (name (codes "c"))) ∷ []) ∷ []) ∷ []))
+    ∷ type (codes "T") (typed type_is.Vector (integer int.Uint8 ∷ []))
+    ∷ type (codes "A") (path_to (codes "A"))
     ∷ []) ∷ [])
 
 abbrev list : List Tree
@@ -170,6 +172,13 @@ function_row = refl
 
 unit_row : g.named here (path (codes "V" ∷ [])) ≡ leaf_at here unknown (leaf_is.TypeName (word_is.Unit 1))
 unit_row = refl
+
+-- a type that is made of others stands as void, and one that is made of itself is unknown
+made_row : g.named here (path (codes "T" ∷ [])) ≡ leaf_at here unknown (leaf_is.TypeName word_is.Void)
+made_row = refl
+
+endless_row : g.named here (path (codes "A" ∷ [])) ≡ leaf_at here unknown (leaf_is.TypeName word_is.Unknown)
+endless_row = refl
 
 label_row : g.path here (path (codes "E" ∷ codes "A" ∷ [])) ≡ leaf_at here (word (word_is.Enum 4)) (leaf_is.Label 4 0)
 label_row = refl

@@ -59,13 +59,14 @@ fn word_at(span: Span, op: LeafOp) -> Expr
     leaf_at(span, Type::word(Word::Unknown), op)
 }
 
+/// The name of a type. What is made of types takes no arguments, as void takes none, and stands as that.
 fn found_leaf(found: &Type) -> LeafOp
     ensures { result ≡ type_leaf (Some found.now) }
 {
     match found.level() {
         Level::Word(Word::Decoder) => LeafOp::Decoder,
         Level::Word(word) => LeafOp::TypeName(word),
-        Level::Made(..) => LeafOp::TypeName(Word::Unknown),
+        Level::Made(..) => LeafOp::TypeName(Word::Void),
     }
 }
 

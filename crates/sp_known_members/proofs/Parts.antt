@@ -41,7 +41,7 @@ use Rattle.sp_whole_list.proofs.None.{none_parts}
 use Rattle.sp_known_constants.specs.Fine.{IsFine, AreFine}
 use Rattle.sp_known_constants.specs.Given.{asked}
 use Rattle.sp_known_constants.proofs.Fine.{inside as parts_fine, first, rest, formed}
-use Rattle.sp_known_members.specs.Given.{part_reads, parts_read, arms_read, units_are_called, all_units_called}
+use Rattle.sp_known_members.specs.Given.{part_reads, parts_read, arms_read}
 use Rattle.sp_known_members.proofs.Shapes.{field_parts, field_whole}
 use Rattle.sp_known_members.proofs.Fields.{v, last}
 use Rattle.sp_known_members.proofs.Readable.{IsFineRead, counted_reads}
@@ -59,17 +59,12 @@ module _ (list : List Tree) (a : Answers list) (formed_list : list_all is_formed
   abbrev worth : Values
   worth = v list a formed_list unbroken n m ps
 
-  -- a tree in which each alternative has its parts, and no other type is read as a unit
-  abbrev Whole : Tree → Type 0
-  Whole x = IsFine list f m x × (units_are_called list f m x ≡ true)
+  -- a tree in which each alternative has its parts
+  abbrev Fine : Tree → Type 0
+  Fine x = IsFine list f m x
 
-  abbrev AllWhole : Trees → Type 0
-  AllWhole xs = AreFine list f m xs × (all_units_called list f m xs ≡ true)
-
-  first_whole : (x : Tree) (xs : Trees) → AllWhole (more x xs) → Whole x × AllWhole xs
-  first_whole x xs h =
-      let c = and_parts (units_are_called list f m x) (all_units_called list f m xs) h.1 in
-      ((first list f m x xs h.0, c.0), (rest list f m x xs h.0, c.1))
+  abbrev AllFine : Trees → Type 0
+  AllFine xs = AreFine list f m xs
 
   -- parts in which no rule is broken
   abbrev IsSound : Part → Type 0
@@ -87,77 +82,75 @@ module _ (list : List Tree) (a : Answers list) (formed_list : list_all is_formed
       let y = none_parts (part_rules us d p) (parts_rules us d xs) h.1 in
       ((x.0, y.0), (x.1, y.1))
 
-  field_whole_reads : (span : Span) (name base : Tree) (counts ts : Trees) (condition sink hooks : Tree) → Whole (node form_is.Field span (field_parts name base counts ts condition sink hooks))
+  field_whole_reads : (span : Span) (name base : Tree) (counts ts : Trees) (condition sink hooks : Tree) → Fine (node form_is.Field span (field_parts name base counts ts condition sink hooks))
       → IsSound (field_in g worth fields (node form_is.Field span (field_parts name base counts ts condition sink hooks))) → part_reads (field_in g worth fields (node form_is.Field span (field_parts name base counts ts condition sink hooks))) ≡ true
   field_whole_reads span name base counts ts condition sink hooks h good =
       let ws = field_parts name base counts ts condition sink hooks in
-      let behind = more base (more (row counts) (more (row ts) (more condition (more sink (more hooks none))))) in
-      let in_parts : AllWhole ws = (parts_fine list f m form_is.Field span ws h.0, h.1) in
-      let x = first_whole base (more (row counts) (more (row ts) (more condition (more sink (more hooks none))))) (first_whole name behind in_parts).1 in
-      let o = and_parts (stands_as (stands.Optional group_is.Names) name) (is_of group_is.Bases base && _) (formed list f m form_is.Field span ws h.0) in
+      let behind = more (row counts) (more (row ts) (more condition (more sink (more hooks none)))) in
+      let x = first list f m base behind (rest list f m name (more base behind) (parts_fine list f m form_is.Field span ws h)) in
+      let o = and_parts (stands_as (stands.Optional group_is.Names) name) (is_of group_is.Bases base && _) (formed list f m form_is.Field span ws h) in
       let read = counted_read g worth base counts in
       let fine : IsFineRead list a formed_list unbroken n m ps us d read.spec = record { own = _; fine = ((none_parts (spec_tests k m read.spec) _ good.0).0, (none_parts (own_tests us d _ read.spec) _ good.1).0) } in
-      counted_reads list a formed_list unbroken n m ps us d base counts (and_parts (is_of group_is.Bases base) _ o.1).0 x.0.0 x.0.1 fine
+      counted_reads list a formed_list unbroken n m ps us d base counts (and_parts (is_of group_is.Bases base) _ o.1).0 x fine
 
-  field_reads : (x : Tree) → is_of group_is.Fields x ≡ true → Whole x → IsSound (field_in g worth fields x) → part_reads (field_in g worth fields x) ≡ true
+  field_reads : (x : Tree) → is_of group_is.Fields x ≡ true → Fine x → IsSound (field_in g worth fields x) → part_reads (field_in g worth fields x) ≡ true
   field_reads (node form_is.Field span ws) of h good =
-      let w = field_whole ws (formed list f m form_is.Field span ws h.0) in
-      subst (λ xs. Whole (node form_is.Field span xs) → IsSound (field_in g worth fields (node form_is.Field span xs)) → part_reads (field_in g worth fields (node form_is.Field span xs)) ≡ true) (sym w.is)
+      let w = field_whole ws (formed list f m form_is.Field span ws h) in
+      subst (λ xs. Fine (node form_is.Field span xs) → IsSound (field_in g worth fields (node form_is.Field span xs)) → part_reads (field_in g worth fields (node form_is.Field span xs)) ≡ true) (sym w.is)
       (field_whole_reads span w.name w.base w.counts w.attributes w.condition w.sink w.hooks) h good
   field_reads (node _ span ws) of h good = never of
   field_reads absent of h good = never of
   field_reads (row ws) of h good = never of
 
   mutual
-    part_all : (x : Tree) → is_of group_is.Parts x ≡ true → Whole x → IsSound (part_of g worth fields x) → part_reads (part_of g worth fields x) ≡ true
+    part_all : (x : Tree) → is_of group_is.Parts x ≡ true → Fine x → IsSound (part_of g worth fields x) → part_reads (part_of g worth fields x) ≡ true
     part_all (node (form_is.Part part_is.Field) at none) of h good = refl
     part_all (node (form_is.Part part_is.Field) at (more x none)) of h good =
-        let p = and_parts (is_of group_is.Fields x) true (formed list f m (form_is.Part part_is.Field) at (more x none) h.0) in
-        field_reads x p.0 (first_whole x none (parts_fine list f m (form_is.Part part_is.Field) at (more x none) h.0, h.1)).0 good
+        let p = and_parts (is_of group_is.Fields x) true (formed list f m (form_is.Part part_is.Field) at (more x none) h) in
+        field_reads x p.0 (first list f m x none (parts_fine list f m (form_is.Part part_is.Field) at (more x none) h)) good
     part_all (node (form_is.Part part_is.Field) at (more x (more y z))) of h good = refl
     part_all (node (form_is.Part part_is.Switch) at (more subject (more (row ts) none))) of h good =
         let ws = more subject (more (row ts) none) in
         let subject_ = maybe_typed g (present subject) in
-        let p = and_parts (stands_as (stands.Optional group_is.Expressions) subject) (are_of group_is.Arms ts && true) (formed list f m (form_is.Part part_is.Switch) at ws h.0) in
-        let behind = (first_whole subject (more (row ts) none) (parts_fine list f m (form_is.Part part_is.Switch) at ws h.0, h.1)).1 in
+        let p = and_parts (stands_as (stands.Optional group_is.Expressions) subject) (are_of group_is.Arms ts && true) (formed list f m (form_is.Part part_is.Switch) at ws h) in
+        let behind = rest list f m subject (more (row ts) none) (parts_fine list f m (form_is.Part part_is.Switch) at ws h) in
         let x = none_parts (option_tests (subject_tests k m) subject_) (arms_tests k m subject_ (arms_of g worth fields subject_ ts)) good.0 in
         let y = none_parts (maybe_tests us d subject_) (arms_rules us d (arms_of g worth fields subject_ ts)) good.1 in
-        arms_all ts subject_ (and_parts (are_of group_is.Arms ts) true p.1).0 (first_whole (row ts) none behind).0 (x.1, y.1)
+        arms_all ts subject_ (and_parts (are_of group_is.Arms ts) true p.1).0 (first list f m (row ts) none behind) (x.1, y.1)
     part_all (node (form_is.Part _) at xs) of h good = refl
     part_all (node _ at xs) of h good = never of
     part_all absent of h good = never of
     part_all (row xs) of h good = never of
 
-    parts_all : (xs : Trees) → are_of group_is.Parts xs ≡ true → AllWhole xs → AreSound (parts (parts_of g worth fields xs)) → parts_read (parts (parts_of g worth fields xs)) ≡ true
+    parts_all : (xs : Trees) → are_of group_is.Parts xs ≡ true → AllFine xs → AreSound (parts (parts_of g worth fields xs)) → parts_read (parts (parts_of g worth fields xs)) ≡ true
     parts_all none of h good = refl
     parts_all (more x xs) of h good =
         let o = and_parts (is_of group_is.Parts x) (are_of group_is.Parts xs) of in
         let s = first_sound (part_of g worth fields x) (parts (parts_of g worth fields xs)) good in
-        let w = first_whole x xs h in
-        and_from (part_reads (part_of g worth fields x)) (parts_read (parts (parts_of g worth fields xs))) (part_all x o.0 w.0 s.0) (parts_all xs o.1 w.1 s.1)
+        and_from (part_reads (part_of g worth fields x)) (parts_read (parts (parts_of g worth fields xs))) (part_all x o.0 (first list f m x xs h) s.0) (parts_all xs o.1 (rest list f m x xs h) s.1)
 
-    body_all : (x : Tree) → is_of group_is.Bodies x ≡ true → Whole x → AreSound (parts (body_of g worth fields x)) → parts_read (parts (body_of g worth fields x)) ≡ true
+    body_all : (x : Tree) → is_of group_is.Bodies x ≡ true → Fine x → AreSound (parts (body_of g worth fields x)) → parts_read (parts (body_of g worth fields x)) ≡ true
     body_all (node (form_is.Body body_is.One) span none) of h good = refl
     body_all (node (form_is.Body body_is.One) span (more x none)) of h good =
-        let p = and_parts (is_of group_is.Parts x) true (formed list f m (form_is.Body body_is.One) span (more x none) h.0) in
+        let p = and_parts (is_of group_is.Parts x) true (formed list f m (form_is.Body body_is.One) span (more x none) h) in
         let s = first_sound (part_of g worth fields x) no_parts good in
-        and_from (part_reads (part_of g worth fields x)) true (part_all x p.0 (first_whole x none (parts_fine list f m (form_is.Body body_is.One) span (more x none) h.0, h.1)).0 s.0) refl
+        and_from (part_reads (part_of g worth fields x)) true (part_all x p.0 (first list f m x none (parts_fine list f m (form_is.Body body_is.One) span (more x none) h)) s.0) refl
     body_all (node (form_is.Body body_is.One) span (more x (more y z))) of h good = refl
     body_all (node (form_is.Body body_is.Many) span xs) of h good =
-        parts_all xs (formed list f m (form_is.Body body_is.Many) span xs h.0) (parts_fine list f m (form_is.Body body_is.Many) span xs h.0, h.1) good
+        parts_all xs (formed list f m (form_is.Body body_is.Many) span xs h) (parts_fine list f m (form_is.Body body_is.Many) span xs h) good
     body_all (node (form_is.Body body_is.Nothing) span xs) of h good = refl
     body_all (node _ span xs) of h good = never of
     body_all absent of h good = never of
     body_all (row xs) of h good = never of
 
-    arms_all : (xs : Trees) (subject : Option Expr) → are_of group_is.Arms xs ≡ true → AllWhole xs → ArmsSound subject (arms_of g worth fields subject xs) → arms_read (arms_of g worth fields subject xs) ≡ true
+    arms_all : (xs : Trees) (subject : Option Expr) → are_of group_is.Arms xs ≡ true → AllFine xs → ArmsSound subject (arms_of g worth fields subject xs) → arms_read (arms_of g worth fields subject xs) ≡ true
     arms_all none subject of h good = refl
     arms_all (more (node form_is.Arm span (more guard (more body none))) xs) subject of h good =
         let ws = more guard (more body none) in
         let x = node form_is.Arm span ws in
-        let w = first_whole x xs h in
-        let p = and_parts (is_of group_is.Guards guard) (is_of group_is.Bodies body && true) (formed list f m form_is.Arm span ws w.0.0) in
-        let q = first_whole body none (first_whole guard (more body none) (parts_fine list f m form_is.Arm span ws w.0.0, w.0.1)).1 in
+        let w = first list f m x xs h in
+        let p = and_parts (is_of group_is.Guards guard) (is_of group_is.Bodies body && true) (formed list f m form_is.Arm span ws w) in
+        let q = first list f m body none (rest list f m guard (more body none) (parts_fine list f m form_is.Arm span ws w)) in
         let arm = arm_of g subject guard in
         let ys = parts (body_of g worth fields body) in
         let later = arms_of g worth fields subject xs in
@@ -165,27 +158,27 @@ module _ (list : List Tree) (a : Answers list) (formed_list : list_all is_formed
         let j = none_parts (parts_tests k m ys) (arms_tests k m subject later) i.1 in
         let c = none_parts (exprs_tests us d (exprs arm.values)) (parts_rules us d ys ++ arms_rules us d later) good.1 in
         let e = none_parts (parts_rules us d ys) (arms_rules us d later) c.1 in
-        and_from (parts_read ys) (arms_read later) (body_all body (and_parts (is_of group_is.Bodies body) true p.1).0 q.0 (j.0, e.0)) (arms_all xs subject of w.1 (j.1, e.1))
-    arms_all (more (node form_is.Arm span none) xs) subject of h good = arms_all xs subject of (first_whole (node form_is.Arm span none) xs h).1 good
-    arms_all (more (node form_is.Arm span (more guard none)) xs) subject of h good = arms_all xs subject of (first_whole (node form_is.Arm span (more guard none)) xs h).1 good
+        and_from (parts_read ys) (arms_read later) (body_all body (and_parts (is_of group_is.Bodies body) true p.1).0 q (j.0, e.0)) (arms_all xs subject of (rest list f m x xs h) (j.1, e.1))
+    arms_all (more (node form_is.Arm span none) xs) subject of h good = arms_all xs subject of (rest list f m (node form_is.Arm span none) xs h) good
+    arms_all (more (node form_is.Arm span (more guard none)) xs) subject of h good = arms_all xs subject of (rest list f m (node form_is.Arm span (more guard none)) xs h) good
     arms_all (more (node form_is.Arm span (more guard (more body (more y z)))) xs) subject of h good =
-        arms_all xs subject of (first_whole (node form_is.Arm span (more guard (more body (more y z)))) xs h).1 good
+        arms_all xs subject of (rest list f m (node form_is.Arm span (more guard (more body (more y z)))) xs h) good
     arms_all (more (node _ span ys) xs) subject of h good = never of
     arms_all (more absent xs) subject of h good = never of
     arms_all (more (row ys) xs) subject of h good = never of
 
   -- All that the items of a unit read.
-  pub items_read : (xs : Trees) → are_of group_is.Items xs ≡ true → AllWhole xs → AreSound (parts (parts_in g worth fields xs)) → parts_read (parts (parts_in g worth fields xs)) ≡ true
+  pub items_read : (xs : Trees) → are_of group_is.Items xs ≡ true → AllFine xs → AreSound (parts (parts_in g worth fields xs)) → parts_read (parts (parts_in g worth fields xs)) ≡ true
   items_read none of h good = refl
   items_read (more (node (form_is.Item item_is.Part) span (more x none)) xs) of h good =
-      let w = first_whole (node (form_is.Item item_is.Part) span (more x none)) xs h in
-      let p = and_parts (is_of group_is.Parts x) true (formed list f m (form_is.Item item_is.Part) span (more x none) w.0.0) in
+      let w = first list f m (node (form_is.Item item_is.Part) span (more x none)) xs h in
+      let p = and_parts (is_of group_is.Parts x) true (formed list f m (form_is.Item item_is.Part) span (more x none) w) in
       let s = first_sound (part_of g worth fields x) (parts (parts_in g worth fields xs)) good in
-      let inner = (first_whole x none (parts_fine list f m (form_is.Item item_is.Part) span (more x none) w.0.0, w.0.1)).0 in
-      and_from (part_reads (part_of g worth fields x)) (parts_read (parts (parts_in g worth fields xs))) (part_all x p.0 inner s.0) (items_read xs of w.1 s.1)
-  items_read (more (node (form_is.Item item_is.Part) span none) xs) of h good = items_read xs of (first_whole (node (form_is.Item item_is.Part) span none) xs h).1 good
-  items_read (more (node (form_is.Item item_is.Part) span (more x (more y z))) xs) of h good = items_read xs of (first_whole (node (form_is.Item item_is.Part) span (more x (more y z))) xs h).1 good
-  items_read (more (node (form_is.Item form) span ys) xs) of h good = items_read xs of (first_whole (node (form_is.Item form) span ys) xs h).1 good
+      let inner = first list f m x none (parts_fine list f m (form_is.Item item_is.Part) span (more x none) w) in
+      and_from (part_reads (part_of g worth fields x)) (parts_read (parts (parts_in g worth fields xs))) (part_all x p.0 inner s.0) (items_read xs of (rest list f m (node (form_is.Item item_is.Part) span (more x none)) xs h) s.1)
+  items_read (more (node (form_is.Item item_is.Part) span none) xs) of h good = items_read xs of (rest list f m (node (form_is.Item item_is.Part) span none) xs h) good
+  items_read (more (node (form_is.Item item_is.Part) span (more x (more y z))) xs) of h good = items_read xs of (rest list f m (node (form_is.Item item_is.Part) span (more x (more y z))) xs h) good
+  items_read (more (node (form_is.Item form) span ys) xs) of h good = items_read xs of (rest list f m (node (form_is.Item form) span ys) xs h) good
   items_read (more (node _ span ys) xs) of h good = never of
   items_read (more absent xs) of h good = never of
   items_read (more (row ys) xs) of h good = never of

@@ -1,9 +1,9 @@
 -- What a base of a field is: where no rule is broken at it, and no alias of a type that is made of others is read with arguments, it can
 -- be read.
-use Rattle.std.specs.Prelude.{not, ◌&&◌}
+use Rattle.std.specs.Prelude.{◌&&◌}
 use Rattle.std.specs.List.{list_all}
-use Rattle.std.proofs.Common.{ℕ, ◌≡◌, true, false, refl, sym, ap, ◌∙◌, List, [], Option, Some, None}
-use Rattle.std.proofs.lemmas.Bool.{and_parts, not-true}
+use Rattle.std.proofs.Common.{ℕ, ◌≡◌, true, refl, sym, ap, ◌∙◌, List, [], Option, Some, None}
+use Rattle.std.proofs.lemmas.Bool.{and_parts}
 use Rattle.sp_base.specs.declared.places.Span.{Span}
 use Rattle.sp_ast.specs.Trees.{Tree, Trees, absent, row, node, none, more}
 use Rattle.sp_ast.specs.Trees as trees
@@ -59,7 +59,7 @@ use Rattle.sp_known_constants.proofs.Fine.{inside as parts_fine, first, formed, 
 use Rattle.sp_known_constants.proofs.Places.{constant_there, constant_typed}
 use Rattle.sp_known_constants.proofs.Rounds.{constant_answered}
 use Rattle.sp_unbroken_list.proofs.Lists.{all_types, are_unbroken}
-use Rattle.sp_known_members.specs.Given.{is_read, is_made, names_made, units_are_called, all_units_called}
+use Rattle.sp_known_members.specs.Given.{is_read}
 use Rattle.sp_known_members.proofs.Shapes.{no_first, no_second, no_third}
 use Rattle.sp_known_members.proofs.Named.{is_named_sort, IsNamed, means_named}
 use Rattle.sp_known_members.proofs.Fields.{v, last}
@@ -160,25 +160,25 @@ module _ (list : List Tree) (a : Answers list) (formed_list : list_all is_formed
   leaf_called own at path word_is.Unknown es full h = never full
   leaf_called own at path _ es full h = never h.0
 
-  type_called : (own : List Attribute) (at path : Span) (o : Option Ty) (es : List Expr) → is_full (or_unknown o) ≡ true → is_made o ≡ false → Reads own (called_op g at path (type_leaf o) es)
-  type_called own at path None es full no_made h = never full
-  type_called own at path (Some (word w)) es full no_made h = leaf_called own at path w es full h
-  type_called own at path (Some (made j ts)) es full no_made h = never (sym no_made)
+  type_called : (own : List Attribute) (at path : Span) (o : Option Ty) (es : List Expr) → is_full (or_unknown o) ≡ true → Reads own (called_op g at path (type_leaf o) es)
+  type_called own at path None es full h = never full
+  type_called own at path (Some (word w)) es full h = leaf_called own at path w es full h
+  type_called own at path (Some (made j ts)) es full h = never h.0
 
-  declared_called : (own : List Attribute) (at path span : Span) (i : ℕ) (s : DeclSort) (es : List Expr) → sort_at list i ≡ s → is_named_sort s ≡ true → is_made (f i) ≡ false → Reads own (called g at path (declared_at list f constant span i s) es)
-  declared_called own at path span i sort_is.Constant es is named no_made h = never h.0
-  declared_called own at path span i sort_is.Function es is named no_made h = never h.0
-  declared_called own at path span i sort_is.Unit es is named no_made h = type_called own at path (f i) es (has_type i (ap is_type_sort is)) no_made h
-  declared_called own at path span i sort_is.Enum es is named no_made h = type_called own at path (f i) es (has_type i (ap is_type_sort is)) no_made h
-  declared_called own at path span i sort_is.Alias es is named no_made h = type_called own at path (f i) es (has_type i (ap is_type_sort is)) no_made h
-  declared_called own at path span i _ es is named no_made h = never named
+  declared_called : (own : List Attribute) (at path span : Span) (i : ℕ) (s : DeclSort) (es : List Expr) → sort_at list i ≡ s → is_named_sort s ≡ true → Reads own (called g at path (declared_at list f constant span i s) es)
+  declared_called own at path span i sort_is.Constant es is named h = never h.0
+  declared_called own at path span i sort_is.Function es is named h = never h.0
+  declared_called own at path span i sort_is.Unit es is named h = type_called own at path (f i) es (has_type i (ap is_type_sort is)) h
+  declared_called own at path span i sort_is.Enum es is named h = type_called own at path (f i) es (has_type i (ap is_type_sort is)) h
+  declared_called own at path span i sort_is.Alias es is named h = type_called own at path (f i) es (has_type i (ap is_type_sort is)) h
+  declared_called own at path span i _ es is named h = never named
 
-  meaning_called : (own : List Attribute) (at place span : Span) (path : Tree) (w : Meaning) (es : List Expr) → IsNamed list w → means_something w ≡ true → names_made f w ≡ false → Reads own (called g at place (meaning_at list f constant span path w) es)
-  meaning_called own at place span path (meaning_is.Declaration i) es named some no_made h = declared_called own at place span i (sort_at list i) es refl named no_made h
-  meaning_called own at place span path (meaning_is.LibraryEnum i) es named some no_made h = never h.0
-  meaning_called own at place span path (meaning_is.Label owner i) es named some no_made h = never h.0
-  meaning_called own at place span path meaning_is.Decoder es named some no_made h = never h.1
-  meaning_called own at place span path (meaning_is.Nothing i) es named some no_made h = never some
+  meaning_called : (own : List Attribute) (at place span : Span) (path : Tree) (w : Meaning) (es : List Expr) → IsNamed list w → means_something w ≡ true → Reads own (called g at place (meaning_at list f constant span path w) es)
+  meaning_called own at place span path (meaning_is.Declaration i) es named some h = declared_called own at place span i (sort_at list i) es refl named h
+  meaning_called own at place span path (meaning_is.LibraryEnum i) es named some h = never h.0
+  meaning_called own at place span path (meaning_is.Label owner i) es named some h = never h.0
+  meaning_called own at place span path meaning_is.Decoder es named some h = never h.1
+  meaning_called own at place span path (meaning_is.Nothing i) es named some h = never some
 
   -- counts
   element_fine : (at : Span) (counts : Trees) (r : Read) → IsFineRead (contained g at counts r).spec → IsFineRead r.spec
@@ -193,54 +193,53 @@ module _ (list : List Tree) (a : Answers list) (formed_list : list_all is_formed
   container_reads at (more (node form_is.Count span (more c none)) ts) r h = container_reads at ts (container g at span (present c) r) h
   container_reads at (more x ts) r h = container_reads at ts r h
 
-  base_reads : (x : Tree) → is_of group_is.Bases x ≡ true → IsFine list f m x → units_are_called list f m x ≡ true → IsFineRead (base_read g worth x).spec → is_read (base_read g worth x).spec ≡ true
-  base_reads (node (form_is.Base base_is.Type) at none) of h c good = never h.0
-  base_reads (node (form_is.Base base_is.Type) at (more t none)) of h c good =
+  base_reads : (x : Tree) → is_of group_is.Bases x ≡ true → IsFine list f m x → IsFineRead (base_read g worth x).spec → is_read (base_read g worth x).spec ≡ true
+  base_reads (node (form_is.Base base_is.Type) at none) of h good = never h.0
+  base_reads (node (form_is.Base base_is.Type) at (more t none)) of h good =
       let ws = more t none in
       let o = and_parts (is_of group_is.Types t) true (formed list f m (form_is.Base base_is.Type) at ws h) in
       type_reads good.own at t (g.type_in t) (type_fine list f m t o.0 (first list f m t none (parts_fine list f m (form_is.Base base_is.Type) at ws h))) refl good.fine
-  base_reads (node (form_is.Base base_is.Type) at (more t (more y z))) of h c good = no_first (is_of group_is.Types t) (are_formed (more t (more y z))) h.0
-  base_reads (node (form_is.Base base_is.Unit) at none) of h c good = never h.0
-  base_reads (node (form_is.Base base_is.Unit) at (more path none)) of h c good = no_first (is_of group_is.Paths path) (are_formed (more path none)) h.0
-  base_reads (node (form_is.Base base_is.Unit) at (more path (more (row ts) none))) of h c good =
+  base_reads (node (form_is.Base base_is.Type) at (more t (more y z))) of h good = no_first (is_of group_is.Types t) (are_formed (more t (more y z))) h.0
+  base_reads (node (form_is.Base base_is.Unit) at none) of h good = never h.0
+  base_reads (node (form_is.Base base_is.Unit) at (more path none)) of h good = no_first (is_of group_is.Paths path) (are_formed (more path none)) h.0
+  base_reads (node (form_is.Base base_is.Unit) at (more path (more (row ts) none))) of h good =
       let w = path_means list f m path in
       let some = something m path w (none_parts (nothing_fault m path w) _ h.1).0 in
-      meaning_called good.own at (trees.span_of path) (trees.span_of path) path w _ (means_named list f m (path_names path)) some (not-true (names_made f w) (and_parts (not (names_made f w)) (all_units_called list f m (more path (more (row ts) none))) c).0) good.fine
-  base_reads (node (form_is.Base base_is.Unit) at (more path (more absent z))) of h c good = no_first (is_of group_is.Paths path) (are_formed (more path (more absent z))) h.0
-  base_reads (node (form_is.Base base_is.Unit) at (more path (more (node form span y) z))) of h c good = no_first (is_of group_is.Paths path) (are_formed (more path (more (node form span y) z))) h.0
-  base_reads (node (form_is.Base base_is.Unit) at (more path (more (row ts) (more y z)))) of h c good =
+      meaning_called good.own at (trees.span_of path) (trees.span_of path) path w _ (means_named list f m (path_names path)) some good.fine
+  base_reads (node (form_is.Base base_is.Unit) at (more path (more absent z))) of h good = no_first (is_of group_is.Paths path) (are_formed (more path (more absent z))) h.0
+  base_reads (node (form_is.Base base_is.Unit) at (more path (more (node form span y) z))) of h good = no_first (is_of group_is.Paths path) (are_formed (more path (more (node form span y) z))) h.0
+  base_reads (node (form_is.Base base_is.Unit) at (more path (more (row ts) (more y z)))) of h good =
       no_second (is_of group_is.Paths path) (are_of group_is.Expressions ts) (are_formed (more path (more (row ts) (more y z)))) h.0
-  base_reads (node (form_is.Base base_is.Group) at none) of h c good = never h.0
-  base_reads (node (form_is.Base base_is.Group) at (more x none)) of h c good = no_first (is_of group_is.Bases x) (are_formed (more x none)) h.0
-  base_reads (node (form_is.Base base_is.Group) at (more x (more absent z))) of h c good = no_first (is_of group_is.Bases x) (are_formed (more x (more absent z))) h.0
-  base_reads (node (form_is.Base base_is.Group) at (more x (more (node form span y) z))) of h c good = no_first (is_of group_is.Bases x) (are_formed (more x (more (node form span y) z))) h.0
-  base_reads (node (form_is.Base base_is.Group) at (more x (more (row counts) none))) of h c good =
+  base_reads (node (form_is.Base base_is.Group) at none) of h good = never h.0
+  base_reads (node (form_is.Base base_is.Group) at (more x none)) of h good = no_first (is_of group_is.Bases x) (are_formed (more x none)) h.0
+  base_reads (node (form_is.Base base_is.Group) at (more x (more absent z))) of h good = no_first (is_of group_is.Bases x) (are_formed (more x (more absent z))) h.0
+  base_reads (node (form_is.Base base_is.Group) at (more x (more (node form span y) z))) of h good = no_first (is_of group_is.Bases x) (are_formed (more x (more (node form span y) z))) h.0
+  base_reads (node (form_is.Base base_is.Group) at (more x (more (row counts) none))) of h good =
       no_second (is_of group_is.Bases x) (are_of group_is.Counts counts) (are_formed (more x (more (row counts) none))) h.0
-  base_reads (node (form_is.Base base_is.Group) at (more x (more (row counts) (more absent z)))) of h c good =
+  base_reads (node (form_is.Base base_is.Group) at (more x (more (row counts) (more absent z)))) of h good =
       no_second (is_of group_is.Bases x) (are_of group_is.Counts counts) (are_formed (more x (more (row counts) (more absent z)))) h.0
-  base_reads (node (form_is.Base base_is.Group) at (more x (more (row counts) (more (node form span y) z)))) of h c good =
+  base_reads (node (form_is.Base base_is.Group) at (more x (more (row counts) (more (node form span y) z)))) of h good =
       no_second (is_of group_is.Bases x) (are_of group_is.Counts counts) (are_formed (more x (more (row counts) (more (node form span y) z)))) h.0
-  base_reads (node (form_is.Base base_is.Group) at (more x (more (row counts) (more (row ts) none)))) of h c good =
+  base_reads (node (form_is.Base base_is.Group) at (more x (more (row counts) (more (row ts) none)))) of h good =
       let ws = more x (more (row counts) (more (row ts) none)) in
       let o = and_parts (is_of group_is.Bases x) (are_of group_is.Counts counts && (are_of group_is.Attributes ts && true)) (formed list f m (form_is.Base base_is.Group) at ws h) in
       let fine = first list f m x (more (row counts) (more (row ts) none)) (parts_fine list f m (form_is.Base base_is.Group) at ws h) in
-      let called_ = and_parts (units_are_called list f m x) (all_units_called list f m (more (row counts) (more (row ts) none))) c in
       let read = counted_read g worth x counts in
       let inner : IsFineRead read.spec = record { own = _; fine = ((none_parts (spec_tests k m read.spec) _ good.fine.0).0, (none_parts (own_tests us d _ read.spec) _ good.fine.1).0) } in
-      container_reads (trees.span_of x) counts (base_read g worth x) (base_reads x o.0 fine called_.0 (element_fine (trees.span_of x) counts (base_read g worth x) inner))
-  base_reads (node (form_is.Base base_is.Group) at (more x (more (row counts) (more (row ts) (more y z))))) of h c good =
+      container_reads (trees.span_of x) counts (base_read g worth x) (base_reads x o.0 fine (element_fine (trees.span_of x) counts (base_read g worth x) inner))
+  base_reads (node (form_is.Base base_is.Group) at (more x (more (row counts) (more (row ts) (more y z))))) of h good =
       no_third (is_of group_is.Bases x) (are_of group_is.Counts counts) (are_of group_is.Attributes ts) (are_formed (more x (more (row counts) (more (row ts) (more y z))))) h.0
-  base_reads (node (form_is.Base (base_is.Bytes bytes)) at none) of h c good = refl
-  base_reads (node (form_is.Base (base_is.Bytes bytes)) at (more y z)) of h c good = never h.0
-  base_reads (node (form_is.Base (base_is.Regex text)) at none) of h c good = refl
-  base_reads (node (form_is.Base (base_is.Regex text)) at (more y z)) of h c good = never h.0
-  base_reads (node (form_is.Base (base_is.Number x)) at none) of h c good = never h.0
-  base_reads (node (form_is.Base (base_is.Number x)) at (more u none)) of h c good = refl
-  base_reads (node (form_is.Base (base_is.Number x)) at (more u (more y z))) of h c good = no_first (is_of group_is.Numbers u) (are_formed (more u (more y z))) h.0
-  base_reads (node _ at us) of h c good = never of
-  base_reads absent of h c good = never of
-  base_reads (row us) of h c good = never of
+  base_reads (node (form_is.Base (base_is.Bytes bytes)) at none) of h good = refl
+  base_reads (node (form_is.Base (base_is.Bytes bytes)) at (more y z)) of h good = never h.0
+  base_reads (node (form_is.Base (base_is.Regex text)) at none) of h good = refl
+  base_reads (node (form_is.Base (base_is.Regex text)) at (more y z)) of h good = never h.0
+  base_reads (node (form_is.Base (base_is.Number x)) at none) of h good = never h.0
+  base_reads (node (form_is.Base (base_is.Number x)) at (more u none)) of h good = refl
+  base_reads (node (form_is.Base (base_is.Number x)) at (more u (more y z))) of h good = no_first (is_of group_is.Numbers u) (are_formed (more u (more y z))) h.0
+  base_reads (node _ at us) of h good = never of
+  base_reads absent of h good = never of
+  base_reads (row us) of h good = never of
 
   -- what a field reads
-  pub counted_reads : (x : Tree) (counts : Trees) → is_of group_is.Bases x ≡ true → IsFine list f m x → units_are_called list f m x ≡ true → IsFineRead (counted_read g worth x counts).spec → is_read (counted_read g worth x counts).spec ≡ true
-  counted_reads x counts of h c good = container_reads (trees.span_of x) counts (base_read g worth x) (base_reads x of h c (element_fine (trees.span_of x) counts (base_read g worth x) good))
+  pub counted_reads : (x : Tree) (counts : Trees) → is_of group_is.Bases x ≡ true → IsFine list f m x → IsFineRead (counted_read g worth x counts).spec → is_read (counted_read g worth x counts).spec ≡ true
+  counted_reads x counts of h good = container_reads (trees.span_of x) counts (base_read g worth x) (base_reads x of h (element_fine (trees.span_of x) counts (base_read g worth x) good))

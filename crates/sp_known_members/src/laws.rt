@@ -15,26 +15,23 @@ ghost use Rattle.sp_whole_list.specs.Types.{is_type};
 ghost use Rattle.sp_whole_list.specs.Whole.{is_known_function};
 ghost use Rattle.sp_known_constants.specs.Good.{is_told};
 ghost use Rattle.sp_unbroken_list.specs.Given.{AreFormed, HaveLocals, IsUnbroken, HaveMembers};
-ghost use Rattle.sp_known_members.specs.Given.{HaveReadings, CallUnits};
+ghost use Rattle.sp_known_members.specs.Given.{HaveReadings};
 
 use sp_stored_types::none_is_passed_over;
 
-/// In a list in which no rule is broken, all that units read can be read, where no alias of a type that is made of others stands
-/// before arguments. `x: V(1)` with such a `V` breaks no rule, and so the last premise is asked. And what is built reads integers
-/// alone.
+/// In a list in which no rule is broken, all that units read can be read. And what is built reads integers alone.
 pub fn readings_are_known()
     ensures unbroken { (list : List Tree) (a : Answers list) → AreFormed list → IsUnbroken list
-        → CallUnits list (told a.types) → HaveReadings (typed_of list a) }
+        → HaveReadings (typed_of list a) }
     ensures built { (texts : Texts) (list : List Tree) (t : Typed) → first_unbuilt texts list t ≡ None
         → HaveReadings t }
 {}
 
-/// In a list in which no rule is broken, and each field reads something that can be read, all members of units have full types, and
-/// all ranges of bitfields: what is stored in a field hangs on other members by its conversions alone, and these hang on no member
-/// that is made of itself.
+/// So all members of units have full types, and all ranges of bitfields: each field reads something that can be read, and what is
+/// stored in it hangs on other members by its conversions alone, and these hang on no member that is made of itself.
 pub fn members_are_known()
     ensures { (list : List Tree) (a : Answers list) → AreFormed list → IsUnbroken list
-        → HaveReadings (typed_of list a) → HaveMembers list (told a.stored) }
+        → HaveMembers list (told a.stored) }
 {
     none_is_passed_over();
 }
@@ -42,7 +39,7 @@ pub fn members_are_known()
 /// So all is known that the expressions of a module can name.
 pub fn modules_are_known()
     ensures { (list : List Tree) (a : Answers list) → AreFormed list → IsUnbroken list
-        → HaveReadings (typed_of list a) → (slots : List ℕ) (m : ℕ)
+        → (slots : List ℕ) (m : ℕ)
         → IsKnown (in_module list (told a.types) (told a.values) (told a.stored) m) any_op
         (known_in (typed_of list a) (values_of (typed_of list a)) slots) m
         (is_type list (told a.types) m) (is_told list (told a.types) (told a.values) m) }
@@ -53,7 +50,6 @@ pub fn modules_are_known()
 /// And where each local has a type or a value, all is known of all functions.
 pub fn functions_are_known()
     ensures { (list : List Tree) (a : Answers list) → AreFormed list → HaveLocals list → IsUnbroken list
-        → HaveReadings (typed_of list a)
         → IsTrue (list_all is_known_function (typed_of list a).functions) }
 {
     members_are_known();

@@ -6,16 +6,13 @@ ghost use Rattle.sp_typed_list.specs.Settled.{Answers};
 ghost use Rattle.sp_typed_list.specs.Lists.{typed_of};
 ghost use Rattle.sp_whole_list.specs.Whole.{is_known_unit, is_known_hook, AllKnown};
 ghost use Rattle.sp_unbroken_list.specs.Given.{AreFormed, HaveLocals, IsUnbroken};
-ghost use Rattle.sp_known_members.specs.Given.{HaveReadings};
 
 use sp_stored_types::none_is_passed_over;
 
-/// In a list in which no rule is broken, and each field reads something that can be read, all is known of units: their parameters
-/// and their members have full types, and each node of what they read, of their variables and of their byte orders is a value of a
-/// full type.
+/// In a list in which no rule is broken, all is known of units: their parameters and their members have full types, and each node of
+/// what they read, of their variables and of their byte orders is a value of a full type.
 pub fn units_are_known()
     ensures { (list : List Tree) (a : Answers list) → AreFormed list → IsUnbroken list
-        → HaveReadings (typed_of list a)
         → IsTrue (list_all is_known_unit (typed_of list a).units) }
 {
     none_is_passed_over();
@@ -24,7 +21,6 @@ pub fn units_are_known()
 /// And where all is known of its hooks, all is known of the list: that of its hooks too is not proved yet.
 pub fn lists_are_known()
     ensures { (list : List Tree) (a : Answers list) → AreFormed list → HaveLocals list → IsUnbroken list
-        → HaveReadings (typed_of list a)
         → IsTrue (list_all is_known_hook (typed_of list a).hooks) → AllKnown (typed_of list a) }
 {
     none_is_passed_over();
