@@ -19,7 +19,7 @@ use Rattle.sp_whole_list.proofs.Modules.{none_found}
 use Rattle.sp_known_members.specs.Given.{can_read, is_read, part_reads, parts_read, arms_read, unit_reads}
 
 -- nothing is noted
-abbrev nothing : List (Bool × Diag) → Bool
+abbrev pub nothing : List (Bool × Diag) → Bool
 nothing [] = true
 nothing (c ∷ cs) = not c.0 && nothing cs
 
@@ -34,7 +34,7 @@ kept {X} d (c ∷ cs) e = by c.0 (λ x. kept x cs) e
     by true next h = next _ h
     by false next h = next d h
 
-none_noted : (cs : List (Bool × Diag)) → Noted None cs → nothing cs ≡ true
+pub none_noted : (cs : List (Bool × Diag)) → Noted None cs → nothing cs ≡ true
 none_noted [] e = refl
 none_noted (c ∷ cs) e = by c.0 (none_noted cs) e
   where
@@ -42,7 +42,7 @@ none_noted (c ∷ cs) e = by c.0 (none_noted cs) e
     by true next h = kept c.1 cs h
     by false next h = next h
 
-two_parts : (xs ys : List (Bool × Diag)) → nothing (xs ++ ys) ≡ true → (nothing xs ≡ true) × (nothing ys ≡ true)
+pub two_parts : (xs ys : List (Bool × Diag)) → nothing (xs ++ ys) ≡ true → (nothing xs ≡ true) × (nothing ys ≡ true)
 two_parts [] ys e = (refl, e)
 two_parts (x ∷ xs) ys e =
     let p = and_parts (not x.0) (nothing (xs ++ ys)) e in

@@ -5,4 +5,3 @@ pub mod Fields
 pub mod Parts
 pub mod Members
 pub mod Units
-pub mod Lists

@@ -4,8 +4,8 @@ ghost use Rattle.std.specs.List.{list_all};
 ghost use Rattle.sp_ast.specs.Trees.{Tree};
 ghost use Rattle.sp_typed_list.specs.Settled.{Answers};
 ghost use Rattle.sp_typed_list.specs.Lists.{typed_of};
-ghost use Rattle.sp_whole_list.specs.Whole.{is_known_unit, is_known_hook, AllKnown};
-ghost use Rattle.sp_unbroken_list.specs.Given.{AreFormed, HaveLocals, IsUnbroken};
+ghost use Rattle.sp_whole_list.specs.Whole.{is_known_unit};
+ghost use Rattle.sp_unbroken_list.specs.Given.{AreFormed, IsUnbroken};
 
 use sp_stored_types::none_is_passed_over;
 
@@ -14,14 +14,6 @@ use sp_stored_types::none_is_passed_over;
 pub fn units_are_known()
     ensures { (list : List Tree) (a : Answers list) → AreFormed list → IsUnbroken list
         → IsTrue (list_all is_known_unit (typed_of list a).units) }
-{
-    none_is_passed_over();
-}
-
-/// And where all is known of its hooks, all is known of the list: that of its hooks too is not proved yet.
-pub fn lists_are_known()
-    ensures { (list : List Tree) (a : Answers list) → AreFormed list → HaveLocals list → IsUnbroken list
-        → IsTrue (list_all is_known_hook (typed_of list a).hooks) → AllKnown (typed_of list a) }
 {
     none_is_passed_over();
 }

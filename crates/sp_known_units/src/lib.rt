@@ -3,4 +3,4 @@
 
 mod laws;
 
-pub use laws::{lists_are_known, units_are_known};
+pub use laws::units_are_known;

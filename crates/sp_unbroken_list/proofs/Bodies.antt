@@ -61,7 +61,7 @@ use Rattle.sp_unbroken_list.proofs.Functions.{is_function_sort, whole, IsWhole, 
 use Rattle.sp_unbroken_list.proofs.Lists.{all_types, all_results, are_unbroken}
 
 -- locals in declarations
-abbrev LocalsIn : Declaration → Type 0
+abbrev pub LocalsIn : Declaration → Type 0
 LocalsIn d = locals_written d.tree ≡ true
 
 row_locals : (m : ℕ) (ts : Trees) → all_locals_written ts ≡ true → AllOf LocalsIn (rows_of m (list_of ts))
@@ -82,7 +82,7 @@ module_locals m (node form_is.Module span (more name (more (row ds) ts))) h =
     row_locals m ds (and_parts (all_locals_written ds) (all_locals_written ts) p.1).0
 module_locals m (node _ span ts) h = tt
 
-modules_locals : (m : ℕ) (ts : List Tree) → list_all locals_written ts ≡ true → AllOf LocalsIn (rows_from m ts)
+pub modules_locals : (m : ℕ) (ts : List Tree) → list_all locals_written ts ≡ true → AllOf LocalsIn (rows_from m ts)
 modules_locals m [] h = tt
 modules_locals m (t ∷ ts) h =
     let p = and_parts (locals_written t) (list_all locals_written ts) h in

@@ -1,0 +1,153 @@
+-- The fields of a unit of which all is known: what each stores has a full type.
+use Rattle.std.specs.Prelude.{◌&&◌}
+use Rattle.std.specs.List.{list_all}
+use Rattle.std.proofs.Common.{ℕ, ◌≡◌, true, refl, sym, ap, subst, ◌∙◌, List, [], Option, Some, slice_get}
+use Rattle.std.proofs.lemmas.Bool.{and_parts}
+use Rattle.sp_base.specs.declared.places.Span.{Span}
+use Rattle.sp_ast.specs.Trees.{Tree, Trees, absent, row, node, none, more}
+use Rattle.sp_ast.specs.Slots.{is_formed, are_formed}
+use Rattle.sp_ast.specs.Groups.{is_of, are_of, fits as stands_as}
+use Rattle.sp_ast.specs.declared.groups.Group.TheVariants as group_is
+use Rattle.sp_ast.specs.declared.groups.Sort.TheVariants as stands
+use Rattle.sp_ast.specs.declared.forms.Form.TheVariants as form_is
+use Rattle.sp_ast.specs.declared.forms.ItemForm.TheVariants as item_is
+use Rattle.sp_ast.specs.declared.forms.PartForm.TheVariants as part_is
+use Rattle.sp_ast.specs.declared.forms.BodyForm.TheVariants as body_is
+use Rattle.sp_types.specs.Types.{Ty}
+use Rattle.sp_typed.specs.Exprs.{Expr}
+use Rattle.sp_typed_units.specs.Parts.{Part, Parts, Arms, no_parts, more_parts, parts}
+use Rattle.sp_typing.specs.Contexts.{Around}
+use Rattle.sp_typing_units.specs.Values.{Values}
+use Rattle.sp_typing_units.specs.Attributes.{present, maybe_typed}
+use Rattle.sp_typing_units.specs.Parts.{Fields, field_of, arm_of, field_in, part_of, parts_of, body_of, arms_of}
+use Rattle.sp_typing_units.specs.Readings.{counted_read}
+use Rattle.sp_stored_types.specs.Tries.{field_type}
+use Rattle.sp_unit_rows.specs.Items.{parts_in}
+use Rattle.sp_hook_rows.specs.declared.sites.Site.{Site}
+use Rattle.sp_hook_rows.specs.Sites.{sites_in, sites_among}
+use Rattle.sp_typing_hooks.specs.Fields.{types_in}
+use Rattle.sp_known_types.specs.Full.{is_full}
+use Rattle.sp_known_types.proofs.Full.{never}
+use Rattle.sp_whole_list.specs.Whole.{is_known as is_known_value, is_known_if, is_known_attribute, is_known_spec, is_known_part, are_known_parts, are_known_arms}
+use Rattle.sp_known_constants.specs.Fine.{IsFine, AreFine}
+use Rattle.sp_known_constants.proofs.Fine.{inside as parts_fine, first, rest, formed}
+use Rattle.sp_known_constants.proofs.Declarations.{AllOf, both_of}
+use Rattle.sp_known_members.proofs.Shapes.{field_parts, field_whole, no_first, no_second}
+use Rattle.sp_known_hooks.proofs.Marks.{SiteFull}
+
+module _ (list : List Tree) (f : ℕ → Option Ty) (m n : ℕ) (g : Around) (v : Values) (fields : Fields) (contexts : List Around) (here : slice_get contexts n ≡ Some g) where
+  abbrev Full : Site → Type 0
+  Full s = SiteFull contexts v s
+
+  abbrev Fine : Tree → Type 0
+  Fine x = IsFine list f m x
+
+  abbrev AllFine : Trees → Type 0
+  AllFine xs = AreFine list f m xs
+
+  abbrev part : Tree → Part
+  part x = part_of g v fields x
+
+  abbrev later : Trees → Parts
+  later xs = parts (parts_of g v fields xs)
+
+  whole_full : (span : Span) (name base : Tree) (counts ts : Trees) (condition sink hooks : Tree) → is_known_part (field_in g v fields (node form_is.Field span (field_parts name base counts ts condition sink hooks))) ≡ true
+      → is_full (field_type g v (node form_is.Field span (field_parts name base counts ts condition sink hooks))) ≡ true
+  whole_full span name base counts ts condition sink hooks known =
+      let x = field_of g v fields span (present name) (counted_read g v base counts) ts (present condition) (present sink) in
+      (and_parts (is_full x.ty) (is_known_spec x.spec && (list_all is_known_attribute x.attributes && (is_known_if x.condition && is_known_if x.sink))) known).0
+
+  field_full : (x : Tree) → is_of group_is.Fields x ≡ true → Fine x → is_known_part (field_in g v fields x) ≡ true → is_full (field_type g v x) ≡ true
+  field_full (node form_is.Field span ws) of h known =
+      let w = field_whole ws (formed list f m form_is.Field span ws h) in
+      subst (λ us. is_known_part (field_in g v fields (node form_is.Field span us)) ≡ true → is_full (field_type g v (node form_is.Field span us)) ≡ true) (sym w.is) (whole_full span w.name w.base w.counts w.attributes w.condition w.sink w.hooks) known
+  field_full (node _ span ws) of h known = never of
+  field_full absent of h known = never of
+  field_full (row ws) of h known = never of
+
+  mutual
+    part_full : (x : Tree) → is_of group_is.Parts x ≡ true → Fine x → is_known_part (part x) ≡ true → AllOf Full (sites_in m n x)
+    part_full (node (form_is.Part part_is.Field) at none) of h known = tt
+    part_full (node (form_is.Part part_is.Field) at (more x none)) of h known =
+        let p = and_parts (is_of group_is.Fields x) true (formed list f m (form_is.Part part_is.Field) at (more x none) h) in
+        let full = field_full x p.0 (first list f m x none (parts_fine list f m (form_is.Part part_is.Field) at (more x none) h)) known in
+        (ap (λ o. is_full (types_in o v x).stored) here ∙ full, tt)
+    part_full (node (form_is.Part part_is.Field) at (more x (more y us))) of h known = no_first (is_of group_is.Fields x) (are_formed (more x (more y us))) h.0
+    part_full (node (form_is.Part part_is.Switch) at none) of h known = tt
+    part_full (node (form_is.Part part_is.Switch) at (more subject none)) of h known = tt
+    part_full (node (form_is.Part part_is.Switch) at (more subject (more (row ts) none))) of h known =
+        let ws = more subject (more (row ts) none) in
+        let subject_ = maybe_typed g (present subject) in
+        let p = and_parts (stands_as (stands.Optional group_is.Expressions) subject) (are_of group_is.Arms ts && true) (formed list f m (form_is.Part part_is.Switch) at ws h) in
+        let fine = first list f m (row ts) none (rest list f m subject (more (row ts) none) (parts_fine list f m (form_is.Part part_is.Switch) at ws h)) in
+        let q = and_parts (is_known_if subject_) (are_known_arms (arms_of g v fields subject_ ts)) known in
+        arms_full ts subject_ (and_parts (are_of group_is.Arms ts) true p.1).0 fine q.1
+    part_full (node (form_is.Part part_is.Switch) at (more subject (more (row ts) (more y us)))) of h known =
+        no_second (stands_as (stands.Optional group_is.Expressions) subject) (are_of group_is.Arms ts) (are_formed (more subject (more (row ts) (more y us)))) h.0
+    part_full (node (form_is.Part part_is.Switch) at (more subject (more absent us))) of h known = tt
+    part_full (node (form_is.Part part_is.Switch) at (more subject (more (node form span ts) us))) of h known = tt
+    part_full (node _ at us) of h known = never of
+    part_full absent of h known = never of
+    part_full (row us) of h known = never of
+
+    all_full : (xs : Trees) → are_of group_is.Parts xs ≡ true → AllFine xs → are_known_parts (later xs) ≡ true → AllOf Full (sites_among m n xs)
+    all_full none of h known = tt
+    all_full (more x xs) of h known =
+        let o = and_parts (is_of group_is.Parts x) (are_of group_is.Parts xs) of in
+        let q = and_parts (is_known_part (part x)) (are_known_parts (later xs)) known in
+        both_of Full (sites_in m n x) (sites_among m n xs) (part_full x o.0 (first list f m x xs h) q.0) (all_full xs o.1 (rest list f m x xs h) q.1)
+
+    body_full : (x : Tree) → is_of group_is.Bodies x ≡ true → Fine x → are_known_parts (parts (body_of g v fields x)) ≡ true → AllOf Full (sites_in m n x)
+    body_full (node (form_is.Body body_is.One) span none) of h known = tt
+    body_full (node (form_is.Body body_is.One) span (more x none)) of h known =
+        let p = and_parts (is_of group_is.Parts x) true (formed list f m (form_is.Body body_is.One) span (more x none) h) in
+        let q = and_parts (is_known_part (part x)) true known in
+        both_of Full (sites_in m n x) [] (part_full x p.0 (first list f m x none (parts_fine list f m (form_is.Body body_is.One) span (more x none) h)) q.0) tt
+    body_full (node (form_is.Body body_is.One) span (more x (more y us))) of h known = no_first (is_of group_is.Parts x) (are_formed (more x (more y us))) h.0
+    body_full (node (form_is.Body body_is.Many) span xs) of h known =
+        all_full xs (formed list f m (form_is.Body body_is.Many) span xs h) (parts_fine list f m (form_is.Body body_is.Many) span xs h) known
+    body_full (node (form_is.Body body_is.Nothing) span xs) of h known = tt
+    body_full (node _ span us) of h known = never of
+    body_full absent of h known = never of
+    body_full (row us) of h known = never of
+
+    arms_full : (xs : Trees) (subject : Option Expr) → are_of group_is.Arms xs ≡ true → AllFine xs → are_known_arms (arms_of g v fields subject xs) ≡ true → AllOf Full (sites_among m n xs)
+    arms_full none subject of h known = tt
+    arms_full (more (node form_is.Arm span none) xs) subject of h known = never (first list f m (node form_is.Arm span none) xs h).0
+    arms_full (more (node form_is.Arm span (more guard none)) xs) subject of h known =
+        no_first (is_of group_is.Guards guard) (are_formed (more guard none)) (first list f m (node form_is.Arm span (more guard none)) xs h).0
+    arms_full (more (node form_is.Arm span (more guard (more body none))) xs) subject of h known =
+        let ws = more guard (more body none) in
+        let x = node form_is.Arm span ws in
+        let fine = first list f m x xs h in
+        let p = and_parts (is_of group_is.Guards guard) (is_of group_is.Bodies body && true) (formed list f m form_is.Arm span ws fine) in
+        let q = first list f m body none (rest list f m guard (more body none) (parts_fine list f m form_is.Arm span ws fine)) in
+        let arm = arm_of g subject guard in
+        let ys = parts (body_of g v fields body) in
+        let behind = arms_of g v fields subject xs in
+        let c = and_parts (list_all is_known_value arm.values) (are_known_parts ys && are_known_arms behind) known in
+        let e = and_parts (are_known_parts ys) (are_known_arms behind) c.1 in
+        both_of Full (sites_in m n x) (sites_among m n xs) (body_full body (and_parts (is_of group_is.Bodies body) true p.1).0 q e.0) (arms_full xs subject of (rest list f m x xs h) e.1)
+    arms_full (more (node form_is.Arm span (more guard (more body (more y us)))) xs) subject of h known =
+        no_second (is_of group_is.Guards guard) (is_of group_is.Bodies body) (are_formed (more guard (more body (more y us)))) (first list f m (node form_is.Arm span (more guard (more body (more y us)))) xs h).0
+    arms_full (more (node _ span us) xs) subject of h known = never of
+    arms_full (more absent xs) subject of h known = never of
+    arms_full (more (row us) xs) subject of h known = never of
+
+  pub items_full : (xs : Trees) → are_of group_is.Items xs ≡ true → AllFine xs → are_known_parts (parts (parts_in g v fields xs)) ≡ true → AllOf Full (sites_among m n xs)
+  items_full none of h known = tt
+  items_full (more (node (form_is.Item item_is.On) span us) xs) of h known = (tt, items_full xs of (rest list f m (node (form_is.Item item_is.On) span us) xs h) known)
+  items_full (more (node (form_is.Item item_is.Part) span none) xs) of h known = never (first list f m (node (form_is.Item item_is.Part) span none) xs h).0
+  items_full (more (node (form_is.Item item_is.Part) span (more x none)) xs) of h known =
+      let u = node (form_is.Item item_is.Part) span (more x none) in
+      let fine = first list f m u xs h in
+      let p = and_parts (is_of group_is.Parts x) true (formed list f m (form_is.Item item_is.Part) span (more x none) fine) in
+      let q = and_parts (is_known_part (part x)) (are_known_parts (parts (parts_in g v fields xs))) known in
+      both_of Full (sites_in m n x) (sites_among m n xs) (part_full x p.0 (first list f m x none (parts_fine list f m (form_is.Item item_is.Part) span (more x none) fine)) q.0)
+      (items_full xs of (rest list f m u xs h) q.1)
+  items_full (more (node (form_is.Item item_is.Part) span (more x (more y us))) xs) of h known =
+      no_first (is_of group_is.Parts x) (are_formed (more x (more y us))) (first list f m (node (form_is.Item item_is.Part) span (more x (more y us))) xs h).0
+  items_full (more (node (form_is.Item form) span us) xs) of h known = items_full xs of (rest list f m (node (form_is.Item form) span us) xs h) known
+  items_full (more (node _ span us) xs) of h known = never of
+  items_full (more absent xs) of h known = never of
+  items_full (more (row us) xs) of h known = never of

@@ -1,0 +1,13 @@
+pub mod Numbers
+pub mod Hooks
+pub mod Walks
+pub mod Sites
+pub mod Marks
+pub mod Fields
+pub mod Members
+pub mod Seen
+pub mod Contexts
+pub mod Bodies
+pub mod Rows
+pub mod Built
+pub mod Lists

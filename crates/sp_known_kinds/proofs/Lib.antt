@@ -1,0 +1,4 @@
+pub mod Making
+pub mod Types
+pub mod Operations
+pub mod Names

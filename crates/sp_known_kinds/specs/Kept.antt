@@ -1,0 +1,26 @@
+-- What stands round the code of an expression keeps what is named round its text: locals, parameters and constants.
+use Rattle.std.specs.Prelude.{ℕ, ◌≡◌, ◌+◌, Bool, List, Some, slice_get, IsTrue}
+use Rattle.std.specs.List.{list_all}
+use Rattle.sp_types.specs.Types.{Ty}
+use Rattle.sp_typed.specs.declared.words.LeafOp.TheVariants as leaf_is
+use Rattle.sp_typed_units.specs.declared.declarations.Parameter.{Parameter}
+use Rattle.sp_typing_stmts.specs.Scopes.{Local}
+use Rattle.sp_fit_expr.specs.declared.around.Around.{Around}
+use Rattle.sp_fit_expr.specs.Test.{local_is, seen_parameter}
+use Rattle.sp_known_kinds.specs.Made.{leaf_made}
+
+module _ (around : Around) where
+  -- a local of the text has a slot of its type
+  abbrev pub is_kept : Local → Bool
+  is_kept l = local_is around (around.places.first + l.slot) l.ty
+
+  abbrev pub LocalsKept : List Local → Type 0
+  LocalsKept ls = IsTrue (list_all is_kept ls)
+
+  -- so has each parameter of a row of which the first has a number
+  abbrev pub ParametersKept : ℕ → List Parameter → Type 0
+  ParametersKept first ps = (n : ℕ) (p : Parameter) → slice_get ps n ≡ Some p → IsTrue (seen_parameter around (first + n) p.ty)
+
+  -- a constant of the list is of the type that its paths have, unless it is a regular expression
+  abbrev pub ConstantsKept : (ℕ → Ty) → Type 0
+  ConstantsKept constant = (n : ℕ) → IsTrue (leaf_made around (leaf_is.Constant n) (constant n))
