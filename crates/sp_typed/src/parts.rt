@@ -22,10 +22,9 @@ pub fn two_of(mut parts: Vec<Expr>) -> Option<(Expr, Expr)>
     if parts.len() != 2 {
         return None;
     }
-    match (parts.pop(), parts.pop()) {
-        (Some(b), Some(a)) => Some((a, b)),
-        _ => None,
-    }
+    let b = parts.pop()?;
+    let a = parts.pop()?;
+    Some((a, b))
 }
 
 /// The three expressions, where there are three.
@@ -36,8 +35,8 @@ pub fn three_of(mut parts: Vec<Expr>) -> Option<(Expr, Expr, Expr)>
     if parts.len() != 3 {
         return None;
     }
-    match (parts.pop(), parts.pop(), parts.pop()) {
-        (Some(c), Some(b), Some(a)) => Some((a, b, c)),
-        _ => None,
-    }
+    let c = parts.pop()?;
+    let b = parts.pop()?;
+    let a = parts.pop()?;
+    Some((a, b, c))
 }

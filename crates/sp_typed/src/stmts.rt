@@ -130,7 +130,10 @@ impl Stmt {
     pub fn new(node: StmtNode) -> Result<Stmt, NoMemory>
         ensures { IfOk result (λ s. s ≡ stmt_of node) }
     {
-        let levels = Stmt::node_levels(&node)?;
+        let Ok(levels) = Stmt::node_levels(&node) else {
+            drop(node);
+            return Err(NoMemory);
+        };
         Ok(Stmt { node, levels })
     }
 
