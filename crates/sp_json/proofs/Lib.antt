@@ -1,3 +1,2 @@
 mod Rows
-pub mod Written
 pub mod Texts

@@ -209,40 +209,33 @@ fn indexed(container: &Value, key: &Value) -> Result<Value, Fault> {
     }
 }
 
-/// What stands under a key of a map, or this where nothing does.
-fn of_map(map: &Value, key: &Value, other: Option<&Value>) -> Result<Value, Fault> {
-    if is_map(map) {
-        Ok(get(map, key, other)?)
-    } else {
-        Err(Fault::NoCase)
-    }
-}
-
-/// What stands under the last key of the map before it, or this.
-fn got_or(stack: &mut Vec<Value>, other: &Value) -> Result<Value, Fault> {
-    let key = pop(stack)?;
-    of_map(&pop(stack)?, &key, Some(other))
-}
-
-/// An end of a vector, an index, or what stands under a key.
-fn of_last(stack: &mut Vec<Value>, name: &str, last: &Value) -> Result<Value, Fault> {
-    match name {
-        "front" if is_vector(last) => Ok(front(last)?),
-        "back" if is_vector(last) => Ok(back(last)?),
-        "index" => indexed(&pop(stack)?, last),
-        "get" => of_map(&pop(stack)?, last, None),
-        _ => Err(Fault::NoCase),
-    }
-}
-
 /// A method of a vector or a map, or an index.
 fn of_container(alloc: Global, stack: &mut Vec<Value>, name: &str) -> Result<Value, Fault> {
     let last = pop(stack)?;
     match name {
+        "front" if is_vector(&last) => Ok(front(&last)?),
+        "back" if is_vector(&last) => Ok(back(&last)?),
         "pop_back" => popped(alloc, last),
         "push_back" => pushed(pop(stack)?, last),
-        "get_or" => got_or(stack, &last),
-        _ => of_last(stack, name, &last),
+        "index" => indexed(&pop(stack)?, &last),
+        "get" => {
+            let map = pop(stack)?;
+            if is_map(&map) {
+                Ok(get(&map, &last, None)?)
+            } else {
+                Err(Fault::NoCase)
+            }
+        }
+        "get_or" => {
+            let key = pop(stack)?;
+            let map = pop(stack)?;
+            if is_map(&map) {
+                Ok(get(&map, &key, Some(&last))?)
+            } else {
+                Err(Fault::NoCase)
+            }
+        }
+        _ => Err(Fault::NoCase),
     }
 }
 

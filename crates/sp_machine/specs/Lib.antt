@@ -4,6 +4,4 @@ pub mod Bodies
 pub mod Methods
 pub mod Safe
 pub mod InPlace
-pub mod InPlaceRows
-pub mod Inside
 pub mod Ran

@@ -40,19 +40,6 @@ fn files_of(alloc: Global, fields: &str) -> Result<Vec<(Text, ByteList)>, NoMemo
     Ok(files)
 }
 
-/// A status and what was put out, in the form of the lines, and what is printed.
-fn told(
-    alloc: Global,
-    status: u8,
-    out: &SureOut,
-    err: &SureOut,
-) -> Result<(String, Vec<u8>), NoMemory> {
-    let message = std::str::from_utf8(err.written()).unwrap_or("?");
-    let mut answer = format!(in alloc; "{status} {message}")?;
-    show(&mut answer, out.written())?;
-    Ok((answer, Vec::from_slice(alloc, out.written())?))
-}
-
 /// The answer to words over files, in the form of the lines, and what is printed.
 fn answer(
     alloc: Global,
@@ -63,7 +50,10 @@ fn answer(
     let mut out = SureOut::new(alloc)?;
     let mut err = SureOut::new(alloc)?;
     let status = spicyc(alloc, words, &mut modules, &mut out, &mut err);
-    told(alloc, status, &out, &err)
+    let message = std::str::from_utf8(err.written()).unwrap_or("?");
+    let mut answer = format!(in alloc; "{status} {message}")?;
+    show(&mut answer, out.written())?;
+    Ok((answer, Vec::from_slice(alloc, out.written())?))
 }
 
 /// The files with this text in place of that of the only one, if there is one alone.

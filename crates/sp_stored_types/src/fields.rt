@@ -8,8 +8,7 @@ ghost use Rattle.sp_typing.specs.Typing.{typed};
 ghost use Rattle.sp_typing_units.specs.Decorators.{meant};
 ghost use Rattle.sp_typing_units.specs.Readings.{counted_read};
 ghost use Rattle.sp_stored_types.specs.Sources.{questions};
-ghost use Rattle.sp_operands.specs.Literals.{seen};
-ghost use Rattle.sp_stored_types.specs.Opens.{or_else, open_in, conversion_open, base_open, field_open};
+ghost use Rattle.sp_stored_types.specs.Opens.{or_else, conversion_open, base_open, field_open};
 ghost use Rattle.sp_stored_types.specs.Tries.{when_open, field_type, try_in};
 
 use crate::opens::open_in;
@@ -145,22 +144,6 @@ fn base_open<C: Context, V: Constants>(
     }
 }
 
-/// The type of an expression, unless it waits for a member.
-fn seen_try(
-    rows: &MemberRows<'_>,
-    known: &[Option<Type>],
-    e: &Expr,
-) -> Result<Attempt<Type>, NoMemory>
-    requires { length known.now ≡ length (questions rows.now) }
-    ensures { IfOk result (λ t. t ≡ when_open (seen e.now)
-        (open_in rows.now (length (questions rows.now)) (told known.now) e.now)) }
-{
-    match open_in(rows, known, e)? {
-        Some(place) => Ok(Attempt::Waits(place)),
-        None => Ok(Attempt::Done(seen(e)?)),
-    }
-}
-
 /// What is read becomes this, unless it waits for a member.
 fn converted_try<C: Context>(
     alloc: Global,
@@ -178,7 +161,10 @@ fn converted_try<C: Context>(
     match value {
         Some(tree) => {
             let e = typed_with(alloc, context, &read, tree)?;
-            Ok(seen_try(rows, known, &e)?)
+            match open_in(rows, known, &e)? {
+                Some(place) => Ok(Attempt::Waits(place)),
+                None => Ok(Attempt::Done(seen(&e)?)),
+            }
         }
         None => Ok(Attempt::Done(read)),
     }

@@ -22,9 +22,10 @@ pub fn two_of(mut parts: Vec<Expr>) -> Option<(Expr, Expr)>
     if parts.len() != 2 {
         return None;
     }
-    let b = parts.pop()?;
-    let a = parts.pop()?;
-    Some((a, b))
+    match (parts.pop(), parts.pop()) {
+        (Some(b), Some(a)) => Some((a, b)),
+        _ => None,
+    }
 }
 
 /// The three expressions, where there are three.
@@ -35,8 +36,8 @@ pub fn three_of(mut parts: Vec<Expr>) -> Option<(Expr, Expr, Expr)>
     if parts.len() != 3 {
         return None;
     }
-    let c = parts.pop()?;
-    let b = parts.pop()?;
-    let a = parts.pop()?;
-    Some((a, b, c))
+    match (parts.pop(), parts.pop(), parts.pop()) {
+        (Some(c), Some(b), Some(a)) => Some((a, b, c)),
+        _ => None,
+    }
 }

@@ -130,10 +130,7 @@ impl Stmt {
     pub fn new(node: StmtNode) -> Result<Stmt, NoMemory>
         ensures { IfOk result (λ s. s ≡ stmt_of node) }
     {
-        let Ok(levels) = Stmt::node_levels(&node) else {
-            drop(node);
-            return Err(NoMemory);
-        };
+        let levels = Stmt::node_levels(&node)?;
         Ok(Stmt { node, levels })
     }
 

@@ -64,13 +64,6 @@ fn element_at(alloc: Global, span: Span, parts: &[Type], a: Expr, i: Expr) -> Re
     two_at(alloc, span, first_type(parts)?, TwoOp::Index, a, i)
 }
 
-/// What goes to the type of the first part.
-fn to_first(alloc: Global, parts: &[Type], e: Expr) -> Result<Expr, NoMemory>
-    ensures { IfOk result (λ r. r ≡ to_target (first_type (tys parts.now)) e) }
-{
-    to_target(alloc, &first_type(parts)?, e)
-}
-
 /// What stands for a key, which goes to the type of the first part.
 fn keyed_at(
     alloc: Global,
@@ -83,7 +76,8 @@ fn keyed_at(
     ensures { IfOk result (λ e. e ≡ two_at span ty Index a
         (to_target (first_type (tys parts.now)) i)) }
 {
-    let i = to_first(alloc, parts, i)?;
+    let key = first_type(parts)?;
+    let i = to_target(alloc, &key, i)?;
     two_at(alloc, span, ty, TwoOp::Index, a, i)
 }
 

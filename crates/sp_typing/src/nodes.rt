@@ -3,7 +3,7 @@ ghost use Rattle.std.specs.Prelude.{◌≡◌, IfOk};
 ghost use Rattle.sp_operands.specs.Literals.{seen};
 ghost use Rattle.sp_operands.specs.Operands.{sort_of, result_type, key_of};
 ghost use Rattle.sp_typing.specs.Contexts.{Around};
-ghost use Rattle.sp_typing.specs.Typing.{leaf_at, one_at, two_at, many_at, int_word, widened, to_target, alike, agreeing, both_written, or_else, unary_op, signed_type, unary_at, joined, binary_at, cast_type, choice_type, chosen, choice_at, name_of, member_at, member_of, set_op, set_member_at, set_member_of};
+ghost use Rattle.sp_typing.specs.Typing.{leaf_at, one_at, two_at, many_at, int_word, widened, to_target, alike, agreeing, both_written, or_else, unary_op, signed_type, unary_at, joined, binary_at, cast_type, choice_type, choice_at, member_at, member_of, set_op, set_member_at, set_member_of};
 
 use crate::context::{Context, Member};
 use sp_ast::{NameKind, Ref};
@@ -137,18 +137,12 @@ fn key_type(e: &Expr) -> Result<Type, NoMemory>
     key_of(&seen(e)?)
 }
 
-/// A key as it goes to a container.
-fn key_to(alloc: Global, key: Expr, container: &Expr) -> Result<Expr, NoMemory>
-    ensures { IfOk result (λ r. r ≡ to_target (key_of (seen container.now)) key) }
-{
-    to_target(alloc, &key_type(container)?, key)
-}
-
 /// Whether a key is in a container.
 fn contained_at(alloc: Global, span: Span, op: BinaryOp, a: Expr, b: Expr) -> Result<Expr, NoMemory>
     ensures { IfOk result (λ e. e ≡ joined span op (to_target (key_of (seen b)) a) b) }
 {
-    let a = key_to(alloc, a, &b)?;
+    let key = key_type(&b)?;
+    let a = to_target(alloc, &key, a)?;
     joined(alloc, span, op, a, b)
 }
 
@@ -179,14 +173,6 @@ fn choice_type(a: &Expr, b: &Expr) -> Result<Type, NoMemory>
     }
 }
 
-/// A choice between two that agree.
-fn choice_of(alloc: Global, span: Span, c: Expr, a: Expr, b: Expr) -> Result<Expr, NoMemory>
-    ensures { IfOk result (λ e. e ≡ chosen span c a b) }
-{
-    let ty = choice_type(&a, &b)?;
-    Expr::three(alloc, Three { span, ty }, c, a, b)
-}
-
 pub(crate) fn choice_at(
     alloc: Global,
     span: Span,
@@ -197,7 +183,8 @@ pub(crate) fn choice_at(
     ensures { IfOk result (λ e. e ≡ choice_at span c a b) }
 {
     let (a, b) = make_agree(a, b)?;
-    choice_of(alloc, span, c, a, b)
+    let ty = choice_type(&a, &b)?;
+    Expr::three(alloc, Three { span, ty }, c, a, b)
 }
 
 fn unary_op(op: UnaryOp) -> OneOp
@@ -257,17 +244,6 @@ fn member_at(
     }
 }
 
-/// The member of what an expression has.
-fn member_in<C: Context>(
-    context: &C,
-    name: &Ref<'_, NameKind>,
-    e: &Expr,
-) -> Result<Option<Member>, NoMemory>
-    ensures { IfOk result (λ m. m ≡ (C.around context.now).member (seen e.now) (name_of name.now)) }
-{
-    context.member(&seen(e)?, name.text())
-}
-
 pub(crate) fn member_of<C: Context>(
     alloc: Global,
     context: &C,
@@ -277,7 +253,7 @@ pub(crate) fn member_of<C: Context>(
 ) -> Result<Expr, NoMemory>
     ensures { IfOk result (λ r. r ≡ member_of (C.around context.now) span name.now e) }
 {
-    let member = member_in(context, name, &e)?;
+    let member = context.member(&seen(&e)?, name.text())?;
     member_at(alloc, span, name.span(), member, e)
 }
 
@@ -315,7 +291,7 @@ pub(crate) fn set_member_of<C: Context>(
 ) -> Result<Expr, NoMemory>
     ensures { IfOk result (λ r. r ≡ set_member_of (C.around context.now) span name.now e) }
 {
-    let member = member_in(context, name, &e)?;
+    let member = context.member(&seen(&e)?, name.text())?;
     set_member_at(alloc, span, name.span(), member, e)
 }
 

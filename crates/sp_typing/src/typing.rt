@@ -171,22 +171,6 @@ fn new_typed<C: Context>(
     new_at(alloc, context, span, at, callee, list)
 }
 
-/// The typed expressions of two trees.
-#[cycle(typed)]
-fn both_typed<C: Context>(
-    alloc: Global,
-    context: &C,
-    first: &Ref<'_, ExprKind>,
-    second: &Ref<'_, ExprKind>,
-) -> Result<(Expr, Expr), NoMemory>
-    ensures { IfOk result (λ p. (p.0 ≡ typed (C.around context.now) first.now)
-        × (p.1 ≡ typed (C.around context.now) second.now)) }
-{
-    let first = typed(alloc, context, first)?;
-    let second = typed(alloc, context, second)?;
-    Ok((first, second))
-}
-
 /// `c ? a : b`.
 #[cycle(typed)]
 fn choice_typed<C: Context>(
@@ -201,7 +185,8 @@ fn choice_typed<C: Context>(
         (typed (C.around context.now) if_true.now) (typed (C.around context.now) if_false.now)) }
 {
     let c = typed(alloc, context, condition)?;
-    let (a, b) = both_typed(alloc, context, if_true, if_false)?;
+    let a = typed(alloc, context, if_true)?;
+    let b = typed(alloc, context, if_false)?;
     choice_at(alloc, span, c, a, b)
 }
 
@@ -217,7 +202,8 @@ fn index_typed<C: Context>(
     ensures { IfOk result (λ e. e ≡ indexed (C.around context.now) span (typed
         (C.around context.now) object.now) (typed (C.around context.now) index.now)) }
 {
-    let (object, index) = both_typed(alloc, context, object, index)?;
+    let object = typed(alloc, context, object)?;
+    let index = typed(alloc, context, index)?;
     indexed(alloc, context, span, object, index)
 }
 
@@ -234,7 +220,8 @@ fn binary_typed<C: Context>(
     ensures { IfOk result (λ e. e ≡ binary_at span op (typed (C.around context.now) left.now)
         (typed (C.around context.now) right.now)) }
 {
-    let (left, right) = both_typed(alloc, context, left, right)?;
+    let left = typed(alloc, context, left)?;
+    let right = typed(alloc, context, right)?;
     binary_at(alloc, span, op, left, right)
 }
 

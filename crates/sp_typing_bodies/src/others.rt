@@ -3,20 +3,20 @@ ghost use Rattle.std.specs.Prelude.{◌≡◌, map, IfOk, OnOk};
 ghost use Rattle.sp_ast.specs.Trees.{trees};
 ghost use Rattle.sp_ast.specs.Views.{optional_tree};
 ghost use Rattle.sp_typed.specs.Exprs.{exprs};
-ghost use Rattle.sp_typed.specs.Stmts.{block, no_stmts, branch, branch_row, print, while_loop, for_loop, switch, case_row};
+ghost use Rattle.sp_typed.specs.Stmts.{block, no_stmts, print, switch, case_row};
 ghost use Rattle.sp_typed.specs.declared.stmt_words.ValuedOp.TheVariants as valued_is;
 ghost use Rattle.sp_typing.specs.Contexts.{Around};
-ghost use Rattle.sp_operands.specs.Literals.{seen, taken};
+ghost use Rattle.sp_operands.specs.Literals.{taken};
 ghost use Rattle.sp_typing_stmts.specs.Values.{values_in};
-ghost use Rattle.sp_typing_stmts.specs.Statements.{element_type, valued_in, text_in};
+ghost use Rattle.sp_typing_stmts.specs.Statements.{valued_in, text_in};
 
 use sp_ast::{ExprKind, Members, Ref, StringKind};
 use sp_base::{NoMemory, Span};
-use sp_operands::{seen, taken};
-use sp_typed::{Expr, For, Stmt, StmtNode, ValuedOp};
+use sp_operands::taken;
+use sp_typed::{Expr, Stmt, StmtNode, ValuedOp};
 use sp_types::Type;
 use sp_typing::Context;
-use sp_typing_stmts::{Scope, element_type, text_in, valued_in, values_in};
+use sp_typing_stmts::{Scope, text_in, valued_in, values_in};
 use std::alloc::Global;
 
 /// A block without statements.
@@ -37,43 +37,6 @@ pub(crate) fn switch_of(
     ensures { IfOk result (λ s. s ≡ switch slot subject (case_row cases.items) otherwise) }
 {
     Stmt::new(StmtNode::Switch(slot, subject, cases, Box::new(alloc, otherwise)?))
-}
-
-/// An `if`.
-pub(crate) fn if_of(
-    alloc: Global,
-    branches: Vec<(Expr, Stmt)>,
-    otherwise: Stmt,
-) -> Result<Stmt, NoMemory>
-    ensures { IfOk result (λ s. s ≡ branch (branch_row branches.items) otherwise) }
-{
-    Stmt::new(StmtNode::If(branches, Box::new(alloc, otherwise)?))
-}
-
-/// A `while`.
-pub(crate) fn while_of(alloc: Global, condition: Expr, inner: Stmt) -> Result<Stmt, NoMemory>
-    ensures { IfOk result (λ s. s ≡ while_loop condition inner) }
-{
-    Stmt::new(StmtNode::While(condition, Box::new(alloc, inner)?))
-}
-
-/// A `for`.
-pub(crate) fn for_of(
-    alloc: Global,
-    head: For,
-    sequence: Expr,
-    inner: Stmt,
-) -> Result<Stmt, NoMemory>
-    ensures { IfOk result (λ s. s ≡ for_loop head sequence inner) }
-{
-    Stmt::new(StmtNode::For(head, sequence, Box::new(alloc, inner)?))
-}
-
-/// The type of the variable of a `for` over this.
-pub(crate) fn element_of(alloc: Global, sequence: &Expr) -> Result<Type, NoMemory>
-    ensures { IfOk result (λ t. t ≡ element_type (seen sequence.now)) }
-{
-    element_type(alloc, &seen(sequence)?)
 }
 
 /// The values of a case: literals take the type of the subject.

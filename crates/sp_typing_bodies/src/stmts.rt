@@ -6,9 +6,7 @@ ghost use Rattle.sp_typing.specs.Contexts.{Around};
 ghost use Rattle.sp_typing_stmts.specs.Statements.{typed_stmt, typed_stmts, typed_branch, typed_branches, typed_case, typed_cases, typed_body};
 ghost use Rattle.sp_typing_bodies.specs.inside.Forms.{block_tree, if_tree, while_tree, for_tree, switch_tree, plain_case, plain_cases};
 
-use crate::others::{
-    all_taken, assert_in, element_of, for_of, if_of, nothing, print_in, switch_of, while_of,
-};
+use crate::others::{all_taken, assert_in, nothing, print_in, switch_of};
 use sp_ast::{
     BlockKind, BranchKind, CaseKind, ExprKind, Members, NameKind, Ref, StmtKind, StmtView,
 };
@@ -18,8 +16,8 @@ use sp_typed::{BareOp, Expr, Stmt, StmtNode, ValuedOp};
 use sp_types::Type;
 use sp_typing::Context;
 use sp_typing_stmts::{
-    Body, Scope, add_in, assign_in, bare_at, delete_in, local_in, loop_head, return_in, value_in,
-    valued_in, values_in,
+    Body, Scope, add_in, assign_in, bare_at, delete_in, element_type, local_in, loop_head,
+    return_in, value_in, valued_in, values_in,
 };
 use std::alloc::Global;
 
@@ -152,7 +150,7 @@ fn if_typed<C: Context>(
     let list = branches_typed(alloc, body, context, in_loop, scope, branches)?;
     let other = otherwise_typed(alloc, body, context, in_loop, scope, otherwise)?;
     scope.close(mark);
-    if_of(alloc, list, other)
+    Stmt::new(StmtNode::If(list, Box::new(alloc, other)?))
 }
 
 /// `while (c) s`
@@ -174,7 +172,7 @@ fn while_typed<C: Context>(
     let condition = value_in(alloc, context, scope, condition)?;
     let inner = typed_stmt(alloc, body, context, true, scope, inner)?;
     scope.close(mark);
-    while_of(alloc, condition, inner)
+    Stmt::new(StmtNode::While(condition, Box::new(alloc, inner)?))
 }
 
 /// `for (x in e) s`
@@ -195,11 +193,11 @@ fn for_typed<C: Context>(
 {
     let mark = scope.mark();
     let sequence = value_in(alloc, context, scope, sequence)?;
-    let ty = element_of(alloc, &sequence)?;
+    let ty = element_type(alloc, &seen(&sequence)?)?;
     let head = loop_head(alloc, scope, name, ty)?;
     let stmt = typed_stmt(alloc, body, context, true, scope, inner)?;
     scope.close(mark);
-    for_of(alloc, head, sequence, stmt)
+    Stmt::new(StmtNode::For(head, sequence, Box::new(alloc, stmt)?))
 }
 
 /// `case a, b: s`

@@ -29,13 +29,6 @@ pub struct Site {
     pub stored: Type,
 }
 
-/// What attributes make of what is read: themselves, and the type of what is stored.
-#[derive(Drop)]
-pub struct Described {
-    pub attributes: Vec<Attribute>,
-    pub stored: Type,
-}
-
 /// The type of the elements of a container.
 fn element_of(of: &Type) -> Result<Type, NoMemory>
     ensures { IfOk result (λ t. t ≡ element_of of.now) }
@@ -235,28 +228,4 @@ pub fn converted<C: Context>(
         Some(tree) => seen(&typed_with(alloc, context, read, &tree)?),
         None => read.copy(),
     }
-}
-
-/// What the attributes behind something make of it, where its type is that of what is read.
-pub fn described_by<C: Context, V: Constants>(
-    alloc: Global,
-    context: &C,
-    constants: &V,
-    kind: Kind,
-    read: Type,
-    list: &Members<'_, AttributeKind>,
-) -> Result<Described, NoMemory>
-    ensures stored { IfOk result (λ d. d.stored ≡ converted (C.around context.now) read
-        (conversion (trees list.now))) }
-    ensures attributes { IfOk result (λ d. d.attributes.items ≡ attributes (C.around context.now)
-        (V.values constants.now) (record { kind = kind; read = read; stored = d.stored })
-        (trees list.now)) }
-{
-    let stored = converted(alloc, context, &read, list)?;
-    let site = Site { kind, read, stored };
-    let attributes = attributes_of(alloc, context, constants, &site, list)?;
-    Ok(Described {
-        attributes,
-        stored: site.stored,
-    })
 }

@@ -3,10 +3,9 @@ ghost use Rattle.std.specs.Prelude.{◌≡◌, map, IfOk, List};
 ghost use Rattle.sp_ast.specs.Trees.{Tree, trees};
 ghost use Rattle.sp_typed_units.specs.Parts.{field, arms};
 ghost use Rattle.sp_operands.specs.Literals.{taken, seen};
-ghost use Rattle.sp_typing_units.specs.Attributes.{maybe_typed};
 ghost use Rattle.sp_typing_units.specs.Parts.{Fields, field_place, member_number, is_taken, field_with, field_of, settled_to, arm_of, field_in, part_of, parts_of, body_of, arms_of};
 
-use crate::attributes::described_by;
+use crate::attributes::{Site, attributes_of, converted};
 use crate::constants::Constants;
 use crate::optional::{is_present, maybe_typed};
 use crate::readings::{Read, counted_read};
@@ -69,36 +68,6 @@ fn is_taken<F: FieldTable>(table: &F, name: &Option<Ref<'_, NameKind>>) -> bool
     }
 }
 
-/// What stands on a field beside its attributes.
-#[derive(Drop)]
-struct Beside {
-    condition: Option<Expr>,
-    sink: Option<Expr>,
-    hooks: Row<u32>,
-}
-
-/// What stands on the field at this place beside its attributes.
-fn beside_of<C: Context, F: FieldTable>(
-    alloc: Global,
-    context: &C,
-    table: &F,
-    place: Span,
-    view: &FieldView<'_>,
-) -> Result<Beside, NoMemory>
-    ensures condition { IfOk result (λ b. b.condition ≡ maybe_typed (C.around context.now)
-        view.now.condition) }
-    ensures sink { IfOk result (λ b. b.sink ≡ maybe_typed (C.around context.now) view.now.sink) }
-    ensures hooks { IfOk result (λ b. b.hooks ≡ (F.fields table.now).hooks place) }
-{
-    let condition = maybe_typed(alloc, context, &view.condition)?;
-    let sink = maybe_typed(alloc, context, &view.sink)?;
-    Ok(Beside {
-        condition,
-        sink,
-        hooks: table.hooks(alloc, place)?,
-    })
-}
-
 /// A field that is read so.
 fn field_of<C: Context, V: Constants, F: FieldTable>(
     alloc: Global,
@@ -114,19 +83,24 @@ fn field_of<C: Context, V: Constants, F: FieldTable>(
         view.now.condition view.now.sink) }
 {
     let Read { spec, ty, kind } = read;
+    let stored = converted(alloc, context, &ty, &view.attributes)?;
+    let site = Site {
+        kind,
+        read: ty,
+        stored,
+    };
+    let list = attributes_of(alloc, context, constants, &site, &view.attributes)?;
     let place = field_place(span, &view.name);
-    let typed = described_by(alloc, context, constants, kind, ty, &view.attributes)?;
-    let beside = beside_of(alloc, context, table, place, view)?;
     Ok(Field {
         span: place,
         member: member_number(table, &view.name),
         taken: is_taken(table, &view.name),
-        ty: typed.stored,
+        ty: site.stored,
         spec,
-        attributes: Row::from_vec(typed.attributes),
-        condition: beside.condition,
-        sink: beside.sink,
-        hooks: beside.hooks,
+        attributes: Row::from_vec(list),
+        condition: maybe_typed(alloc, context, &view.condition)?,
+        sink: maybe_typed(alloc, context, &view.sink)?,
+        hooks: table.hooks(alloc, place)?,
     })
 }
 

@@ -3,12 +3,10 @@ ghost use Rattle.std.specs.Prelude.{◌≡◌, IfOk};
 ghost use Rattle.sp_ast.specs.Trees.{trees, span_of};
 ghost use Rattle.sp_typing.specs.Contexts.{Around};
 ghost use Rattle.sp_operands.specs.Operands.{unknown};
-ghost use Rattle.sp_typing.specs.Typing.{int_word, to_maybe, typed_all};
-ghost use Rattle.sp_typed_units.specs.Specs.{list_read};
-ghost use Rattle.sp_typing_units.specs.Attributes.{maybe_typed};
+ghost use Rattle.sp_typing.specs.Typing.{int_word, to_maybe};
 ghost use Rattle.sp_typing_units.specs.Readings.{fine, unnamed, misplaced, simple, broken, decoder, literal, or_empty, constant_read, constant_of_type, named_op, named_read, unit_spec, word_read, unknown_read, type_read, arguments, called_word, called_op, called, vector_of, counting, container, contained, group_with, group_of, base_read, counted_read};
 
-use crate::attributes::described_by;
+use crate::attributes::{Site, attributes_of, converted};
 use crate::constants::Constants;
 use crate::optional::{is_present, maybe_typed};
 use crate::roles::{Kind, grouped};
@@ -329,22 +327,6 @@ fn counting(count: &Option<Ref<'_, ExprKind>>) -> Kind
     }
 }
 
-/// A list of what is read, with its count.
-fn list_of<C: Context>(
-    alloc: Global,
-    context: &C,
-    span: Span,
-    count: &Option<Ref<'_, ExprKind>>,
-    inner: Spec,
-) -> Result<Spec, NoMemory>
-    ensures { IfOk result (λ s. s ≡ list_read span inner (maybe_typed (C.around context.now)
-        count.now)) }
-{
-    let number = maybe_typed(alloc, context, count)?;
-    let inner = Box::new(alloc, inner)?;
-    Spec::new(SpecNode::List(span, inner, number))
-}
-
 /// A container of what is read, whose last bracket stands here.
 fn container<C: Context>(
     alloc: Global,
@@ -360,9 +342,11 @@ fn container<C: Context>(
         from: at.from,
         to: last.to,
     };
+    let number = maybe_typed(alloc, context, count)?;
     let ty = vector_of(alloc, &element.ty)?;
+    let inner = Box::new(alloc, element.spec)?;
     Ok(Read {
-        spec: list_of(alloc, context, span, count, element.spec)?,
+        spec: Spec::new(SpecNode::List(span, inner, number))?,
         ty,
         kind: counting(count),
     })
@@ -400,11 +384,17 @@ fn group_of<C: Context, V: Constants>(
         (trees list.now) inner) }
 {
     let Read { spec, ty, kind } = inner;
-    let typed = described_by(alloc, context, constants, kind, ty, list)?;
+    let stored = converted(alloc, context, &ty, list)?;
+    let site = Site {
+        kind,
+        read: ty,
+        stored,
+    };
+    let typed = attributes_of(alloc, context, constants, &site, list)?;
     let inner = Box::new(alloc, spec)?;
     Ok(Read {
-        spec: Spec::new(SpecNode::Group(at, inner, typed.attributes))?,
-        ty: typed.stored,
+        spec: Spec::new(SpecNode::Group(at, inner, typed))?,
+        ty: site.stored,
         kind: grouped(kind),
     })
 }
@@ -425,23 +415,6 @@ fn int_word(word: IntWord) -> Word
     }
 }
 
-/// A path with arguments.
-fn path_called<C: Context>(
-    alloc: Global,
-    context: &C,
-    at: Span,
-    path: &Ref<'_, PathKind>,
-    arguments: &Members<'_, ExprKind>,
-) -> Result<Read, NoMemory>
-    ensures { IfOk result (λ r. r ≡ called (C.around context.now) at (span_of path.now)
-        ((C.around context.now).named (span_of path.now) path.now) (typed_all
-        (C.around context.now) (trees arguments.now))) }
-{
-    let callee = context.named(alloc, path.span(), path)?;
-    let list = typed_all(alloc, context, arguments)?;
-    called(alloc, context, at, path.span(), &callee, list)
-}
-
 /// How a base is read, apart from counts behind it.
 #[cycle(base)]
 fn base_read<C: Context, V: Constants>(
@@ -456,7 +429,11 @@ fn base_read<C: Context, V: Constants>(
     let at = base.span();
     match base.view() {
         BaseView::Type(tree) => type_read(alloc, context, constants, at, &tree),
-        BaseView::Unit { path, arguments } => path_called(alloc, context, at, &path, &arguments),
+        BaseView::Unit { path, arguments } => {
+            let callee = context.named(alloc, path.span(), &path)?;
+            let list = typed_all(alloc, context, &arguments)?;
+            called(alloc, context, at, path.span(), &callee, list)
+        }
         BaseView::Group {
             base,
             counts,

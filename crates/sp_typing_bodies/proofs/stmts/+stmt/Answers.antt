@@ -1,6 +1,5 @@
 use Rattle.std.proofs.Common.{refl}
 use Rattle.sp_ast.specs.Trees.{trees, trees_size, span_of}
-use Rattle.sp_operands.specs.Literals.{seen}
 use Rattle.sp_typed.specs.Stmts.{block, switch, stmts, case_row}
 use Rattle.sp_typing_stmts.specs.Statements.{typed_stmt, typed_stmts, typed_branch, typed_branches, typed_case, typed_cases}
 use Rattle.sp_typing_bodies.specs.inside.Forms.{block_tree, switch_tree, plain_case, plain_cases}
@@ -73,20 +72,20 @@ branch_typed-returns-clause-scope g t c =
 pub if_typed-returns-clause-scope : goal.if_typed-returns-clause-scope
 if_typed-returns-clause-scope g t c =
     let around = g.C.Context.around c.args.context.now in
-    on_ok c.if_of.result
+    on_ok c.new-2.result
     (if_scope c.args.body.now around c.args.in_loop c.args.scope.now c.branches_typed.new.scope c.otherwise_typed.new.scope c.close.new.self c.args.branches.now c.args.otherwise.now c.mark-mark.result c.mark-mark.ensures c.in_ok-list.ensures.scope c.in_ok-other.ensures.scope c.close.ensures)
 
 pub while_typed-returns-clause-scope : goal.while_typed-returns-clause-scope
 while_typed-returns-clause-scope g t c =
     let around = g.C.Context.around c.args.context.now in
-    on_ok c.while_of.result
+    on_ok c.new-2.result
     (while_scope c.args.body.now around c.args.scope.now c.value_in.new.scope c.typed_stmt.new.scope c.close.new.self c.args.condition.now c.args.inner.now c.mark-mark.result c.mark-mark.ensures c.in_ok-condition.ensures.scope c.in_ok-inner.ensures.scope c.close.ensures)
 
 pub for_typed-returns-clause-scope : goal.for_typed-returns-clause-scope
 for_typed-returns-clause-scope g t c =
     let around = g.C.Context.around c.args.context.now in
-    on_ok c.for_of.result
-    (for_scope c.args.body.now around c.args.scope.now c.value_in.new.scope c.loop_head.new.scope c.typed_stmt.new.scope c.close.new.self c.args.name.now c.args.sequence.now c.args.inner.now c.in_ok-sequence.sequence (seen c.in_ok-sequence.sequence) c.in_ok-ty.ty c.mark-mark.result c.mark-mark.ensures c.in_ok-sequence.ensures.expr c.in_ok-sequence.ensures.scope refl c.in_ok-ty.ensures c.in_ok-head.ensures.scope c.in_ok-stmt.ensures.scope c.close.ensures)
+    on_ok c.new-2.result
+    (for_scope c.args.body.now around c.args.scope.now c.value_in.new.scope c.loop_head.new.scope c.typed_stmt.new.scope c.close.new.self c.args.name.now c.args.sequence.now c.args.inner.now c.in_ok-sequence.sequence c.in_ok-seen.field-0 c.in_ok-ty.ty c.mark-mark.result c.mark-mark.ensures c.in_ok-sequence.ensures.expr c.in_ok-sequence.ensures.scope c.in_ok-seen.ensures c.in_ok-ty.ensures c.in_ok-head.ensures.scope c.in_ok-stmt.ensures.scope c.close.ensures)
 
 pub case_typed-returns-clause-scope : goal.case_typed-returns-clause-scope
 case_typed-returns-clause-scope g t c =
