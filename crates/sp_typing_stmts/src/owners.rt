@@ -1,11 +1,11 @@
 // The owners of changed members, each in a slot of its own where it has to be kept.
 ghost use Rattle.std.specs.Prelude.{◌≡◌, IfOk, OnOk};
-ghost use Rattle.sp_typed.specs.Exprs.{exprs};
+ghost use Rattle.sp_typed.specs.Exprs.{three, exprs};
 ghost use Rattle.sp_typing_stmts.specs.Owners.{is_at_hand, is_changeable, is_index, owner, owner_slot, with_owner, receiver_owner, changed_owner, with_slot_of, many_kept, kept, all_kept};
 
 use crate::scope::Scope;
 use sp_base::NoMemory;
-use sp_typed::{Expr, ExprLevel, ExprParts, LeafOp, Many, ManyOp, OneOp, TwoOp};
+use sp_typed::{Expr, ExprLevel, ExprParts, LeafOp, Many, ManyOp, OneOp, Three, TwoOp};
 use sp_types::Type;
 use std::alloc::Global;
 
@@ -63,6 +63,16 @@ pub fn keep_owner(scope: &mut Scope, owner: Option<Type>) -> Result<Option<u32>,
         Some(ty) => Ok(Some(scope.take_slot(ty)?)),
         None => Ok(None),
     }
+}
+
+/// The slot of the owner that has to be kept where this is changed.
+pub(crate) fn keep_owner_of(scope: &mut Scope, e: &Expr) -> Result<Option<u32>, NoMemory>
+    ensures slot { IfOk result (λ n. n ≡ owner_slot scope.old (owner e.now)) }
+    ensures scope { OnOk result (scope.new ≡ with_owner scope.old (owner e.now)) }
+{
+    let owner = owner(e)?;
+    let slot = keep_owner(scope, owner)?;
+    Ok(slot)
 }
 
 fn receiver_owner(parts: &[Expr]) -> Result<Option<Type>, NoMemory>
@@ -125,6 +135,36 @@ fn all_kept(alloc: Global, scope: &mut Scope, mut parts: Vec<Expr>) -> Result<Ve
     Ok(all)
 }
 
+/// Two expressions, one behind the other.
+#[cycle(kept)]
+fn both_kept(alloc: Global, scope: &mut Scope, a: Expr, b: Expr) -> Result<(Expr, Expr), NoMemory>
+    ensures exprs { IfOk result (λ r. (r.0 ≡ (kept scope.old a).0)
+        × (r.1 ≡ (kept (kept scope.old a).1 b).0)) }
+    ensures scope { OnOk result (scope.new ≡ (kept (kept scope.old a).1 b).1) }
+{
+    let a = keep_owners(alloc, scope, a)?;
+    let b = keep_owners(alloc, scope, b)?;
+    Ok((a, b))
+}
+
+/// A node with three parts.
+#[cycle(kept)]
+fn three_kept(
+    alloc: Global,
+    scope: &mut Scope,
+    head: Three,
+    a: Expr,
+    b: Expr,
+    c: Expr,
+) -> Result<Expr, NoMemory>
+    ensures expr { IfOk result (λ r. r ≡ (kept scope.old (three head a b c)).0) }
+    ensures scope { OnOk result (scope.new ≡ (kept scope.old (three head a b c)).1) }
+{
+    let a = keep_owners(alloc, scope, a)?;
+    let (b, c) = both_kept(alloc, scope, b, c)?;
+    Expr::three(alloc, head, a, b, c)
+}
+
 /// An expression in which each method that changes its receiver has a slot for the owner, where that has to be kept.
 #[cycle(kept)]
 pub fn keep_owners(alloc: Global, scope: &mut Scope, e: Expr) -> Result<Expr, NoMemory>
@@ -138,16 +178,10 @@ pub fn keep_owners(alloc: Global, scope: &mut Scope, e: Expr) -> Result<Expr, No
             Expr::one(alloc, head, a)
         }
         ExprParts::Two(head, a, b) => {
-            let a = keep_owners(alloc, scope, a)?;
-            let b = keep_owners(alloc, scope, b)?;
+            let (a, b) = both_kept(alloc, scope, a, b)?;
             Expr::two(alloc, head, a, b)
         }
-        ExprParts::Three(head, a, b, c) => {
-            let a = keep_owners(alloc, scope, a)?;
-            let b = keep_owners(alloc, scope, b)?;
-            let c = keep_owners(alloc, scope, c)?;
-            Expr::three(alloc, head, a, b, c)
-        }
+        ExprParts::Three(head, a, b, c) => three_kept(alloc, scope, head, a, b, c),
         ExprParts::Many(head, parts) => {
             let parts = all_kept(alloc, scope, parts)?;
             many_kept(scope, head, parts)

@@ -3,11 +3,13 @@ ghost use Rattle.std.specs.Prelude.{◌≡◌, ◌∷◌, [], map, length, is_so
 ghost use Rattle.sp_types.specs.Types.{tys, made};
 ghost use Rattle.sp_types.specs.declared.words.Maker.TheVariants as maker_is;
 ghost use Rattle.sp_ast.specs.Views.{optional_tree};
+ghost use Rattle.sp_operands.specs.Literals.{seen};
 ghost use Rattle.sp_typing.specs.Contexts.{Around};
+ghost use Rattle.sp_typing.specs.Typing.{to_target};
 ghost use Rattle.sp_typing_stmts.specs.Statements.{bare_at, valued_at, written_type, written_of, type_or, declared, after_local, local_with, local_without, local_in, element_type, loop_head, return_in, text_in, valued_in, add_in, delete_in, assigned, assign_in};
 
 use crate::body::Body;
-use crate::owners::{keep_owner, owner};
+use crate::owners::keep_owner_of;
 use crate::scope::Scope;
 use crate::values::value_in;
 use sp_ast::{ExprKind, NameKind, Ref, StringKind, TypeKind};
@@ -115,6 +117,32 @@ pub fn loop_head(
     })
 }
 
+/// The type of a local with a value.
+fn local_type(written: &Option<Type>, e: &Expr) -> Result<Type, NoMemory>
+    ensures { IfOk result (λ t. t ≡ type_or written.now (seen e.now)) }
+{
+    type_or(written, seen(e)?)
+}
+
+/// Opens a local for a value.
+fn declare_for(
+    alloc: Global,
+    scope: &mut Scope,
+    name: &Ref<'_, NameKind>,
+    ty: &Option<Type>,
+    written: Option<Written>,
+    e: &Expr,
+) -> Result<Local, NoMemory>
+    ensures local { IfOk result (λ l. l
+        ≡ declared scope.old name.now (type_or ty.now (seen e.now)) written) }
+    ensures scope { OnOk result (scope.new
+        ≡ after_local scope.old name.now (type_or ty.now (seen e.now))) }
+{
+    let ty = local_type(ty, e)?;
+    let local = declare(alloc, scope, name, ty, written)?;
+    Ok(local)
+}
+
 /// A local behind its value.
 fn local_with(
     alloc: Global,
@@ -129,7 +157,7 @@ fn local_with(
     ensures scope { OnOk result (scope.new
         ≡ (local_with scope.old span name.now ty written e).1) }
 {
-    let local = declare(alloc, scope, name, type_or(&ty, seen(&e)?)?, written)?;
+    let local = declare_for(alloc, scope, name, &ty, written, &e)?;
     let value = to_maybe(alloc, &ty, e)?;
     valued_at(span, ValuedOp::Local(local), value)
 }
@@ -270,7 +298,7 @@ pub fn add_in<C: Context>(
         ≡ (add_in (C.around context.now) scope.old span target.now).1) }
 {
     let e = value_in(alloc, context, scope, target)?;
-    let slot = keep_owner(scope, owner(&e)?)?;
+    let slot = keep_owner_of(scope, &e)?;
     valued_at(span, ValuedOp::Add(slot), e)
 }
 
@@ -288,8 +316,15 @@ pub fn delete_in<C: Context>(
         ≡ (delete_in (C.around context.now) scope.old span target.now).1) }
 {
     let e = value_in(alloc, context, scope, target)?;
-    let slot = keep_owner(scope, owner(&e)?)?;
+    let slot = keep_owner_of(scope, &e)?;
     valued_at(span, ValuedOp::Delete(slot), e)
+}
+
+/// A value as it goes to a target.
+fn sent_to(alloc: Global, target: &Expr, e: Expr) -> Result<Expr, NoMemory>
+    ensures { IfOk result (λ v. v ≡ to_target (seen target.now) e) }
+{
+    to_target(alloc, &seen(target)?, e)
 }
 
 fn assigned(
@@ -302,8 +337,8 @@ fn assigned(
     ensures stmt { IfOk result (λ s. s ≡ (assigned scope.old op target e).0) }
     ensures scope { OnOk result (scope.new ≡ (assigned scope.old op target e).1) }
 {
-    let value = to_target(alloc, &seen(&target)?, e)?;
-    let slot = keep_owner(scope, owner(&target)?)?;
+    let value = sent_to(alloc, &target, e)?;
+    let slot = keep_owner_of(scope, &target)?;
     Stmt::new(StmtNode::Assign(Assign { op, owner: slot }, target, value))
 }
 

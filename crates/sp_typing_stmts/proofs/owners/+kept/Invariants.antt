@@ -6,10 +6,16 @@ use Rattle.sp_typing_stmts.specs.Owners.{all_kept}
 use Rattle.sp_typing_stmts.proofs.owners.+kept.Given as goal
 
 abbrev pub decreases-keep_owners : goal.decreases-keep_owners
-decreases-keep_owners l = 2 * expr_size l.e + 1
+decreases-keep_owners l = 3 * expr_size l.e + 2
+
+abbrev pub decreases-both_kept : goal.decreases-both_kept
+decreases-both_kept l = 3 * (expr_size l.a + expr_size l.b) + 3
+
+abbrev pub decreases-three_kept : goal.decreases-three_kept
+decreases-three_kept l = 3 * (expr_size l.a + (expr_size l.b + expr_size l.c)) + 4
 
 abbrev pub decreases-all_kept : goal.decreases-all_kept
-decreases-all_kept l = 2 * exprs_size (exprs l.parts.items)
+decreases-all_kept l = 3 * exprs_size (exprs l.parts.items)
 
 abbrev pub decreases-all_kept-loop-part : goal.decreases-all_kept-loop-part
 decreases-all_kept-loop-part l = length l.parts.items
