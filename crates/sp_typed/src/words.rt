@@ -54,7 +54,7 @@ pub enum LeafOp {
     Nothing(Span),
     /// No value: the name of a function of the list.
     Function(u32),
-    /// No value: the name of a type, which is this word, or `Unknown` where it is made of types.
+    /// No value: the name of a type, which is this word, or `Void` where it is made of types.
     TypeName(Word),
     /// No value: `filter::Base64Decode`
     Decoder,
