@@ -2,11 +2,16 @@
 ghost use Rattle.std.specs.Prelude.{◌≡◌, IsTrue, None, drop};
 ghost use Rattle.sp_rules.specs.Least.{IsLeast};
 ghost use Rattle.sp_scope.specs.Rules.{IsTyped};
+ghost use Rattle.sp_unbuilt.specs.First.{IsFirst};
+ghost use Rattle.sp_unbuilt.specs.Places.{IsUnbuilt};
+ghost use Rattle.sp_unbuilt.specs.Unbuilt.{first_unbuilt};
 ghost use Rattle.sp_check_unit.specs.Rules.{Breaks};
 ghost use Rattle.sp_check_unit.specs.Parsers.{have_numbers, takes_nothing, is_parser, is_named, parser_from, first_from, where_none, only_from};
 
 use sp_ast::Module;
+use sp_base::Diag;
 use sp_typed_units::{Parameter, Typed, Unit};
+use sp_unbuilt::{Texts, unbuilt};
 
 /// A list of modules in which no rule is broken, and what is typed of it.
 #[derive(Drop)]
@@ -115,6 +120,16 @@ impl<'a> Checked<'a> {
         ensures { result ≡ self.entry.typed }
     {
         self.typed
+    }
+
+    /// The first construct of the list, by module and place, that isn't built yet, with the kind `OutOfProfile`; none exactly where
+    /// all is built. `texts` has the texts from which the modules were read, since a tree doesn't know where the word `if` or the
+    /// arrow of a field stands. Takes no memory.
+    pub fn unbuilt<T: Texts>(&self, texts: &T) -> Option<Diag>
+        ensures exact { result ≡ first_unbuilt (T.texts texts.now) self.now.modules.now self.now.typed }
+        ensures first { IsFirst (IsUnbuilt (T.texts texts.now) self.now.modules.now self.now.typed) result }
+    {
+        unbuilt(texts, self.modules, &self.typed)
     }
 
     /// The number of the parser of a path, as `M::U`: a public unit without parameters that is no filter. Takes no memory.

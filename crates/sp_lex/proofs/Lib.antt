@@ -3,6 +3,7 @@ pub mod Carried
 pub mod Counts
 pub mod Depth
 pub mod Faultless
+pub mod Firsts
 pub mod Insides
 pub mod Least
 pub mod Listed

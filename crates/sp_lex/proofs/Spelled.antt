@@ -2,7 +2,7 @@
 use Rattle.std.proofs.Common.{◌≡◌, ℕ, ◌<◌, List, [], ◌∷◌, length, Bool, true, false, ◌&&◌, cond, nat_lt, Option, Some, None, refl}
 use Rattle.std.specs.Prelude.{IfSome}
 use borrow.Author.Tests.{ltb-true}
-use Rattle.sp_lex.specs.Signs.{stands, longer, longest_of}
+use Rattle.sp_lex.specs.Signs.{stands, longer, longest_of, all_spelled}
 use Rattle.sp_lex.specs.Spellings.{spelling, signs}
 use Rattle.sp_lex.specs.declared.kinds.TokenKind.{TokenKind}
 
@@ -18,11 +18,7 @@ longer_spelled : (text : List ℕ) (found : Option TokenKind) (kind : TokenKind)
 longer_spelled text None kind p q = either_spelled (stands kind text) (Some kind) None q tt
 longer_spelled text (Some found) kind p q = either_spelled (stands kind text && nat_lt (length (spelling found)) (length (spelling kind))) (Some kind) (Some found) q p
 
-abbrev all_spelled : List TokenKind → Bool
-all_spelled [] = true
-all_spelled (kind ∷ kinds) = nat_lt 0 (length (spelling kind)) && all_spelled kinds
-
-both_true : (a b : Bool) → (a && b) ≡ true → (a ≡ true) × (b ≡ true)
+pub both_true : (a b : Bool) → (a && b) ≡ true → (a ≡ true) × (b ≡ true)
 both_true true b h = (refl, h)
 both_true false b h = cc
 

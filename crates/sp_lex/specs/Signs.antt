@@ -40,3 +40,13 @@ is_spelled word kind = bytes_eq word (spelling kind)
 -- a word is a reserved one or a name
 unfoldable pub word_kind : List ℕ → TokenKind
 word_kind word = unwrap_or (find (is_spelled word) reserved_words) token.Id
+
+-- the first byte of each kind's text
+abbrev pub first_bytes : List TokenKind → List ℕ
+first_bytes [] = []
+first_bytes (kind ∷ kinds) = slice_index (spelling kind) 0 ∷ first_bytes kinds
+
+-- whether each kind has a text
+abbrev pub all_spelled : List TokenKind → Bool
+all_spelled [] = true
+all_spelled (kind ∷ kinds) = nat_lt 0 (length (spelling kind)) && all_spelled kinds

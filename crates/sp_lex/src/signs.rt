@@ -2,11 +2,11 @@
 ghost use Rattle.std.specs.Prelude.{◌≡◌, ◌≤◌, ◌<◌, length, slice_index, IfSome, IsTrue};
 ghost use Rattle.std.specs.List.{find};
 ghost use Rattle.sp_lex.specs.Bytes.{is_white, is_letter, is_word};
-ghost use Rattle.sp_lex.specs.Signs.{is_whole_name, stands, longer, longest_of, longest_sign, is_spelled, word_kind};
+ghost use Rattle.sp_lex.specs.Signs.{is_whole_name, stands, longer, longest_of, longest_sign, is_spelled, word_kind, first_bytes, all_spelled};
 ghost use Rattle.sp_lex.specs.Spellings.{spelling};
 
 use crate::kinds::{Absent, TokenKind};
-use crate::tables::{RESERVED_WORDS, SIGNS};
+use crate::tables::{RESERVED_WORDS, SIGN_FIRSTS, SIGNS, WORD_FIRSTS};
 
 pub(crate) fn is_white(byte: u8) -> bool
     ensures { result ≡ is_white byte }
@@ -69,14 +69,31 @@ fn longer(text: &[u8], found: Option<TokenKind>, kind: TokenKind) -> Option<Toke
     }
 }
 
-/// The longest token of one of the kinds with which the text begins.
-fn longest_of(text: &[u8], kinds: &[TokenKind]) -> Option<TokenKind>
+/// The first byte of a text; 0 where there is none.
+fn first_byte(text: &[u8]) -> u8
+    ensures { result ≡ slice_index text.now 0 }
+{
+    match text.first() {
+        Some(byte) => *byte,
+        None => 0,
+    }
+}
+
+/// The longest token of one of the kinds with which the text begins. `firsts` has the first byte of each kind's text, so that few
+/// texts are looked at.
+#[tactic(auto, using(crate::proofs::Firsts::as_many))]
+fn longest_of(text: &[u8], kinds: &[TokenKind], firsts: &[u8]) -> Option<TokenKind>
+    requires firsts { firsts.now ≡ first_bytes kinds.now }
+    requires spelled { IsTrue (all_spelled kinds.now) }
     ensures value { result ≡ longest_of text.now None kinds.now }
     ensures within { IfSome result (λ kind. length (spelling kind) ≤ length text.now) }
 {
+    let first = first_byte(text);
     let mut found = None;
-    for kind in kinds {
-        found = longer(text, found, *kind);
+    for n in 0..kinds.len() {
+        if firsts[n] == first {
+            found = longer(text, found, kinds[n]);
+        }
     }
     found
 }
@@ -88,7 +105,7 @@ pub(crate) fn longest_sign(text: &[u8]) -> Option<TokenKind>
     ensures some { IfSome result (λ kind. 0 < length (spelling kind)) }
     ensures within { IfSome result (λ kind. length (spelling kind) ≤ length text.now) }
 {
-    longest_of(text, &SIGNS)
+    longest_of(text, &SIGNS, &SIGN_FIRSTS)
 }
 
 /// Whether the kind's text is this word.
@@ -98,11 +115,19 @@ fn is_spelled(kind: TokenKind, word: &[u8]) -> bool
     word == kind.text().as_bytes()
 }
 
-/// The kind whose text is this word.
-fn word_among(word: &[u8], kinds: &[TokenKind]) -> Option<TokenKind>
+/// The kind whose text is this word. `firsts` has the first byte of each kind's text, so that few texts are compared.
+#[tactic(auto, using(crate::proofs::Firsts::as_many))]
+fn word_among(word: &[u8], kinds: &[TokenKind], firsts: &[u8]) -> Option<TokenKind>
+    requires { firsts.now ≡ first_bytes kinds.now }
     ensures { result ≡ find (is_spelled word.now) kinds.now }
 {
-    kinds.iter().copied().find(|kind| is_spelled(*kind, word))
+    let first = first_byte(word);
+    for n in 0..kinds.len() {
+        if first == firsts[n] && is_spelled(kinds[n], word) {
+            return Some(kinds[n]);
+        }
+    }
+    None
 }
 
 /// The kind of a word: a reserved one, or a name.
@@ -110,5 +135,5 @@ fn word_among(word: &[u8], kinds: &[TokenKind]) -> Option<TokenKind>
 pub(crate) fn word_kind(word: &[u8]) -> TokenKind
     ensures { result ≡ word_kind word.now }
 {
-    word_among(word, &RESERVED_WORDS).unwrap_or(TokenKind::Id)
+    word_among(word, &RESERVED_WORDS, &WORD_FIRSTS).unwrap_or(TokenKind::Id)
 }

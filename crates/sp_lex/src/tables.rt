@@ -159,3 +159,21 @@ pub(crate) const SIGNS: [TokenKind; 79] = [
     TokenKind::Absent(Absent::CxxIncludeProperty),
     TokenKind::Absent(Absent::SyncAdvanceHook),
 ];
+
+/// The first byte of each text of `RESERVED_WORDS`.
+pub(crate) const WORD_FIRSTS: [u8; 71] = [
+    b'm', b'i', b'p', b't', b'c', b'f', b'o', b'i', b'u', b'e', b'b', b't', b'v', b'm', b's', b'b',
+    b'b', b's', b'v', b'u', b'u', b'u', b'u', b'i', b'i', b'i', b'i', b'v', b's', b's', b'c', b'd',
+    b'i', b'e', b'w', b'f', b'i', b'f', b'l', b'r', b'b', b'c', b'p', b'a', b't', b'a', b'd', b's',
+    b'c', b'r', b'n', b'c', b's', b'T', b'F', b'g', b's', b'o', b'r', b'r', b't', b'i', b'a', b'p',
+    b'n', b'i', b's', b's', b't', b'c', b'u',
+];
+
+/// The first byte of each text of `SIGNS`.
+pub(crate) const SIGN_FIRSTS: [u8; 79] = [
+    b':', b':', b';', b',', b'.', b'?', b'?', b'(', b')', b'[', b']', b'{', b'}', b'-', b'.', b'$',
+    b'=', b'+', b'-', b'=', b'!', b'<', b'<', b'>', b'>', b'<', b'>', b'+', b'-', b'*', b'/', b'%',
+    b'&', b'|', b'^', b'~', b'!', b'&', b'|', b'!', b'&', b'&', b'&', b'&', b'&', b'&', b'&', b'&',
+    b'&', b'&', b'&', b'&', b'&', b'&', b'&', b'&', b'%', b'%', b'%', b'%', b'%', b'%', b'%', b'%',
+    b'%', b'%', b'%', b'%', b'%', b'%', b'%', b'%', b'&', b'%', b'%', b'%', b'%', b'%', b'%',
+];

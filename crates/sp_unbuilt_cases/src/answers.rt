@@ -6,7 +6,6 @@ use sp_check_unit::check;
 use sp_lex::{ReadFault, lex};
 use sp_read_unit::read_module;
 use sp_scope::CheckFault;
-use sp_unbuilt::unbuilt;
 use std::alloc::{AllocError, Global};
 
 /// A rule that is broken.
@@ -54,7 +53,7 @@ fn modules_of(alloc: Global, texts: &[String]) -> Result<Result<Vec<Module>, MKi
 fn first(alloc: Global, texts: &[String], modules: &[Module]) -> Result<Option<Diag>, CheckFault> {
     let checked = check(alloc, modules)?;
     let texts = ListTexts::new(alloc, texts)?;
-    Ok(unbuilt(&texts, modules, checked.typed()))
+    Ok(checked.unbuilt(&texts))
 }
 
 /// The answer to a list of these texts.
