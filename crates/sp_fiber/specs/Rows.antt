@@ -1,5 +1,5 @@
 -- A body that reads an integer of two bytes and returns it, over an input that comes in pieces.
-use Rattle.std.specs.Prelude.{◌≡◌, ◌≤◌, ℕ, zero, suc, true, false, List, [], ◌∷◌, Some, None, refl, slice_get, unwrap_or}
+use Rattle.std.specs.Prelude.{◌≡◌, ◌≤◌, ℕ, zero, suc, Bool, true, false, List, [], ◌∷◌, Some, None, refl, slice_get, unwrap_or}
 use Rattle.std.proofs.Common.{subst, ap, arith}
 use Rattle.sp_base.specs.declared.kinds.PKind.TheVariants as error_is
 use Rattle.sp_base.specs.Input.{held_open, ended}
@@ -8,18 +8,19 @@ use Rattle.sp_value.specs.Val.{uint}
 use Rattle.sp_methods.specs.Kinds.{Unsigned}
 use Rattle.sp_window.specs.Windows.{Held}
 use Rattle.sp_running.specs.States.{Main, State, Fine, Failed, Returned, error_at}
+use Rattle.sp_running.specs.Scopes.{InUnit, InParts}
 use Rattle.sp_code.specs.declared.instr.IntForm.{IntForm}
 use Rattle.sp_code.specs.declared.instr.Instr.{Instr}
 use Rattle.sp_code.specs.declared.instr.Instr.TheVariants.{ReadInt, Return}
 use Rattle.sp_code.specs.Shapes.{Shape, Shapes, OfFunction, push, body_shape, Shown, Keeps, IsSound, Shaped}
 use Rattle.sp_code.specs.Turns.{edges, AreLower, Turns}
-use Rattle.sp_code.specs.Machine.{Plain, Config, Ending, Waits, Over}
+use Rattle.sp_code.specs.Machine.{Frame, Plain, Config, Ending, Waits, Over, low_of}
 use Rattle.sp_code.specs.Runs.{here, next}
 use Rattle.sp_machine.specs.Plain.{first}
 use Rattle.sp_fiber.specs.declared.phase.Phase.TheVariants as phase_is
 use Rattle.sp_fiber.specs.declared.stand.Stand.TheVariants as stand_is
 use Rattle.sp_fiber.specs.Moves.{Holds, IsWaiting, Moved}
-use Rattle.sp_fiber.specs.Fibers.{started, IsLive}
+use Rattle.sp_fiber.specs.Fibers.{Suspended, started, IsLive, StandsFor, EndedFor, Fed, Closed}
 use Rattle.sp_fiber.specs.Standing.{IsStand}
 
 abbrev program : Plain
@@ -120,3 +121,47 @@ it_left = tt
 
 no_wait_at_the_end : IsStand stand_is.Waiting (Over Fine first) → ⊥
 no_wait_at_the_end h = h
+
+-- the fiber, given one byte
+abbrev given_one : Suspended
+given_one = record { code = program; phase = phase_is.Waiting; window = window 0 (1 ∷ []); at = start; received = 1 }
+
+one_byte_is_fed : Fed given_one start (1 ∷ []) [] [] []
+one_byte_is_fed = record { events = []; told = refl; run = tt; stands = record { live = it_waits; counted = refl } }
+
+it_was_given_one_byte : StandsFor given_one start (1 ∷ 2 ∷ []) [] → ⊥
+it_was_given_one_byte h = let counted = h.counted in omega (arith, counted)
+
+-- given three bytes at once, of which the last one is behind the end of all
+abbrev given_three : Suspended
+given_three = record { code = program; phase = phase_is.Over; window = window 3 []; at = Ending (Returned (uint W16 258)) [] behind; received = 3 }
+
+three_bytes_are_fed : Fed given_three start (1 ∷ 2 ∷ 9 ∷ []) [] [] []
+three_bytes_are_fed = record { events = []; told = refl; run = tt; stands = record { live = all_is_over; counted = refl } }
+
+its_input_is_held_open : EndedFor given_three start (1 ∷ 2 ∷ 9 ∷ []) [] → ⊥
+its_input_is_held_open h = absurd (let q : phase_is.Over ≡ phase_is.Ended = h.phase in cc)
+
+-- one whose input ended behind one byte
+abbrev cut_off : Suspended
+cut_off = record { code = program; phase = phase_is.Ended; window = window 1 []; at = Ending (Failed (error_at error_is.Short first)) [] first; received = 1 }
+
+a_short_input_is_closed : Closed cut_off start (1 ∷ []) [] [] []
+a_short_input_is_closed = record { events = []; told = refl; stands = record { phase = refl; comes = next refl here; over = record { how = Failed (error_at error_is.Short first); state = first; over = refl; empty = refl } } }
+
+-- a unit that began at place 3, whose parts wait for what is behind place 5
+abbrev unit_at_3 : Bool → Frame
+unit_at_3 keeps = record { scope = InUnit keeps 0 3 0 []; to = 0; below = [] }
+
+abbrev its_parts : Frame
+its_parts = record { scope = InParts 0; to = 0; below = [] }
+
+its_bytes_are_kept : low_of (its_parts ∷ unit_at_3 true ∷ []) 5 ≡ 3
+its_bytes_are_kept = refl
+
+none_are_kept : low_of (its_parts ∷ unit_at_3 false ∷ []) 5 ≡ 5
+none_are_kept = refl
+
+-- an outer unit keeps those of an inner one
+the_outer_one_keeps : low_of (its_parts ∷ unit_at_3 false ∷ its_parts ∷ unit_at_3 true ∷ []) 5 ≡ 3
+the_outer_one_keeps = refl

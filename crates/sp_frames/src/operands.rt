@@ -1,5 +1,5 @@
 // Stacks of values.
-ghost use Rattle.std.specs.Prelude.{◌≡◌, ◌<◌, ◌≤◌, ◌↔◌, ◌∷◌, ◌++◌, [], length, take, drop, reverse, IsTrue, IfOk, OnOk};
+ghost use Rattle.std.specs.Prelude.{◌≡◌, ◌<◌, ◌≤◌, ◌↔◌, ◌∷◌, [], length, take, drop, reverse, IsTrue, IfOk, OnOk};
 ghost use Rattle.sp_code.specs.Can.{top, below_top};
 
 use sp_base::NoMemory;
@@ -80,15 +80,20 @@ impl Operands {
         &self.items[self.items.len() - n..]
     }
 
-    /// Moves the `n` values on top behind those of a list, the lowest first.
-    pub fn move_top(&mut self, n: usize, to: &mut Vec<Value>) -> Result<(), NoMemory>
-        requires { n ≤ length self.old }
-        ensures moved { OnOk result (to.new.items ≡ to.old.items ++ reverse (take n self.old)) }
+    /// Takes the `n` values on top into a list that is empty, the lowest first. It takes no memory where the list has room.
+    #[tactic(auto, using(crate::proofs::Tops::one_taken, crate::proofs::Tops::one_left, crate::proofs::Tops::some_left))]
+    pub fn take_top_in(&mut self, n: usize, empty: Vec<Value>) -> Result<Vec<Value>, NoMemory>
+        requires there { n ≤ length self.old }
+        requires empty { empty.items ≡ [] }
+        ensures taken { IfOk result (λ values. values.items ≡ reverse (take n self.old)) }
         ensures left { OnOk result (self.new ≡ drop n self.old) }
     {
-        let mut values = self.take_top(n)?;
-        to.append(&mut values)?;
-        Ok(())
+        let mut values = empty;
+        for _ in 0..n {
+            values.push(self.pop())?;
+        }
+        values.reverse();
+        Ok(values)
     }
 
     /// Takes the `n` values on top, the lowest first.

@@ -4,4 +4,5 @@ pub mod Bodies
 pub mod Methods
 pub mod Safe
 pub mod InPlace
+pub mod InPlaceRows
 pub mod Ran

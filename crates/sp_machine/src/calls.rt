@@ -15,7 +15,7 @@ use crate::machine::{Machine, Mode, Stop};
 use sp_base::{Limits, NoMemory, PKind, ParseError};
 use sp_code::{BodyCode, BodyOf, UnitCode};
 use sp_frames::{Callee, Frame, Instance, Operands};
-use sp_value::{Value, Values, copy_all};
+use sp_value::{Value, Values};
 use std::mem;
 
 /// What a frame says of a body that is called.
@@ -48,13 +48,22 @@ fn ends_fiber(kind: PKind) -> bool
     }
 }
 
+/// Appends copies of other values.
+fn append_copies(values: &mut Vec<Value>, others: &[Value]) -> Result<(), NoMemory>
+    ensures { OnOk result (values.new.items ≡ values.old.items ++ others.now) }
+{
+    for value in others {
+        values.push(value.copy()?)?;
+    }
+    Ok(())
+}
+
 /// These values, and behind them copies of others.
 fn with_copies(values: Vec<Value>, others: &[Value]) -> Result<Vec<Value>, NoMemory>
     ensures { IfOk result (λ all. all.items ≡ values.items ++ others.now) }
 {
     let mut all = values;
-    let mut copies = copy_all(*all.allocator(), others)?;
-    all.append(&mut copies)?;
+    append_copies(&mut all, others)?;
     Ok(all)
 }
 
@@ -69,7 +78,8 @@ impl Machine {
             (drop body.now.takes self.old.operands) (state_of self.old) ∷ self.old.stack)
             (begun (body_of body.now) (take body.now.takes self.old.operands) (state_of self.old))) }
     {
-        let taken = self.operands.take_top(body.takes as usize)?;
+        let room = self.spare.take();
+        let taken = self.operands.take_top_in(body.takes as usize, room)?;
         let inner = with_copies(taken, body.fresh.as_slice())?;
         let locals = Values::new(mem::replace(&mut self.locals, inner));
         let list = self.spare.take();
