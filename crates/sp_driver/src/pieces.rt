@@ -10,7 +10,7 @@ use crate::exits::Stop;
 use sp_base::{ByteList, NoMemory};
 use sp_events::{Event, What};
 use sp_io::{Out, OutFault, Source, SourceFault, Took, put_all};
-use sp_json::line;
+use sp_json::Lines;
 use std::alloc::Global;
 
 /// The name of the one flow of a run.
@@ -26,18 +26,30 @@ fn is_told(what: &What) -> bool
     }
 }
 
-/// The line of an event, or nothing where it has none.
-fn event_line(alloc: Global, trace: bool, event: &Event) -> Result<ByteList, NoMemory>
-    ensures { IfOk result (λ text. text ≡ event_line trace event.now) }
+/// Appends the line of an event, where it has one.
+#[tactic(auto, using(crate::proofs::Puts::nothing_more))]
+fn push_event(trace: bool, event: &Event, lines: &mut Lines) -> Result<(), NoMemory>
+    ensures { OnOk result (lines.new ≡ lines.old ++ event_line trace event.now) }
 {
     if trace || is_told(&event.what) {
-        line(alloc, FLOW, event)
+        lines.push(FLOW, event)
     } else {
-        Ok(ByteList::new(alloc))
+        Ok(())
     }
 }
 
-/// Puts the lines of events of the flow. Where that stops, a front of them was put.
+/// The lines of events, one behind another.
+fn lines_of(alloc: Global, trace: bool, events: &[Event]) -> Result<Lines, NoMemory>
+    ensures { IfOk result (λ lines. lines ≡ event_lines trace events.now) }
+{
+    let mut lines = Lines::new(alloc);
+    for event in events {
+        push_event(trace, event, &mut lines)?;
+    }
+    Ok(lines)
+}
+
+/// Puts the lines of events of the flow, all at once. Where that stops, a front of them was put.
 pub fn put_lines<O: Out>(
     alloc: Global,
     trace: bool,
@@ -52,15 +64,12 @@ pub fn put_lines<O: Out>(
     ensures cause { MatchResult result (λ _. O.faults out.new ≡ O.faults out.old)
         (StopCause (O.faults out.old) (O.faults out.new)) }
 {
-    for event in events {
-        let text = event_line(alloc, trace, event)?;
-        match put_all(out, text.as_slice()) {
-            Ok(()) => {}
-            Err(OutFault::Failed) => return Err(Stop::Failed),
-            Err(OutFault::NoMemory) => return Err(Stop::NoMemory),
-        }
+    let lines = lines_of(alloc, trace, events)?;
+    match put_all(out, lines.as_slice()) {
+        Ok(()) => Ok(()),
+        Err(OutFault::Failed) => Err(Stop::Failed),
+        Err(OutFault::NoMemory) => Err(Stop::NoMemory),
     }
-    Ok(())
 }
 
 /// Takes a piece of `n` bytes, or all that is left where that is less: then it answers false.

@@ -1,2 +1,3 @@
 mod Rows
+pub mod Written
 pub mod Texts

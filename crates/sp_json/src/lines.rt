@@ -13,7 +13,7 @@ use sp_events::{Event, Trees, What};
 use std::alloc::{AllocError, Global};
 
 /// The flow's name, and behind it a dot and a number for each connect on the way to the fiber.
-fn path_name(alloc: Global, flow: &str, numbers: &[u64]) -> Result<String, AllocError>
+pub(crate) fn path_name(alloc: Global, flow: &str, numbers: &[u64]) -> Result<String, AllocError>
     ensures { IfOk result (λ text. string_bytes text ≡ path_text flow.now numbers.now) }
 {
     let mut text = String::from_str(alloc, flow)?;

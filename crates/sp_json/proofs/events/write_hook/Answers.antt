@@ -1,0 +1,18 @@
+use Rattle.std.proofs.Common.{[], ◌∷◌, ◌++◌, ap, ◌∙◌}
+use Rattle.std.specs.Prelude.{codes}
+use Rattle.std.proofs.lemmas.Result.{on_ok_weaker}
+use Rattle.json.specs.Token.{key, string, end_object}
+use Rattle.sp_json.specs.Lines.{path_text, list_json}
+use Rattle.sp_json.specs.inside.Tokens.{value_tokens}
+use Rattle.sp_json.proofs.Written.{behind}
+use Rattle.sp_json.proofs.events.write_hook.Goals as goal
+
+pub returns-clause-tokens : goal.returns-clause-tokens
+returns-clause-tokens c =
+    let path = path_text c.args.at.flow.now c.args.at.numbers.now in
+    on_ok_weaker c.end_object.result (λ e.
+    behind c.args.out.now.tokens c.key.new.self.tokens c.end_object.new.self.tokens (key (codes "args") ∷ []) (value_tokens (list_json c.args.args.now) ++ (key (codes "at") ∷ string path ∷ [] ++ (key (codes "hook") ∷ string c.args.name.now ∷ [] ++ end_object ∷ []))) c.in_ok-key.ensures.ok
+    (behind c.key.new.self.tokens c.write_trees.new.out.tokens c.end_object.new.self.tokens (value_tokens (list_json c.args.args.now)) (key (codes "at") ∷ string path ∷ [] ++ (key (codes "hook") ∷ string c.args.name.now ∷ [] ++ end_object ∷ [])) (c.in_ok-write_trees.ensures.tokens ∙ ap (λ xs. c.key.new.self.tokens ++ value_tokens (list_json xs)) c.as_slice.ensures)
+    (behind c.write_trees.new.out.tokens c.write_at.new.out.tokens c.end_object.new.self.tokens (key (codes "at") ∷ string path ∷ []) (key (codes "hook") ∷ string c.args.name.now ∷ [] ++ end_object ∷ []) c.in_ok-write_at.ensures.tokens
+    (behind c.write_at.new.out.tokens c.write_text.new.out.tokens c.end_object.new.self.tokens (key (codes "hook") ∷ string c.args.name.now ∷ []) (end_object ∷ []) (c.in_ok-write_text.ensures.tokens ∙ ap (λ xs. c.write_at.new.out.tokens ++ key (codes "hook") ∷ string xs ∷ []) c.as_str.ensures)
+    e)))) c.end_object.ensures.ok
