@@ -49,7 +49,23 @@ fn lines_of(alloc: Global, trace: bool, events: &[Event]) -> Result<Lines, NoMem
     Ok(lines)
 }
 
+/// Puts a text. Where that stops, a front of it was put.
+fn put_text<O: Out>(text: &[u8], out: &mut O) -> Result<(), Stop>
+    requires { O.faults out.old < 2 ^ 64 - 1 }
+    ensures held { OnOk result (O.held out.new ≡ appended (O.held out.old) text.now) }
+    ensures part { OnErr result (IsPartPut (O.held out.old) (O.held out.new) text.now) }
+    ensures cause { MatchResult result (λ _. O.faults out.new ≡ O.faults out.old)
+        (StopCause (O.faults out.old) (O.faults out.new)) }
+{
+    match put_all(out, text) {
+        Ok(()) => Ok(()),
+        Err(OutFault::Failed) => Err(Stop::Failed),
+        Err(OutFault::NoMemory) => Err(Stop::NoMemory),
+    }
+}
+
 /// Puts the lines of events of the flow, all at once. Where that stops, a front of them was put.
+#[tactic(auto, using(crate::proofs::Puts::part_nothing))]
 pub fn put_lines<O: Out>(
     alloc: Global,
     trace: bool,
@@ -64,11 +80,9 @@ pub fn put_lines<O: Out>(
     ensures cause { MatchResult result (λ _. O.faults out.new ≡ O.faults out.old)
         (StopCause (O.faults out.old) (O.faults out.new)) }
 {
-    let lines = lines_of(alloc, trace, events)?;
-    match put_all(out, lines.as_slice()) {
-        Ok(()) => Ok(()),
-        Err(OutFault::Failed) => Err(Stop::Failed),
-        Err(OutFault::NoMemory) => Err(Stop::NoMemory),
+    match lines_of(alloc, trace, events) {
+        Ok(lines) => put_text(lines.as_slice(), out),
+        Err(_) => Err(Stop::NoMemory),
     }
 }
 
