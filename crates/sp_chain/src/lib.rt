@@ -4,5 +4,7 @@
 mod links;
 mod lists;
 mod nodes;
+#[cfg(test)]
+mod tests;
 
 pub use lists::{Chains, ListId, Slot};

@@ -2,5 +2,7 @@
 #![tactic(auto)]
 
 mod choice;
+#[cfg(test)]
+mod tests;
 
 pub use choice::{chosen, is_parser};

@@ -3,6 +3,8 @@
 
 mod numbers;
 mod options;
+#[cfg(test)]
+mod tests;
 mod words;
 
 pub use words::{Wanted, words_wanted};

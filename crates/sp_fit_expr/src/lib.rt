@@ -8,6 +8,8 @@ mod methods;
 mod nodes;
 mod rows;
 mod sorts;
+#[cfg(test)]
+mod tests;
 mod types;
 mod values;
 

@@ -6,6 +6,8 @@ mod functions;
 mod hooks;
 mod programs;
 mod starters;
+#[cfg(test)]
+mod tests;
 mod units;
 mod values;
 

@@ -5,6 +5,8 @@ mod bit_ranges;
 mod cast;
 mod operators;
 mod signed;
+#[cfg(test)]
+mod tests;
 mod unsigned;
 mod width;
 

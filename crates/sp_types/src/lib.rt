@@ -4,6 +4,8 @@
 
 mod compare;
 mod laws;
+#[cfg(test)]
+mod tests;
 mod types;
 mod words;
 

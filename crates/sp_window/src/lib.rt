@@ -3,6 +3,8 @@
 //! bounded number of times in all.
 #![tactic(auto)]
 
+#[cfg(test)]
+mod tests;
 mod view;
 mod window;
 
