@@ -1,2 +1,0 @@
-pub mod Stmts
-pub mod Typing
