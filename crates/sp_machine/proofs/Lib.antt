@@ -8,4 +8,3 @@ pub mod InPlace
 pub mod Spots
 pub mod Running
 pub mod Quiet
-pub mod Inside

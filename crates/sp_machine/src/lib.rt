@@ -4,7 +4,6 @@
 mod calls;
 mod flow;
 mod in_place;
-mod inside;
 mod library;
 mod machine;
 mod makes;
