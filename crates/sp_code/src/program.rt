@@ -1,7 +1,6 @@
 // Compiled programs.
 use crate::instr::Instr;
 use sp_base::Text;
-use sp_events::Name;
 use sp_value::Values;
 
 /// What a body in the table of bodies is.
@@ -10,7 +9,7 @@ pub enum BodyOf {
     Function,
     /// A body of a hook: the hook's name, how many of the values that it takes its event tells, and
     /// whether it is one of a foreach hook, which tells if its container goes on.
-    Hook { name: Name, told: u32, each: bool },
+    Hook { name: Text, told: u32, each: bool },
 }
 
 /// A function or a body of a hook.

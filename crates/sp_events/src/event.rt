@@ -1,7 +1,7 @@
 // What a run tells.
 ghost use Rattle.std.specs.Prelude.{◌≡◌, List, ℕ, [], ◌∷◌, ◌++◌, OnOk, OnErr};
 
-use crate::{Name, Tree, Trees};
+use crate::{Tree, Trees};
 use sp_base::{ByteList, NoMemory, ParseError, Text};
 use std::alloc::Global;
 use std::marker::Model;
@@ -41,7 +41,7 @@ impl Path {
 pub enum What {
     /// A hook ran: its name, as `M::U::x`, and the values of its arguments.
     Hook {
-        name: Name,
+        name: Text,
         args: Trees,
     },
     /// A `print` of these values.

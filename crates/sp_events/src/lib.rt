@@ -3,11 +3,9 @@
 
 mod copies;
 mod event;
-mod name;
 mod tree;
 mod trees;
 
 pub use event::{Event, Events, Path, What};
-pub use name::Name;
 pub use tree::{Node, Tree};
 pub use trees::Trees;

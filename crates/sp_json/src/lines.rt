@@ -9,7 +9,7 @@ use crate::values::{bytes_text, tree_value, trees_value};
 use itoa::Buffer;
 use serde_json::{Value, json};
 use sp_base::{ByteList, NoMemory, ParseError, Text};
-use sp_events::{Event, Name, Trees, What};
+use sp_events::{Event, Trees, What};
 use std::alloc::{AllocError, Global};
 
 /// The flow's name, and behind it a dot and a number for each connect on the way to the fiber.
@@ -25,7 +25,7 @@ pub(crate) fn path_name(alloc: Global, flow: &str, numbers: &[u64]) -> Result<St
     Ok(text)
 }
 
-fn hook_value(alloc: Global, at: String, name: &Name, args: &Trees) -> Result<Value, AllocError>
+fn hook_value(alloc: Global, at: String, name: &Text, args: &Trees) -> Result<Value, AllocError>
     ensures { IfOk result (λ value. view value ≡ event_json (string_bytes at)
         (HookEvent name.now args.now)) }
 {

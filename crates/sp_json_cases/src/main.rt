@@ -1,9 +1,9 @@
-// Prints the line of each kind of event, with values of each kind, and a report.
+// Prints the line of each kind of event, with values of each kind, and a report; and whether `Lines` writes the same lines.
 #![tactic(auto)]
 
 use sp_base::{ByteList, NoMemory, PKind, ParseError, Text};
-use sp_events::{Event, Name, Node, Path, Tree, Trees, What};
-use sp_json::{line, report};
+use sp_events::{Event, Node, Path, Tree, Trees, What};
+use sp_json::{Lines, line, report};
 use std::alloc::{AllocError, Global};
 use std::io;
 
@@ -79,6 +79,106 @@ fn unit(alloc: Global) -> Result<Tree, NoMemory> {
     Ok(Tree::unit(fields))
 }
 
+/// The least and the greatest numbers.
+fn bounds(alloc: Global) -> Result<Vec<Tree>, NoMemory> {
+    let nodes = [
+        Node::Bool(false),
+        Node::Uint(0),
+        Node::Int(0),
+        Node::Int(9_223_372_036_854_775_807),
+        Node::Unlisted(0),
+        Node::Unlisted(18_446_744_073_709_551_615),
+        Node::Place(0),
+        Node::Place(18_446_744_073_709_551_615),
+    ];
+    let mut trees = Vec::new(alloc);
+    for node in nodes {
+        trees.push(Tree { node })?;
+    }
+    Ok(trees)
+}
+
+/// What has no bytes and no members.
+fn empty(alloc: Global) -> Result<Vec<Tree>, NoMemory> {
+    let nodes = [
+        Node::Bytes(ByteList::new(alloc)),
+        Node::Str(Text::new(alloc, "")?),
+        Node::Bits(Vec::new(alloc)),
+        Node::Tuple(Vec::new(alloc)),
+        Node::Vector(Vec::new(alloc)),
+        Node::Map(Vec::new(alloc)),
+        Node::Unit(Vec::new(alloc)),
+    ];
+    let mut trees = Vec::new(alloc);
+    for node in nodes {
+        trees.push(Tree { node })?;
+    }
+    Ok(trees)
+}
+
+/// A text of all characters of ASCII, and of some of two, three and four bytes.
+fn characters(alloc: Global) -> Result<Tree, NoMemory> {
+    let mut text = String::new(alloc);
+    for byte in 0..128_u8 {
+        text.push(char::from(byte))?;
+    }
+    text.push_str("\u{e9}\u{20ac}\u{1f600}")?;
+    Ok(Tree {
+        node: Node::Str(Text::from_string(text)),
+    })
+}
+
+/// All bytes.
+fn bytes(alloc: Global) -> Result<Tree, NoMemory> {
+    let mut bytes = ByteList::new(alloc);
+    for byte in 0..=255_u8 {
+        bytes.push(byte)?;
+    }
+    Ok(Tree {
+        node: Node::Bytes(bytes),
+    })
+}
+
+/// A unit whose fields have these names, and are numbered from 0.
+fn fields(alloc: Global, names: &[&str]) -> Result<Tree, NoMemory> {
+    let mut fields = Vec::new(alloc);
+    let mut n = 0_u64;
+    for name in names {
+        let tree = Tree {
+            node: Node::Uint(n),
+        };
+        fields.push((Text::new(alloc, name)?, tree))?;
+        n = n.wrapping_add(1);
+    }
+    Ok(Tree::unit(fields))
+}
+
+/// A bitfield whose ranges have these names, and are numbered from 0.
+fn ranges(alloc: Global, names: &[&str]) -> Result<Tree, NoMemory> {
+    let mut ranges = Vec::new(alloc);
+    let mut n = 0_u64;
+    for name in names {
+        ranges.push((Text::new(alloc, name)?, n))?;
+        n = n.wrapping_add(1);
+    }
+    Ok(Tree {
+        node: Node::Bits(ranges),
+    })
+}
+
+/// Two trees.
+fn both(alloc: Global, first: Tree, second: Tree) -> Result<Trees, NoMemory> {
+    let mut trees = Vec::new(alloc);
+    trees.push(first)?;
+    trees.push(second)?;
+    Ok(Trees::new(trees))
+}
+
+/// Names of members in the order of their bytes, out of it, and some twice.
+const RISING: [&str; 4] = ["A", "a", "a_", "b"];
+
+const MIXED: [&str; 7] = ["b", "ab", "a", "\u{e9}\"", "b", "B", "a"];
+
 /// What happens, by its number.
 fn happening(alloc: Global, number: u32) -> Result<What, NoMemory> {
     match number {
@@ -86,7 +186,7 @@ fn happening(alloc: Global, number: u32) -> Result<What, NoMemory> {
         1 => Ok(What::Done(unit(alloc)?)),
         2 => Ok(What::Done(unit(alloc)?.copy()?)),
         3 => Ok(What::Hook {
-            name: Name::new(Text::new(alloc, "M::U::x foreach")?)?,
+            name: Text::new(alloc, "M::U::x foreach")?,
             args: Trees::new(numbers(alloc, 1)?),
         }),
         4 => Ok(What::Write {
@@ -101,32 +201,80 @@ fn happening(alloc: Global, number: u32) -> Result<What, NoMemory> {
             offset: 1,
             text: None,
         })),
-        _ => Ok(What::Failed(ParseError {
+        8 => Ok(What::Failed(ParseError {
             kind: PKind::Throw,
             offset: 30,
             text: Some(Text::new(alloc, "no")?),
         })),
+        9 => Ok(What::Print(Trees::new(bounds(alloc)?))),
+        10 => Ok(What::Print(Trees::new(empty(alloc)?))),
+        _ => longer(alloc, number),
     }
 }
 
-/// The line of what happens, by its number.
-fn line_of(alloc: Global, number: u32) -> Result<ByteList, NoMemory> {
-    let event = Event {
+/// What happens, by its number, where values have many characters or members, or none.
+fn longer(alloc: Global, number: u32) -> Result<What, NoMemory> {
+    match number {
+        11 => Ok(What::Print(both(alloc, characters(alloc)?, bytes(alloc)?)?)),
+        12 => Ok(What::Done(fields(alloc, &RISING)?)),
+        13 => Ok(What::Done(fields(alloc, &MIXED)?)),
+        14 => Ok(What::Print(both(alloc, ranges(alloc, &RISING)?, ranges(alloc, &MIXED)?)?)),
+        15 => Ok(What::Hook {
+            name: Text::new(alloc, "")?,
+            args: Trees::new(Vec::new(alloc)),
+        }),
+        16 => Ok(What::Write {
+            sink: Text::new(alloc, "\t")?,
+            seq: 18_446_744_073_709_551_615,
+            bytes: ByteList::new(alloc),
+        }),
+        17 => Ok(What::Forward(ByteList::new(alloc))),
+        _ => Ok(What::Failed(ParseError {
+            kind: PKind::Assert,
+            offset: 18_446_744_073_709_551_615,
+            text: Some(Text::new(alloc, "\u{1f}\u{7f}\\")?),
+        })),
+    }
+}
+
+/// What happens, by its number, in the flow itself.
+fn event(alloc: Global, number: u32) -> Result<Event, NoMemory> {
+    Ok(Event {
         at: Path::new(alloc),
         what: happening(alloc, number)?,
-    };
-    line(alloc, "f", &event)
+    })
+}
+
+/// The name of the flow, which needs escapes in later events.
+fn flow(number: u32) -> &'static str {
+    if number < 9 { "f" } else { "\u{e9}\n" }
+}
+
+/// The line of what happens, by its number, which `lines` has behind it too.
+fn line_of(alloc: Global, number: u32, lines: &mut Lines) -> Result<ByteList, NoMemory> {
+    let event = event(alloc, number)?;
+    lines.push(flow(number), &event)?;
+    line(alloc, flow(number), &event)
 }
 
 fn main(rt: HostRuntime) -> io::Result<()> {
     let alloc = rt.alloc();
-    for number in 0..9 {
-        let line = line_of(alloc, number).map_err(|_| AllocError)?;
+    let mut lines = Lines::new(alloc);
+    let mut all = ByteList::new(alloc);
+    for number in 0..19 {
+        let line = line_of(alloc, number, &mut lines).map_err(|_| AllocError)?;
         let text = std::str::from_utf8(line.as_slice()).unwrap_or("?\n");
         print!(rt; "{text}")?;
+        all.append(line.as_slice()).map_err(|_| AllocError)?;
     }
     let line = report(alloc, "f", 2, 4).map_err(|_| AllocError)?;
     let text = std::str::from_utf8(line.as_slice()).unwrap_or("?\n");
     print!(rt; "{text}")?;
+    let same = lines.as_slice() == all.as_slice();
+    lines.clear();
+    println!(rt;
+        "the same: {same}, and then {} bytes",
+        lines.as_slice().len()
+    )?;
     Ok(())
 }

@@ -21,7 +21,6 @@ use sp_code::{BodyCode, BodyOf, KindRow, RoundRow};
 use sp_emit::{Emitter, number};
 use sp_emit_expr::{Around, Places};
 use sp_emit_stmt::Frame;
-use sp_events::Name;
 use sp_lower_tables::{HookedFields, add_parameters, add_types, current, hook_name, row_number};
 use sp_typed_units::{Hook, HookOf, Typed};
 use sp_value::Value;
@@ -102,7 +101,7 @@ fn body_of(alloc: Global, list: &Typed, x: &Hook) -> Result<BodyOf, NoMemory>
     ensures { IfOk result (IsBodyOf (named.hook_name list.now.units x.now.of) x.now) }
 {
     let told = told_count(x)?;
-    let name = Name::new(hook_name(alloc, list.units.as_slice(), x.of)?)?;
+    let name = hook_name(alloc, list.units.as_slice(), x.of)?;
     let each = is_foreach(x.of);
     Ok(BodyOf::Hook { name, told, each })
 }

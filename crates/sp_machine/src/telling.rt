@@ -12,16 +12,16 @@ use crate::calls::callee_where;
 use crate::machine::Machine;
 use sp_base::{Limits, NoMemory, Text};
 use sp_code::{BodyCode, BodyOf, Program};
-use sp_events::{Name, What};
+use sp_events::What;
 use sp_tell::value_trees;
 use std::alloc::Global;
 
 /// The name of the hook that a body is of; that of a function is empty.
-fn name(alloc: Global, of: &BodyOf) -> Result<Name, NoMemory>
+fn name(alloc: Global, of: &BodyOf) -> Result<Text, NoMemory>
     ensures { IfOk result (λ name. name ≡ name_of of.now) }
 {
     match of {
-        BodyOf::Function => Name::new(Text::new(alloc, "")?),
+        BodyOf::Function => Text::new(alloc, ""),
         BodyOf::Hook { name, .. } => name.copy(),
     }
 }
