@@ -505,6 +505,9 @@ local_of_past = refl
 local_of_a_unit : at_stmt None (bare_at 1 (bare_is.Local (local_of some_unit))) ≡ ((rule_is.TypeMismatch, 2) ∷ [])
 local_of_a_unit = refl
 
+local_of_nothing : at_stmt None (bare_at 1 (bare_is.Local (record { slot = 0; name = on 2; ty = nothing; written = None; taken = false }))) ≡ ((rule_is.TypeMismatch, 2) ∷ [])
+local_of_nothing = refl
+
 throw_of_a_number : at_stmt None (valued_at 1 valued_is.Throw (number 2 uint64 1)) ≡ ((rule_is.TypeMismatch, 2) ∷ [])
 throw_of_a_number = refl
 

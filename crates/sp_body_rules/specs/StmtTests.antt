@@ -42,10 +42,10 @@ is_map _ = false
 abbrev pub holds_none : Ty → Bool
 holds_none t = is_known t && not (is_plain t || is_unit t)
 
--- a local without a value: one of a unit needs a value
-abbrev pub bare_local_tests : ℕ → Ty → Option Written → List (Bool × Fault)
-bare_local_tests m t None = []
-bare_local_tests m t (Some w) = written_tests m w ++ ((is_unit t || holds_none t, at m rule_is.TypeMismatch w.span) ∷ [])
+-- a local without a value needs a type, and one of a unit needs a value
+abbrev pub bare_local_tests : ℕ → Span → Ty → Option Written → List (Bool × Fault)
+bare_local_tests m name t None = (true, at m rule_is.TypeMismatch name) ∷ []
+bare_local_tests m name t (Some w) = written_tests m w ++ ((is_unit t || holds_none t, at m rule_is.TypeMismatch w.span) ∷ [])
 
 -- a local and its value, which goes to the type that is written; without one it can't be a sink
 abbrev pub local_tests : ℕ → Ty → Option Written → Expr → List (Bool × Fault)
@@ -54,7 +54,7 @@ local_tests m t (Some w) e = written_tests m w ++ ((holds_none t, at m rule_is.T
 
 -- a word that stands where it means nothing
 abbrev pub bare_op_tests : Option Ty → ℕ → Span → BareOp → List (Bool × Fault)
-bare_op_tests wanted m span (bare_is.Local l) = bare_local_tests m l.ty l.written
+bare_op_tests wanted m span (bare_is.Local l) = bare_local_tests m l.name l.ty l.written
 bare_op_tests wanted m span bare_is.Return = (not (is_none wanted), at m rule_is.NotAssignable span) ∷ []
 bare_op_tests wanted m span (bare_is.Break meant) = (not meant, at m rule_is.OutsideLoop span) ∷ []
 bare_op_tests wanted m span (bare_is.Continue meant) = (not meant, at m rule_is.OutsideLoop span) ∷ []

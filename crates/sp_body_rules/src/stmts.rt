@@ -55,18 +55,27 @@ fn holds_none(t: &Type) -> bool
 }
 
 #[tactic(auto, using(crate::proofs::Swept::checked_more))]
-fn note_bare_local(owner: u32, ty: &Type, written: &Option<Written>, least: &mut Option<Fault>)
-    ensures { least.new ≡ checked least.old (bare_local_tests owner ty.now written.now) }
+fn note_bare_local(
+    owner: u32,
+    name: Span,
+    ty: &Type,
+    written: &Option<Written>,
+    least: &mut Option<Fault>,
+)
+    ensures { least.new ≡ checked least.old (bare_local_tests owner name ty.now written.now) }
 {
-    if let Some(written) = written {
-        note_written(owner, written, least);
-        note_at(
-            is_unit(ty) || holds_none(ty),
-            owner,
-            Rule::TypeMismatch,
-            written.span,
-            least,
-        );
+    match written {
+        None => note_at(true, owner, Rule::TypeMismatch, name, least),
+        Some(written) => {
+            note_written(owner, written, least);
+            note_at(
+                is_unit(ty) || holds_none(ty),
+                owner,
+                Rule::TypeMismatch,
+                written.span,
+                least,
+            );
+        }
     }
 }
 
@@ -100,7 +109,9 @@ fn note_bare(wanted: &Option<Type>, owner: u32, span: Span, op: &BareOp, least: 
     ensures { least.new ≡ checked least.old (bare_op_tests wanted.now owner span op.now) }
 {
     match op {
-        BareOp::Local(local) => note_bare_local(owner, &local.ty, &local.written, least),
+        BareOp::Local(local) => {
+            note_bare_local(owner, local.name, &local.ty, &local.written, least);
+        }
         BareOp::Return => {
             note_at(wanted.is_some(), owner, Rule::NotAssignable, span, least);
         }

@@ -1,6 +1,6 @@
 -- Typed statements: where no rule is broken, each expression in one is good, and each local that it opens has a full type.
 use Rattle.std.specs.Prelude.{ℕ, Bool, true, false, ◌&&◌, ◌||◌, List, [], ◌∷◌, ◌++◌, map, length, Option, Some, None, is_none}
-use Rattle.std.proofs.Common.{◌≡◌, inl, inr, refl, ap, ◌∙◌}
+use Rattle.std.proofs.Common.{◌≡◌, inl, inr, refl, sym, ap, ◌∙◌}
 use Rattle.std.proofs.lemmas.Bool.{and_parts, and_from}
 use Rattle.sp_base.specs.declared.places.Span.{Span}
 use Rattle.sp_ast.specs.Trees.{Tree, Trees, absent, row, node, none, more}
@@ -154,12 +154,13 @@ module _ (only : OneOp → Bool) (k : Known) (m : ℕ) (is_type is_path : Tree �
         let ss = stmts (typed_stmts b g in_loop sc ts).0 in
         let r = stmts_known in_loop sc ts is f c (behind k wanted m (block ss) (stmts_in_all ss) q) in
         (r.0, f)
-    stmt_known in_loop sc (node (form_is.Stmt stmt_is.Local) span (more name (more absent (more absent none)))) is f c q = never is
+    stmt_known in_loop sc (node (form_is.Stmt stmt_is.Local) span (more name (more absent (more absent none)))) is f c q =
+        never (sym (at_first k wanted m (local_without sc span name None None).0 [] q).0)
     stmt_known in_loop sc (node (form_is.Stmt stmt_is.Local) span (more name (more absent (more (row es) none)))) is f c q = never is
     stmt_known in_loop sc (node (form_is.Stmt stmt_is.Local) span (more name (more absent (more (node form at es) none)))) is f c q =
         local_value sc span name (node form at es) None None tt f is c q
     stmt_known in_loop sc (node (form_is.Stmt stmt_is.Local) span (more name (more (row ts) (more absent none)))) is f c q =
-        local_alone sc span name (g.type_in (row ts)) (g.written (row ts)) (known.type_in (row ts) is) f q
+        local_alone sc span name (g.type_in (row ts)) (g.written (row ts)) (known.type_in (row ts) (and_parts (is_type (row ts)) true is).0) f q
     stmt_known in_loop sc (node (form_is.Stmt stmt_is.Local) span (more name (more (row ts) (more (row es) none)))) is f c q =
         never (and_parts (is_type (row ts)) false is).1
     stmt_known in_loop sc (node (form_is.Stmt stmt_is.Local) span (more name (more (row ts) (more (node form at es) none)))) is f c q =
@@ -167,7 +168,7 @@ module _ (only : OneOp → Bool) (k : Known) (m : ℕ) (is_type is_path : Tree �
         local_value sc span name (node form at es) (Some (g.type_in (row ts))) (Some (g.written (row ts))) (known.type_in (row ts) p.0) f p.1 c q
     stmt_known in_loop sc (node (form_is.Stmt stmt_is.Local) span (more name (more (node sort from ts) (more absent none)))) is f c q =
         let t = node sort from ts in
-        local_alone sc span name (g.type_in t) (g.written t) (known.type_in t is) f q
+        local_alone sc span name (g.type_in t) (g.written t) (known.type_in t (and_parts (is_type t) true is).0) f q
     stmt_known in_loop sc (node (form_is.Stmt stmt_is.Local) span (more name (more (node sort from ts) (more (row es) none)))) is f c q =
         never (and_parts (is_type (node sort from ts)) false is).1
     stmt_known in_loop sc (node (form_is.Stmt stmt_is.Local) span (more name (more (node sort from ts) (more (node form at es) none)))) is f c q =

@@ -1,4 +1,4 @@
--- Rows on which the definitions are run: trees that are no statements, locals of nothing, and a call with a slot.
+-- Rows on which the definitions are run: trees that are no statements, and a call with a slot.
 use Rattle.std.specs.Prelude.{ℕ, ◌≡◌, true, false, List, [], ◌∷◌, Option, Some, None, refl}
 use Rattle.sp_base.specs.declared.places.Span.{Span}
 use Rattle.sp_words.specs.declared.methods.Method.TheVariants as method_is
@@ -15,7 +15,7 @@ use Rattle.sp_typed.specs.Exprs.{Expr}
 use Rattle.sp_typing.specs.Typing.{leaf_at, many_at}
 use Rattle.sp_body_rules.specs.Known.{nothing_known}
 use Rattle.sp_known_bodies.specs.Slots.{plain, IsBlind}
-use Rattle.sp_known_bodies.specs.Trees.{is_stmt, is_body, locals_written}
+use Rattle.sp_known_bodies.specs.Trees.{is_stmt, is_body}
 
 abbrev here : Span
 here = record { from = 0; to = 0 }
@@ -26,21 +26,18 @@ stmt form parts = tree (form_is.Stmt form) here parts
 abbrev truth : Tree
 truth = tree (form_is.Expr expr_is.True) here []
 
--- `local x = True;`, and `local x;`, which no text is read as
+-- `local x = True;`, and `local x;`, which no text is read as, and which breaks a rule
 abbrev local_of : Tree → Tree
 local_of value = stmt stmt_is.Local (tree (form_is.Name (120 ∷ [])) here [] ∷ absent ∷ value ∷ [])
 
 local_of_value : is_stmt (λ t. true) (λ t. true) (local_of truth) ≡ true
 local_of_value = refl
 
-local_of_nothing : is_stmt (λ t. true) (λ t. true) (local_of absent) ≡ false
+local_of_nothing : is_stmt (λ t. true) (λ t. true) (local_of absent) ≡ true
 local_of_nothing = refl
 
-value_is_written : locals_written (stmt stmt_is.While (truth ∷ local_of truth ∷ [])) ≡ true
-value_is_written = refl
-
-nothing_is_written : locals_written (stmt stmt_is.While (truth ∷ local_of absent ∷ [])) ≡ false
-nothing_is_written = refl
+local_of_a_branch : is_stmt (λ t. true) (λ t. true) (local_of (in_row [])) ≡ false
+local_of_a_branch = refl
 
 -- `{ while (True) local x = True; }`, and an `if` of something that is no condition
 loop_is_body : is_body (λ t. true) (λ t. true) (tree form_is.Block here (stmt stmt_is.While (truth ∷ local_of truth ∷ []) ∷ [])) ≡ true

@@ -1,4 +1,4 @@
--- Trees of statements: each expression in one is a tree of an expression, and each local has a type or a value.
+-- Trees of statements: each expression in one is a tree of an expression.
 use Rattle.std.specs.Prelude.{Bool, true, false, ◌&&◌}
 use Rattle.sp_ast.specs.Trees.{Tree, Trees, absent, row, node, none, more}
 use Rattle.sp_ast.specs.declared.forms.Form.TheVariants as form_is
@@ -11,11 +11,10 @@ module _ (is_type is_path : Tree → Bool) where
   is_maybe_expr absent = true
   is_maybe_expr t = is_expr is_type is_path t
 
-  -- the type and the value of a local, of which one may be left out
+  -- the type and the value of a local, each of which may be left out
   abbrev pub is_local : Tree → Tree → Bool
-  is_local absent e = is_expr is_type is_path e
-  is_local t absent = is_type t
-  is_local t e = is_type t && is_expr is_type is_path e
+  is_local absent e = is_maybe_expr e
+  is_local t e = is_type t && is_maybe_expr e
 
   -- a statement, a line for each alternative with expressions or statements in it
   abbrev mutual
@@ -55,15 +54,3 @@ module _ (is_type is_path : Tree → Bool) where
   abbrev pub is_body : Tree → Bool
   is_body (node form_is.Block span ts) = are_stmts ts
   is_body _ = true
-
--- whether each local in a tree has a type or a value, as the grammar has it
-abbrev mutual
-  pub locals_written : Tree → Bool
-  locals_written absent = true
-  locals_written (row ts) = all_locals_written ts
-  locals_written (node (form_is.Stmt stmt_is.Local) span (more name (more absent (more absent none)))) = false
-  locals_written (node form span ts) = all_locals_written ts
-
-  pub all_locals_written : Trees → Bool
-  all_locals_written none = true
-  all_locals_written (more t ts) = locals_written t && all_locals_written ts

@@ -21,7 +21,7 @@ ghost use Rattle.sp_known_types.specs.Given.{IsKnown};
 ghost use Rattle.sp_known_types.specs.Stmts.{is_good, exprs_hold, is_quiet};
 ghost use Rattle.sp_known_bodies.specs.Slots.{plain, IsBlind};
 ghost use Rattle.sp_known_bodies.specs.Decided.{DecidesUnder};
-ghost use Rattle.sp_known_bodies.specs.Trees.{is_body, locals_written};
+ghost use Rattle.sp_known_bodies.specs.Trees.{is_body};
 
 /// An expression whose owners are kept in slots is plainly what it was.
 pub fn kept_is_plain()
@@ -39,10 +39,9 @@ pub fn bodies_are_known()
         → IsTrue (exprs_hold (holds is_right) is_good (typed_body b g slots t).0) }
 {}
 
-/// A tree in which each alternative has its parts, and each local a type or a value, is one of a body, where tests hold of each
-/// type and of each path that is written in it.
+/// A tree in which each alternative has its parts is one of a body, where tests hold of each type and of each path that is
+/// written in it.
 pub fn formed_is_body()
     ensures { (is_type is_path : Tree → Bool) (t : Tree) → IsTrue (is_formed t)
-        → IsTrue (written_hold is_type is_path t) → IsTrue (locals_written t)
-        → IsTrue (is_body is_type is_path t) }
+        → IsTrue (written_hold is_type is_path t) → IsTrue (is_body is_type is_path t) }
 {}

@@ -3,9 +3,9 @@ use Rattle.std.specs.Prelude.{◌&&◌}
 use Rattle.std.specs.List.{list_all}
 use Rattle.std.proofs.Common.{ℕ, ◌≡◌, Bool, true, refl, List, Option, Some, None}
 use Rattle.std.proofs.lemmas.Bool.{and_parts, and_from}
-use Rattle.sp_ast.specs.Trees.{Tree, Trees, absent, row, node, none, more}
+use Rattle.sp_ast.specs.Trees.{Tree, absent, row, node, none, more}
 use Rattle.sp_ast.specs.Slots.{is_formed}
-use Rattle.sp_ast.specs.Groups.{is_of, are_of, fits as stands_as}
+use Rattle.sp_ast.specs.Groups.{is_of, fits as stands_as}
 use Rattle.sp_ast.specs.declared.groups.Group.TheVariants as group_is
 use Rattle.sp_ast.specs.declared.groups.Sort.TheVariants as stands
 use Rattle.sp_ast.specs.declared.forms.Form.TheVariants as form_is
@@ -23,12 +23,12 @@ use Rattle.sp_known_bodies.proofs.Formed.{formed_body}
 use Rattle.sp_whole_list.specs.Types.{is_type}
 use Rattle.sp_whole_list.specs.Trees.{are_parameters}
 use Rattle.sp_known_constants.specs.Good.{is_told}
-use Rattle.sp_known_constants.proofs.Fine.{formed, written}
+use Rattle.sp_known_constants.specs.Fine.{IsFine}
+use Rattle.sp_known_constants.proofs.Fine.{formed, written, inside, first, rest}
 use Rattle.sp_known_constants.proofs.Named.{tree_told}
 use Rattle.sp_unbroken_list.proofs.Lists.{are_unbroken}
 use Rattle.sp_unbroken_list.proofs.Bodies.{parameters_fine}
 use Rattle.sp_known_hooks.proofs.Hooks.{is_hook_body, is_hook}
-use Rattle.sp_known_hooks.proofs.Sites.{IsWritten, AreWritten, first_written, rest_written, parts_written}
 
 module _ (list : List Tree) (a : Answers list) (formed_list : list_all is_formed list ≡ true) (unbroken : (x : Fault) → Breaks list x → ⊥) where
   abbrev f : ℕ → Option Ty
@@ -41,39 +41,39 @@ module _ (list : List Tree) (a : Answers list) (formed_list : list_all is_formed
   paths m = is_told list f (told a.values) m
 
   module _ (m : ℕ) where
-    expr_is : (e : Tree) → is_of group_is.Expressions e ≡ true → IsWritten list f m e → is_maybe_expr (types m) (paths m) e ≡ true
+    expr_is : (e : Tree) → is_of group_is.Expressions e ≡ true → IsFine list f m e → is_maybe_expr (types m) (paths m) e ≡ true
     expr_is absent of h = refl
     expr_is (row ts) of h = never of
     expr_is (node form span ts) of h =
         let it = are_unbroken list a formed_list unbroken in
         let e = node form span ts in
-        formed_expr (types m) (paths m) e of h.0.0 (written list f m (told a.values) e h.0 (tree_told list f (told a.values) (typed_of list a) it m e))
+        formed_expr (types m) (paths m) e of h.0 (written list f m (told a.values) e h (tree_told list f (told a.values) (typed_of list a) it m e))
 
-    priority_is : (e : Tree) → stands_as (stands.Optional group_is.Expressions) e ≡ true → IsWritten list f m e → is_maybe_expr (types m) (paths m) e ≡ true
+    priority_is : (e : Tree) → stands_as (stands.Optional group_is.Expressions) e ≡ true → IsFine list f m e → is_maybe_expr (types m) (paths m) e ≡ true
     priority_is absent of h = refl
     priority_is (row ts) of h = never of
     priority_is (node form span ts) of h = expr_is (node form span ts) of h
 
-    block_is : (b : Tree) → IsWritten list f m b → is_body (types m) (paths m) b ≡ true
+    block_is : (b : Tree) → IsFine list f m b → is_body (types m) (paths m) b ≡ true
     block_is b h =
         let it = are_unbroken list a formed_list unbroken in
-        formed_body (types m) (paths m) b h.0.0 (written list f m (told a.values) b h.0 (tree_told list f (told a.values) (typed_of list a) it m b)) h.1
+        formed_body (types m) (paths m) b h.0 (written list f m (told a.values) b h (tree_told list f (told a.values) (typed_of list a) it m b))
 
-    pub body_is : (x : Tree) → IsWritten list f m x → is_hook_body (types m) (paths m) x ≡ true
+    pub body_is : (x : Tree) → IsFine list f m x → is_hook_body (types m) (paths m) x ≡ true
     body_is (node (form_is.HookBody each) span (more priority (more body none))) h =
         let ts = more priority (more body none) in
-        let p = and_parts (stands_as (stands.Optional group_is.Expressions) priority) (is_of group_is.Blocks body && true) (formed list f m (form_is.HookBody each) span ts h.0) in
-        let in_parts = parts_written list f m (form_is.HookBody each) span ts h in
-        and_from (is_maybe_expr (types m) (paths m) priority) (is_body (types m) (paths m) body) (priority_is priority p.0 (first_written list f m priority (more body none) in_parts))
-        (block_is body (first_written list f m body none (rest_written list f m priority (more body none) in_parts)))
+        let p = and_parts (stands_as (stands.Optional group_is.Expressions) priority) (is_of group_is.Blocks body && true) (formed list f m (form_is.HookBody each) span ts h) in
+        let in_parts = inside list f m (form_is.HookBody each) span ts h in
+        and_from (is_maybe_expr (types m) (paths m) priority) (is_body (types m) (paths m) body) (priority_is priority p.0 (first list f m priority (more body none) in_parts))
+        (block_is body (first list f m body none (rest list f m priority (more body none) in_parts)))
     body_is _ h = refl
 
-    pub hook_is : (x : Tree) → IsWritten list f m x → is_hook (types m) (paths m) x ≡ true
+    pub hook_is : (x : Tree) → IsFine list f m x → is_hook (types m) (paths m) x ≡ true
     hook_is (node form_is.Hook span (more (row ps) (more body none))) h =
-        let in_parts = parts_written list f m form_is.Hook span (more (row ps) (more body none)) h in
-        let behind = rest_written list f m (row ps) (more body none) in_parts in
-        and_from (are_parameters (types m) ps) (is_hook_body (types m) (paths m) body) (parameters_fine list f m ps (first_written list f m (row ps) (more body none) in_parts).0)
-        (body_is body (first_written list f m body none behind))
+        let in_parts = inside list f m form_is.Hook span (more (row ps) (more body none)) h in
+        let behind = rest list f m (row ps) (more body none) in_parts in
+        and_from (are_parameters (types m) ps) (is_hook_body (types m) (paths m) body) (parameters_fine list f m ps (first list f m (row ps) (more body none) in_parts))
+        (body_is body (first list f m body none behind))
     hook_is _ h = refl
 
   -- the tree of a hook of a row

@@ -3,4 +3,4 @@
 
 mod laws;
 
-pub use laws::{built_lists_are_known, hooks_are_known, lists_are_known};
+pub use laws::{hooks_are_known, lists_are_known};

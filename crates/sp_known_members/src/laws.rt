@@ -14,7 +14,7 @@ ghost use Rattle.sp_known_types.specs.Given.{IsKnown};
 ghost use Rattle.sp_whole_list.specs.Types.{is_type};
 ghost use Rattle.sp_whole_list.specs.Whole.{is_known_function};
 ghost use Rattle.sp_known_constants.specs.Good.{is_told};
-ghost use Rattle.sp_unbroken_list.specs.Given.{AreFormed, HaveLocals, IsUnbroken, HaveMembers};
+ghost use Rattle.sp_unbroken_list.specs.Given.{AreFormed, IsUnbroken, HaveMembers};
 ghost use Rattle.sp_known_members.specs.Given.{HaveReadings};
 
 use sp_stored_types::none_is_passed_over;
@@ -47,9 +47,9 @@ pub fn modules_are_known()
     members_are_known();
 }
 
-/// And where each local has a type or a value, all is known of all functions.
+/// And all is known of all functions.
 pub fn functions_are_known()
-    ensures { (list : List Tree) (a : Answers list) → AreFormed list → HaveLocals list → IsUnbroken list
+    ensures { (list : List Tree) (a : Answers list) → AreFormed list → IsUnbroken list
         → IsTrue (list_all is_known_function (typed_of list a).functions) }
 {
     members_are_known();

@@ -58,6 +58,7 @@ use Rattle.sp_list_rules.specs.Lists.{all_tests, option_tests}
 use Rattle.sp_list_rules.specs.Names.{expr_names, attribute_names, spec_names, field_names}
 use Rattle.sp_list_rules.specs.Fields.{kind_of, asked_tests, amount_tests, truth_tests, attribute_tests, exprs_inside, spec_tests, reads_void, is_bytes_field, sink_tests, field_tests}
 use Rattle.sp_stored_types.specs.Sources.{questions}
+use Rattle.sp_hook_rows.specs.HookRows.{is_some_tree}
 use Rattle.sp_unit_rules.specs.declared.here.Here.{Here}
 use Rattle.sp_unit_rules.specs.Kinds.{read_kind, list_kind, holder_of, kind_of as rules_kind}
 use Rattle.sp_unit_rules.specs.Attributes.{takes_value, is_misvalued, attribute_tests as attribute_rules}
@@ -83,7 +84,7 @@ use Rattle.sp_known_members.proofs.Readings.{contained_full}
 use Rattle.sp_known_members.proofs.Contexts.{FullMembers}
 use Rattle.sp_known_members.proofs.Fields.{AllFull, v, last, IsGood, element_good, is_conversion, base_full, behind_full}
 use Rattle.sp_known_units.proofs.Closed.{base_closed, conversion_closed}
-use Rattle.sp_known_units.proofs.ReadKinds.{is_row, counted_kinds, counted_elements}
+use Rattle.sp_known_units.proofs.ReadKinds.{is_row, counted_kinds, counted_elements, counted_rows}
 use Rattle.sp_known_units.proofs.Values.{value_known, asked_value, role_value, arguments_known, typed_here, meant_here, all_here}
 use Rattle.sp_stored_types.specs.inside.Kept.{none_else}
 
@@ -389,6 +390,12 @@ module _ (list : List Tree) (a : Answers list) (formed_list : list_all is_formed
         rows = counted_elements g worth x counts (base_typed x of h (element_good list a formed_list unbroken n m ps (trees.span_of x) counts (base_read g worth x) good));
         whole = λ e. spec_whole r.spec good.2 (counted_kinds g worth x counts ∙ e);
       }
+
+  -- An element of what is read with brackets has a full type.
+  pub elements_typed : (x : Tree) (counts : Trees) → is_of group_is.Bases x ≡ true → Fine x → are_of group_is.Counts counts ≡ true → AreFine list f m counts → Good (counted_read g worth x counts).spec → is_some_tree counts ≡ true
+      → is_full (element_of (counted_read g worth x counts).ty) ≡ true
+  elements_typed x counts of h of_counts fine good some =
+      counted_elements g worth x counts (base_typed x of h (element_good list a formed_list unbroken n m ps (trees.span_of x) counts (base_read g worth x) good)) (counted_rows g worth x counts of_counts fine.0 some)
 
   -- what is read
   base_known : (x : Tree) → is_of group_is.Bases x ≡ true → Fine x → Good (base_read g worth x).spec → HasRules (base_read g worth x).spec → Known_ (base_read g worth x)

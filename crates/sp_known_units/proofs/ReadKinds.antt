@@ -1,10 +1,15 @@
--- What is read, by its kind: the kind of a reading is told by the reading, and one of elements has elements of a full type.
+-- What is read, by its kind: the kind of a reading is told by the reading, one of elements has elements of a full type, and what
+-- has brackets is one.
 use Rattle.std.specs.Prelude.{ℕ, Bool, true, false}
 use Rattle.std.proofs.Common.{◌≡◌, refl, sym, ap, ◌∙◌, Option, Some, None, List}
-use Rattle.std.proofs.lemmas.Bool.{and_from}
+use Rattle.std.proofs.lemmas.Bool.{and_parts, and_from}
 use Rattle.sp_base.specs.declared.places.Span.{Span}
-use Rattle.sp_ast.specs.Trees.{Tree, Trees, row, node, none, more}
+use Rattle.sp_ast.specs.Trees.{Tree, Trees, absent, row, node, none, more}
 use Rattle.sp_ast.specs.Trees as trees
+use Rattle.sp_ast.specs.Slots.{is_formed, are_formed}
+use Rattle.sp_ast.specs.Groups.{are_of, fits as stands_as}
+use Rattle.sp_ast.specs.declared.groups.Group.TheVariants as group_is
+use Rattle.sp_ast.specs.declared.groups.Sort.TheVariants as stands
 use Rattle.sp_ast.specs.declared.forms.Form.TheVariants as form_is
 use Rattle.sp_ast.specs.declared.forms.BaseForm.TheVariants as base_is
 use Rattle.sp_ast.specs.declared.forms.TypeForm.TheVariants as type_is
@@ -22,9 +27,11 @@ use Rattle.sp_typing_units.specs.Roles.{grouped}
 use Rattle.sp_typing_units.specs.Values.{Values}
 use Rattle.sp_typing_units.specs.Attributes.{present, maybe_typed, element_of}
 use Rattle.sp_typing_units.specs.Readings.{constant_read, constant_of_type, named_op, named_read, word_read, unknown_read, type_read, called_word, called_op, called, counting, container, contained, base_read, counted_read}
+use Rattle.sp_hook_rows.specs.HookRows.{is_some_tree}
 use Rattle.sp_unit_rules.specs.Kinds.{list_kind, kind_of}
 use Rattle.sp_known_types.specs.Full.{is_full}
 use Rattle.sp_known_types.proofs.Full.{never}
+use Rattle.sp_known_members.proofs.Shapes.{no_first}
 
 -- a row of elements
 abbrev pub is_row : Kind → Bool
@@ -135,3 +142,25 @@ module _ (g : Around) (v : Values) where
 
   pub counted_elements : (t : Tree) (counts : Trees) → is_full (base_read g v t).ty ≡ true → Elements (counted_read g v t counts)
   counted_elements t counts full = contained_elements (trees.span_of t) counts (base_read g v t) full (λ h. never (sym (base_one t).1 ∙ h))
+
+  -- what has brackets is a row
+  counted_row : (o : Option Tree) → is_row (counting o) ≡ true
+  counted_row None = refl
+  counted_row (Some t) = refl
+
+  contained_row : (at : Span) (counts : Trees) (r : Read) → is_row r.kind ≡ true → is_row (contained g at counts r).kind ≡ true
+  contained_row at none r e = e
+  contained_row at (more (node form_is.Count span (more c none)) ts) r e = contained_row at ts (container g at span (present c) r) (counted_row (present c))
+  contained_row at (more x ts) r e = contained_row at ts r e
+
+  pub counted_rows : (t : Tree) (counts : Trees) → are_of group_is.Counts counts ≡ true → are_formed counts ≡ true → is_some_tree counts ≡ true → is_row (counted_read g v t counts).kind ≡ true
+  counted_rows t none of h some = never some
+  counted_rows t (more (node form_is.Count span (more c none)) ts) of h some =
+      let at = trees.span_of t in
+      contained_row at ts (container g at span (present c) (base_read g v t)) (counted_row (present c))
+  counted_rows t (more (node form_is.Count span none) ts) of h some = never (and_parts (is_formed (node form_is.Count span none)) (are_formed ts) h).0
+  counted_rows t (more (node form_is.Count span (more c (more y z))) ts) of h some =
+      no_first (stands_as (stands.Optional group_is.Expressions) c) (are_formed (more c (more y z))) (and_parts (is_formed (node form_is.Count span (more c (more y z)))) (are_formed ts) h).0
+  counted_rows t (more (node _ span xs) ts) of h some = never of
+  counted_rows t (more absent ts) of h some = never of
+  counted_rows t (more (row xs) ts) of h some = never of

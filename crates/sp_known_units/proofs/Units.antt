@@ -4,10 +4,14 @@ use Rattle.std.proofs.Common.{ℕ, ◌≡◌, ◌+◌, ◌<◌, arith, true, ap,
 use Rattle.std.proofs.lemmas.Bool.{and_from}
 use Rattle.sp_ast.specs.Trees.{Tree, Trees}
 use Rattle.sp_ast.specs.Slots.{is_formed}
+use Rattle.sp_ast.specs.Groups.{is_of, are_of}
+use Rattle.sp_ast.specs.declared.groups.Group.TheVariants as group_is
 use Rattle.sp_rules.specs.declared.fault.Fault.{Fault}
 use Rattle.sp_typed_units.specs.declared.declarations.Parameter.{Parameter}
 use Rattle.sp_typed_units.specs.declared.declarations.Unit.{Unit}
 use Rattle.sp_typed_units.specs.Parts.{parts}
+use Rattle.sp_typing_units.specs.Attributes.{element_of}
+use Rattle.sp_typing_units.specs.Readings.{counted_read}
 use Rattle.sp_typing_units.specs.Parts.{Fields}
 use Rattle.sp_solver.specs.Told.{told}
 use Rattle.sp_names.specs.declared.rows.Declaration.{Declaration}
@@ -21,20 +25,25 @@ use Rattle.sp_list_rules.specs.Lists.{all_tests}
 use Rattle.sp_list_rules.specs.Names.{order_names, variable_names, sink_names, parts_names}
 use Rattle.sp_list_rules.specs.Bodies.{parameter_tests, order_tests, variable_tests}
 use Rattle.sp_list_rules.specs.Fields.{parts_tests}
+use Rattle.sp_hook_rows.specs.HookRows.{is_some_tree}
 use Rattle.sp_unit_rules.specs.Units.{in_unit as rules_in, variables_tests, parts_tests as parts_rules}
 use Rattle.sp_typed_list.specs.Settled.{Answers}
 use Rattle.sp_typed_list.specs.Lists.{typed_of}
 use Rattle.sp_check_unit.specs.Rules.{Breaks}
 use Rattle.sp_whole_list.specs.Whole.{is_known_parameter, is_known_member, is_known_variable, are_known_parts, is_known_order, is_known_unit}
 use Rattle.sp_whole_list.proofs.None.{none_parts}
-use Rattle.sp_known_members.specs.Given.{unit_reads}
+use Rattle.sp_known_types.specs.Full.{is_full}
+use Rattle.sp_known_types.specs.Clear.{none_hold}
+use Rattle.sp_known_constants.specs.Fine.{IsFine, AreFine}
+use Rattle.sp_known_members.specs.Given.{parts_read, unit_reads}
 use Rattle.sp_known_members.proofs.Shapes.{unit_tree, is_unit_sort}
-use Rattle.sp_known_members.proofs.Fields.{AllFull}
+use Rattle.sp_known_members.proofs.Fields.{AllFull, IsGood, v, last}
 use Rattle.sp_known_members.proofs.Units.{k, unit_at, members_full, fine, items, ps, fields, row_here, suits, items_are_fine, tests, names, rules, parameters_are_full}
 use Rattle.sp_known_members.proofs.Rounds.{NoneIsPassed, rounds_full, stored_full, members_known}
 use Rattle.sp_known_members.proofs.Every.{every_unit}
 use Rattle.sp_known_units.proofs.Members.{rows_full, found_below, is_asked}
-use Rattle.sp_known_units.proofs.Parts.{variables_known, orders_known, items_known}
+use Rattle.sp_known_units.proofs.Fields.{elements_typed}
+use Rattle.sp_known_units.proofs.Parts.{PartsSound, variables_known, orders_known, items_known}
 
 module _ (list : List Tree) (a : Answers list) (formed_list : list_all is_formed list ≡ true) (unbroken : (x : Fault) → Breaks list x → ⊥) (reads : list_all unit_reads (typed_of list a).units ≡ true) (passed : NoneIsPassed) where
   abbrev us : List Unit
@@ -79,8 +88,9 @@ module _ (list : List Tree) (a : Answers list) (formed_list : list_all is_formed
         stored_full list a formed_list unbroken reads passed (first_member list n + (0 + j)) (is_asked list n (0 + j) lt s)
         ))
 
-    pub one_known : is_known_unit row_ ≡ true
-    one_known =
+    -- no rule is broken in what it reads
+    sound : PartsSound list a formed_list unbroken n m own full (members_full list a formed_list unbroken) (members_known list a formed_list unbroken reads passed) answers (stored_full list a formed_list unbroken reads passed) us (rules_in row_) facts (parts row_.parts)
+    sound =
         let p = none_parts (all_tests (parameter_tests m) row_.parameters) _ (tests list a formed_list unbroken n g d at is sort) in
         let q = none_parts (all_tests (order_tests known) row_.orders) _ p.1 in
         let o = none_parts (all_tests (variable_tests known m row_.members) row_.variables) (parts_tests known m (parts row_.parts)) q.1 in
@@ -88,7 +98,25 @@ module _ (list : List Tree) (a : Answers list) (formed_list : list_all is_formed
         let y = none_parts (all_tests (variable_names m) row_.variables) _ x.1 in
         let z = none_parts (all_tests (sink_names m) row_.sinks) (parts_names m (parts row_.parts)) y.1 in
         let r = none_parts (variables_tests us (rules_in row_) row_.variables) (parts_rules us (rules_in row_) (parts row_.parts)) (rules list a formed_list unbroken n g d at is sort) in
-        let readings = unit_at list a formed_list unbroken unit_reads n g d (fine list a formed_list unbroken n g d at is sort).1 at is reads in
+        (o.1, z.1, unit_at list a formed_list unbroken unit_reads n g d (fine list a formed_list unbroken n g d at is sort).1 at is reads, r.1)
+
+    pub reads_sound : (none_hold (parts_tests known m (parts row_.parts)) ≡ true) × (none_hold (parts_names m (parts row_.parts)) ≡ true) × (parts_read (parts row_.parts) ≡ true)
+    reads_sound = (sound.0, sound.1, sound.2)
+
+    -- an element of what a field with brackets reads has a full type
+    pub elements_full : (x : Tree) (counts : Trees) → is_of group_is.Bases x ≡ true → IsFine list (told a.types) m x → are_of group_is.Counts counts ≡ true → AreFine list (told a.types) m counts
+        → IsGood list a formed_list unbroken n m own (counted_read (last list a formed_list unbroken n m own) (v list a formed_list unbroken n m own) x counts).spec → is_some_tree counts ≡ true
+        → is_full (element_of (counted_read (last list a formed_list unbroken n m own) (v list a formed_list unbroken n m own) x counts).ty) ≡ true
+    elements_full x counts of h of_counts fine_counts good some =
+        elements_typed list a formed_list unbroken n m own full (members_full list a formed_list unbroken) (members_known list a formed_list unbroken reads passed) answers (stored_full list a formed_list unbroken reads passed) us (rules_in row_) x counts of h of_counts fine_counts good some
+
+    pub one_known : is_known_unit row_ ≡ true
+    one_known =
+        let p = none_parts (all_tests (parameter_tests m) row_.parameters) _ (tests list a formed_list unbroken n g d at is sort) in
+        let q = none_parts (all_tests (order_tests known) row_.orders) _ p.1 in
+        let o = none_parts (all_tests (variable_tests known m row_.members) row_.variables) (parts_tests known m (parts row_.parts)) q.1 in
+        let x = none_parts (all_tests order_names row_.orders) _ (names list a formed_list unbroken n g d at is sort) in
+        let y = none_parts (all_tests (variable_names m) row_.variables) _ x.1 in
         let any_members = members_full list a formed_list unbroken in
         let members = members_known list a formed_list unbroken reads passed in
         let stored = stored_full list a formed_list unbroken reads passed in
@@ -98,7 +126,7 @@ module _ (list : List Tree) (a : Answers list) (formed_list : list_all is_formed
         (and_from (list_all is_known_member row_.members) _ members_are_full
         (and_from (list_all is_known_variable row_.variables) _ (variables_known list a formed_list unbroken n m own full any_members members answers stored us (rules_in row_) facts row_.members here suits_ fine_ o.0 y.0)
         (and_from (are_known_parts (parts row_.parts)) (list_all is_known_order row_.orders)
-        (items_known list a formed_list unbroken n m own full any_members members answers stored us (rules_in row_) facts here suits_ fine_ (o.1, z.1, readings, r.1))
+        (items_known list a formed_list unbroken n m own full any_members members answers stored us (rules_in row_) facts here suits_ fine_ sound)
         (orders_known list a formed_list unbroken n m own full any_members members answers stored us (rules_in row_) facts here x.0 q.0))))
 
   -- All is known of all units.

@@ -1,5 +1,5 @@
 // The typed list.
-ghost use Rattle.std.specs.Prelude.{◌≡◌, ◌∷◌, ◌++◌, ℕ, [], length, map, Bool, Option, IfOk, OnOk};
+ghost use Rattle.std.specs.Prelude.{◌≡◌, ◌∷◌, ◌++◌, ℕ, [], length, map, Option, IfOk, OnOk};
 ghost use Rattle.sp_solver.specs.Told.{told};
 ghost use Rattle.sp_names.specs.declared.sort.DeclSort.TheVariants as sort_is;
 ghost use Rattle.sp_names.specs.Declarations.{all_of};
@@ -9,7 +9,7 @@ ghost use Rattle.sp_unit_calls.specs.HookCalling.{callers, has};
 ghost use Rattle.sp_stored_types.specs.Endless.{endless};
 ghost use Rattle.sp_stored_types.specs.Sources.{questions};
 ghost use Rattle.sp_hook_rows.specs.HookRows.{keys_of};
-ghost use Rattle.sp_typing_hooks.specs.declared.field.FieldType.{FieldType as Types};
+ghost use Rattle.sp_types.specs.Types.{Ty};
 ghost use Rattle.sp_typing_hooks.specs.Fields.{seen_of};
 ghost use Rattle.sp_typing_hooks.specs.Hooks.{typed_hooks};
 ghost use Rattle.sp_typing_hooks.specs.inside.Tables.{Tells};
@@ -75,7 +75,7 @@ fn hooks_seeing(
     rows: &[HookRow<'_>],
     seen: &[Parameters<'_>],
 ) -> Result<Vec<Hook>, NoMemory>
-    ensures { (f : ℕ × ℕ × ℕ → Option Types × Bool) → Tells (keys_of rows.now) f types.now
+    ensures { (f : ℕ × ℕ × ℕ → Option Ty × Option Ty) → Tells (keys_of rows.now) f types.now
         → IfOk result (λ v. v.items ≡ typed_hooks (in_modules known.now.row.now.0
         (told known.now.row.now.1) (told known.now.answers.now) (told stored.now))
         (ranks known.now.row.now.0 (told known.now.row.now.1) (told known.now.answers.now))

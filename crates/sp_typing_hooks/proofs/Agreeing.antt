@@ -2,13 +2,13 @@
 use Rattle.std.proofs.Common.{ℕ, ℤ, ◌≡◌, Bool, true, false, refl, ap, ◌∙◌, List, [], ◌∷◌, Option, Some, None, nat_eq, slice_get}
 use Rattle.std.specs.Prelude.{◌&&◌, ◌||◌}
 use Rattle.std.specs.Cmp.{nat_eq_equiv}
+use Rattle.sp_types.specs.Types.{Ty}
 use Rattle.sp_typed.specs.Exprs.{Expr}
 use Rattle.sp_typed_units.specs.declared.declarations.Parameter.{Parameter}
 use Rattle.sp_typing.specs.Contexts.{Around}
 use Rattle.sp_hook_order.specs.Keys.{are_same}
 use Rattle.sp_hook_rows.specs.declared.rows.HookRow.{HookRow}
 use Rattle.sp_hook_rows.specs.HookRows.{key_of, keys_of}
-use Rattle.sp_typing_hooks.specs.declared.field.FieldType.{FieldType}
 use Rattle.sp_typing_hooks.specs.Fields.{mark_of, hangs, is_asked}
 use Rattle.sp_typing_hooks.specs.Hooks.{seen_at, seen_by, hook_in, typed_hooks}
 
@@ -22,7 +22,7 @@ or_right : (a b : Bool) → b ≡ true → (a || b) ≡ true
 or_right true b e = refl
 or_right false b e = e
 
-module _ (contexts : List Around) (ranks : Expr → Option ℤ) (units : List (List Parameter)) (f g : ℕ × ℕ × ℕ → Option FieldType × Bool) where
+module _ (contexts : List Around) (ranks : Expr → Option ℤ) (units : List (List Parameter)) (f g : ℕ × ℕ × ℕ → Option Ty × Option Ty) where
   seen_same : (o : Option (ℕ × ℕ × ℕ)) → ((x : ℕ × ℕ × ℕ) → hangs x o ≡ true → f x ≡ g x) → seen_at f o ≡ seen_at g o
   seen_same None same = refl
   seen_same (Some x) same = same x (itself x)

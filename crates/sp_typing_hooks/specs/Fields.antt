@@ -1,5 +1,5 @@
--- What hooks see of the fields on which they hang: the type of `$$`, and whether the field has brackets.
-use Rattle.std.specs.Prelude.{ℕ, Bool, false, ◌&&◌, ◌||◌, if◌then◌else◌, List, [], ◌∷◌, Option, Some, None, slice_get}
+-- What hooks see of the fields on which they hang: what `$$` is, the value or an element.
+use Rattle.std.specs.Prelude.{ℕ, Bool, true, false, ◌&&◌, ◌||◌, if◌then◌else◌, List, [], ◌∷◌, Option, Some, None, slice_get}
 use Rattle.std.specs.List.{list_any}
 use Rattle.sp_ast.specs.Trees.{Tree, row, node, more}
 use Rattle.sp_ast.specs.declared.forms.Form.TheVariants as form_is
@@ -10,6 +10,7 @@ use Rattle.sp_typing_units.specs.Values.{Values}
 use Rattle.sp_typing_units.specs.Attributes.{element_of}
 use Rattle.sp_typing_units.specs.Readings.{counted_read}
 use Rattle.sp_stored_types.specs.Tries.{field_type}
+use Rattle.sp_stored_types.specs.Taken.{differ}
 use Rattle.sp_hook_order.specs.declared.keys.HookKey.{HookKey}
 use Rattle.sp_hook_order.specs.declared.keys.HookKey.TheVariants as key_is
 use Rattle.sp_hook_order.specs.Keys.{are_same}
@@ -73,29 +74,46 @@ hangs x None = false
 hangs x (Some y) = are_same x y
 
 -- the first of two that is there
-abbrev pub earlier : Option FieldType → Option FieldType → Option FieldType
+abbrev pub earlier : Option Ty → Option Ty → Option Ty
 earlier None o = o
 earlier (Some t) o = Some t
 
--- the types of a field, where it has a mark
-abbrev pub if_marked : ℕ × ℕ × ℕ → Option (ℕ × ℕ × ℕ) → FieldType → Option FieldType
+-- the type of a field, where it has a mark
+abbrev pub if_marked : ℕ × ℕ × ℕ → Option (ℕ × ℕ × ℕ) → Ty → Option Ty
 if_marked x None t = None
 if_marked x (Some y) t = if are_same y x then Some t else None
 
--- The types of the first field of a mark: of fields of one name the first one counts.
-abbrev pub first_types : List Tree → List Around → Values → ℕ × ℕ × ℕ → List Site → Option FieldType
-first_types list contexts v x [] = None
-first_types list contexts v x (s ∷ ss) =
-    earlier (if_marked x (site_mark list s) (holder_types contexts v s.unit s.holder)) (first_types list contexts v x ss)
+-- What the first field of a mark stores: all fields of one name store the same.
+abbrev pub first_stored : List Tree → List Around → Values → ℕ × ℕ × ℕ → List Site → Option Ty
+first_stored list contexts v x [] = None
+first_stored list contexts v x (s ∷ ss) =
+    earlier (if_marked x (site_mark list s) (holder_types contexts v s.unit s.holder).stored) (first_stored list contexts v x ss)
 
--- whether some field of a mark has brackets
-abbrev pub some_container : List Tree → ℕ × ℕ × ℕ → List Site → Bool
-some_container list x [] = false
-some_container list x (s ∷ ss) = holds_container s.holder && hangs x (site_mark list s) || some_container list x ss
+-- one more type, if it is there
+abbrev pub added : Bool → Ty → List Ty → List Ty
+added true t ts = t ∷ ts
+added false t ts = ts
 
--- What hooks see of the fields of a mark.
-abbrev pub seen_of : List Tree → List Around → Values → List Site → ℕ × ℕ × ℕ → Option FieldType × Bool
-seen_of list contexts v ss x = (first_types list contexts v x ss, some_container list x ss)
+-- What the elements are of the fields of a mark that have brackets.
+abbrev pub elements_of : List Tree → List Around → Values → ℕ × ℕ × ℕ → List Site → List Ty
+elements_of list contexts v x [] = []
+elements_of list contexts v x (s ∷ ss) =
+    added (holds_container s.holder && hangs x (site_mark list s)) (holder_types contexts v s.unit s.holder).element (elements_of list contexts v x ss)
+
+-- whether some type is another one, where both are known
+abbrev pub some_differ : Ty → List Ty → Bool
+some_differ t [] = false
+some_differ t (u ∷ us) = differ t u || some_differ t us
+
+-- the one type that all of these are, if there are some and none is another than the first
+abbrev pub one_of : List Ty → Option Ty
+one_of [] = None
+one_of (t ∷ ts) = if some_differ t ts then None else Some t
+
+-- What hooks see of the fields of a mark: what they store, and what an element is of those that have brackets. They see no
+-- element where none has brackets, or where elements of two are of different types.
+abbrev pub seen_of : List Tree → List Around → Values → List Site → ℕ × ℕ × ℕ → Option Ty × Option Ty
+seen_of list contexts v ss x = (first_stored list contexts v x ss, one_of (elements_of list contexts v x ss))
 
 -- whether some of these keys is of a mark
 abbrev pub is_asked : List (Option HookKey) → ℕ × ℕ × ℕ → Bool

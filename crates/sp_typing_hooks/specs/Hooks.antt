@@ -1,5 +1,5 @@
 -- The hooks of the typed list.
-use Rattle.std.specs.Prelude.{ℕ, ℤ, Bool, false, not, List, [], ◌∷◌, Option, Some, None, slice_get}
+use Rattle.std.specs.Prelude.{ℕ, ℤ, List, [], ◌∷◌, Option, Some, None, is_some, slice_get}
 use Rattle.sp_ast.specs.Trees.{Tree}
 use Rattle.sp_types.specs.Types.{Ty}
 use Rattle.sp_typed.specs.Exprs.{Expr}
@@ -9,54 +9,38 @@ use Rattle.sp_typed_units.specs.declared.declarations.HookOf.{HookOf}
 use Rattle.sp_typed_units.specs.declared.declarations.HookOf.TheVariants as of_is
 use Rattle.sp_typing.specs.Contexts.{Around}
 use Rattle.sp_operands.specs.Operands.{unknown}
+use Rattle.sp_names.specs.Types.{or_unknown}
 use Rattle.sp_typing_heads.specs.declared.site.Site.{Site}
 use Rattle.sp_typing_heads.specs.Hooks.{no_hook, hook_behind, hook_on}
 use Rattle.sp_hook_order.specs.Order.{rank_or}
 use Rattle.sp_hook_rows.specs.declared.rows.HookRow.{HookRow}
 use Rattle.sp_hook_rows.specs.HookRows.{key_of}
-use Rattle.sp_typing_hooks.specs.declared.field.FieldType.{FieldType}
 use Rattle.sp_typing_hooks.specs.Fields.{mark_of}
 
 -- what a hook sees of its field, if it is of one
-abbrev pub seen_at : (ℕ × ℕ × ℕ → Option FieldType × Bool) → Option (ℕ × ℕ × ℕ) → Option FieldType × Bool
-seen_at f None = (None, false)
+abbrev pub seen_at : (ℕ × ℕ × ℕ → Option Ty × Option Ty) → Option (ℕ × ℕ × ℕ) → Option Ty × Option Ty
+seen_at f None = (None, None)
 seen_at f (Some x) = f x
 
-abbrev pub seen_by : (ℕ × ℕ × ℕ → Option FieldType × Bool) → HookRow → Option FieldType × Bool
+abbrev pub seen_by : (ℕ × ℕ × ℕ → Option Ty × Option Ty) → HookRow → Option Ty × Option Ty
 seen_by f r = seen_at f (mark_of (key_of r.of r.field))
 
-abbrev pub stored_in : Option FieldType → Ty
-stored_in None = unknown
-stored_in (Some t) = t.stored
-
-abbrev pub element_in : Option FieldType → Ty
-element_in None = unknown
-element_in (Some t) = t.element
-
 -- The type of `$$`: what the field stores, or an element of what it reads. A hook of no field has none.
-abbrev pub current_of : HookOf → Option FieldType → Ty
-current_of (of_is.Field n k) types = stored_in types
-current_of (of_is.Anonymous n) types = stored_in types
-current_of (of_is.Elements n k) types = element_in types
-current_of (of_is.AnonymousElements n) types = element_in types
-current_of _ types = unknown
+abbrev pub current_of : HookOf → Option Ty → Option Ty → Ty
+current_of (of_is.Field n k) stored element = or_unknown stored
+current_of (of_is.Anonymous n) stored element = or_unknown stored
+current_of (of_is.Elements n k) stored element = or_unknown element
+current_of (of_is.AnonymousElements n) stored element = or_unknown element
+current_of _ stored element = unknown
 
--- Whether what a hook is of has elements: some field of its member has brackets, or its own anonymous field has. `bare` says
--- that it is of elements, and has none.
-abbrev pub container_of : HookOf → Bool → Bool → Bool
-container_of (of_is.Elements n k) bare some = some
-container_of (of_is.Anonymous n) bare some = not bare
-container_of (of_is.AnonymousElements n) bare some = not bare
-container_of _ bare some = false
-
--- Where a hook stands, what it is of, and what it sees of its field.
-abbrev pub site_of : Option FieldType × Bool → HookRow → Site
+-- Where a hook stands, what it is of, and what it sees of its field: it stands on a container where it sees an element.
+abbrev pub site_of : Option Ty × Option Ty → HookRow → Site
 site_of seen r = record {
   «module» = r.«module»;
   span = r.span;
   of = r.of;
-  container = container_of r.of r.bare seen.1;
-  current = current_of r.of seen.0;
+  container = is_some seen.1;
+  current = current_of r.of seen.0 seen.1;
 }
 
 -- the unit of which a hook is
@@ -82,20 +66,20 @@ abbrev pub written_hook : Around → (Expr → Option ℤ) → Site → List Par
 written_hook g ranks s ps (Some hook) body = hook_on g ranks s ps hook
 written_hook g ranks s ps None body = hook_behind g ranks s ps body
 
-abbrev pub seen_hook : Around → (Expr → Option ℤ) → List (List Parameter) → HookRow → Option FieldType × Bool → Hook
+abbrev pub seen_hook : Around → (Expr → Option ℤ) → List (List Parameter) → HookRow → Option Ty × Option Ty → Hook
 seen_hook g ranks units r seen = written_hook g ranks (site_of seen r) (parameters_of units (unit_of r.of)) r.hook r.body
 
 -- The hook of a row, where `g` stands round the expressions of its module, and `f` tells what hooks see of the fields of a mark.
-abbrev pub hook_of : Around → (Expr → Option ℤ) → (ℕ × ℕ × ℕ → Option FieldType × Bool) → List (List Parameter) → HookRow → Hook
+abbrev pub hook_of : Around → (Expr → Option ℤ) → (ℕ × ℕ × ℕ → Option Ty × Option Ty) → List (List Parameter) → HookRow → Hook
 hook_of g ranks f units r = seen_hook g ranks units r (seen_by f r)
 
 -- in a module that has no context it is no hook
-abbrev pub hook_in : Option Around → (Expr → Option ℤ) → List (List Parameter) → HookRow → Option FieldType × Bool → Hook
+abbrev pub hook_in : Option Around → (Expr → Option ℤ) → List (List Parameter) → HookRow → Option Ty × Option Ty → Hook
 hook_in None ranks units r seen = no_hook (site_of seen r)
 hook_in (Some g) ranks units r seen = seen_hook g ranks units r seen
 
 -- All hooks of a list, where the modules have these contexts.
-abbrev pub typed_hooks : List Around → (Expr → Option ℤ) → (ℕ × ℕ × ℕ → Option FieldType × Bool) → List (List Parameter) → List HookRow → List Hook
+abbrev pub typed_hooks : List Around → (Expr → Option ℤ) → (ℕ × ℕ × ℕ → Option Ty × Option Ty) → List (List Parameter) → List HookRow → List Hook
 typed_hooks contexts ranks f units [] = []
 typed_hooks contexts ranks f units (r ∷ rs) =
     hook_in (slice_get contexts r.«module») ranks units r (seen_by f r) ∷ typed_hooks contexts ranks f units rs

@@ -38,8 +38,7 @@ use Rattle.sp_around.specs.Arounds.{Facts, around}
 use Rattle.sp_hook_order.specs.declared.keys.HookKey.TheVariants as key_is
 use Rattle.sp_hook_rows.specs.Sites.{sites}
 use Rattle.sp_hook_rows.specs.HookRows.{hook_rows}
-use Rattle.sp_typing_hooks.specs.declared.field.FieldType.{FieldType}
-use Rattle.sp_typing_hooks.specs.Fields.{mark_of, seen_of}
+use Rattle.sp_typing_hooks.specs.Fields.{mark_of, one_of, seen_of}
 use Rattle.sp_typing_hooks.specs.Hooks.{seen_at, typed_hooks, ranks_of}
 
 abbrev span : ℕ → Span
@@ -89,6 +88,7 @@ field n x w counts attributes bodies =
 --   a: uint8[] { $$; } foreach { $$; }  : uint16[] { $$; } foreach { $$; }  : uint16 foreach { $$; }
 --   on b foreach &priority=5 { $$; }  on %init { $$; }
 --   b: uint8;  b: uint16[];  c: uint8[] &convert=self?.c foreach { $$; }
+--   d: uint8[] &convert=self?.c;  d: uint16[] &convert=self?.c foreach { $$; }
 -- };
 abbrev module_tree : Tree
 module_tree =
@@ -103,6 +103,8 @@ module_tree =
     ∷ field 11 (name (codes "b")) int.Uint8 [] [] []
     ∷ field 12 (name (codes "b")) int.Uint16 brackets [] []
     ∷ field 13 (name (codes "c")) int.Uint8 brackets converted_to_set (body true absent 14 ∷ [])
+    ∷ field 15 (name (codes "d")) int.Uint8 brackets converted_to_set []
+    ∷ field 16 (name (codes "d")) int.Uint16 brackets converted_to_set (body true absent 17 ∷ [])
     ∷ []) ∷ []) ∷ []) ∷ [])
     ∷ []) ∷ [])
 
@@ -130,32 +132,37 @@ short = word (word_is.Uint W16)
 abbrev vector : Ty → Ty
 vector t = made maker_is.Vector (tys (t ∷ []))
 
-abbrev seen : ℕ × ℕ × ℕ → Option FieldType × Bool
+abbrev seen : ℕ × ℕ × ℕ → Option Ty × Option Ty
 seen = seen_of list (here ∷ []) values (sites list)
 
-abbrev types : Ty → Ty → Option FieldType
-types s e = Some (record { stored = s; element = e })
-
 -- a field with brackets, one without
-container_row : seen_at seen (mark_of (Some (key_is.Member 0 0))) ≡ (types (vector byte) byte, true)
+container_row : seen_at seen (mark_of (Some (key_is.Member 0 0))) ≡ (Some (vector byte), Some byte)
 container_row = refl
 
-plain_row : seen_at seen (mark_of (Some (key_is.Anonymous 0 7))) ≡ (types short unknown, false)
+plain_row : seen_at seen (mark_of (Some (key_is.Anonymous 0 7))) ≡ (Some short, None)
 plain_row = refl
 
--- of fields of one name the first one tells the types, and any has brackets
-first_row : seen_at seen (mark_of (Some (key_is.Member 0 1))) ≡ (types byte unknown, true)
+-- of fields of one name the first one tells what is stored, and one with brackets what an element is
+first_row : seen_at seen (mark_of (Some (key_is.Member 0 1))) ≡ (Some byte, Some short)
 first_row = refl
 
 -- elements are read before they are converted
-converted_row : seen_at seen (mark_of (Some (key_is.Member 0 2))) ≡ (types boolean byte, true)
+converted_row : seen_at seen (mark_of (Some (key_is.Member 0 2))) ≡ (Some boolean, Some byte)
 converted_row = refl
 
+-- elements of different types are none
+mixed_row : seen_at seen (mark_of (Some (key_is.Member 0 3))) ≡ (Some boolean, None)
+mixed_row = refl
+
+-- of a type that isn't known nothing is asked
+one_row : one_of (byte ∷ unknown ∷ byte ∷ []) ≡ Some byte
+one_row = refl
+
 -- no field, and no key of one
-nothing_row : seen_at seen (mark_of (Some (key_is.Member 0 3))) ≡ (None, false)
+nothing_row : seen_at seen (mark_of (Some (key_is.Member 0 4))) ≡ (None, None)
 nothing_row = refl
 
-event_row : seen_at seen (mark_of (Some (key_is.Unit 0 event_is.Init))) ≡ (None, false)
+event_row : seen_at seen (mark_of (Some (key_is.Unit 0 event_is.Init))) ≡ (None, None)
 event_row = refl
 
 -- a number without a sign is what it is worth
@@ -181,7 +188,7 @@ abbrev shows_none : Stmt
 shows_none = block (stmts (valued_at (span 0) valued_is.Expr (leaf_at (span 0) unknown (leaf_is.Current standing_is.Unmeant)) ∷ []))
 
 -- a hook of nothing; those behind `a`; those of the anonymous fields, the second of which has no elements; of the elements of
--- `b`, whose first field has none; of an event; of the elements of `c`
+-- `b`, whose first field has none; of an event; of the elements of `c`, and of `d`, whose elements are of two types
 hooks_row : map told all
     ≡ (true, shows unknown)
     ∷ (true, shows (vector byte))
@@ -189,13 +196,14 @@ hooks_row : map told all
     ∷ (true, shows (vector short))
     ∷ (true, shows short)
     ∷ (false, shows unknown)
-    ∷ (true, shows unknown)
+    ∷ (true, shows short)
     ∷ (true, shows_none)
     ∷ (true, shows byte)
+    ∷ (false, shows unknown)
     ∷ []
 hooks_row = refl
 
-ranks_row : ranks_of all ≡ pos 0 ∷ pos 0 ∷ pos 0 ∷ pos 0 ∷ pos 0 ∷ pos 0 ∷ pos 5 ∷ pos 0 ∷ pos 0 ∷ []
+ranks_row : ranks_of all ≡ pos 0 ∷ pos 0 ∷ pos 0 ∷ pos 0 ∷ pos 0 ∷ pos 0 ∷ pos 5 ∷ pos 0 ∷ pos 0 ∷ pos 0 ∷ []
 ranks_row = refl
 
 -- a module without a context has no hooks

@@ -1,8 +1,8 @@
 // The hooks of the typed list.
-ghost use Rattle.std.specs.Prelude.{◌≡◌, ℕ, [], Bool, Option, map, slice_get, IfSome, IfNone, IfOk};
+ghost use Rattle.std.specs.Prelude.{◌≡◌, ℕ, [], Option, map, slice_get, IfSome, IfNone, IfOk};
 ghost use Rattle.sp_hook_rows.specs.HookRows.{keys_of};
 ghost use Rattle.sp_typing_heads.specs.Hooks.{no_hook};
-ghost use Rattle.sp_typing_hooks.specs.declared.field.FieldType.{FieldType as Types};
+ghost use Rattle.sp_types.specs.Types.{Ty};
 ghost use Rattle.sp_typing_hooks.specs.Hooks.{seen_by, site_of, unit_of, parameters_of, written_hook, seen_hook, hook_of, hook_in, typed_hooks};
 ghost use Rattle.sp_typing_hooks.specs.inside.Tables.{seen_told, Tells};
 
@@ -150,7 +150,7 @@ pub fn typed_hooks<C: Context, R: Ranks>(
     units: &[Parameters<'_>],
     rows: &[HookRow<'_>],
 ) -> Result<Vec<Hook>, NoMemory>
-    ensures { (f : ℕ × ℕ × ℕ → Option Types × Bool) → Tells (keys_of rows.now) f types.now
+    ensures { (f : ℕ × ℕ × ℕ → Option Ty × Option Ty) → Tells (keys_of rows.now) f types.now
         → IfOk result (λ v. v.items ≡ typed_hooks (map C.around contexts.now) (R.ranks ranks.now)
         f units.now rows.now) }
 {

@@ -20,7 +20,7 @@ use Rattle.sp_typing.specs.Contexts.{Around}
 use Rattle.sp_names.specs.declared.rows.Declaration.{Declaration}
 use Rattle.sp_names.specs.declared.sort.DeclSort.{DeclSort}
 use Rattle.sp_names.specs.declared.sort.DeclSort.TheVariants as sort_is
-use Rattle.sp_names.specs.Declarations.{list_of, module_declarations, rows_of, rows_from, rows, all_from, all_of, is_sort, sort_number, sort_of, declaration_at, module_name, module_at}
+use Rattle.sp_names.specs.Declarations.{rows, all_from, all_of, is_sort, sort_number, sort_of, declaration_at, module_name, module_at}
 use Rattle.sp_around.specs.Arounds.{stored_by, member_of}
 use Rattle.sp_typing_heads.specs.Functions.{function_of}
 use Rattle.sp_typing_heads.specs.Parameters.{with_parameters}
@@ -38,7 +38,7 @@ use Rattle.sp_known_types.specs.Clear.{none_hold, any_op}
 use Rattle.sp_known_types.specs.Given.{IsKnown}
 use Rattle.sp_known_types.proofs.Full.{never}
 use Rattle.sp_known_values.specs.Given.{AreTold}
-use Rattle.sp_known_bodies.specs.Trees.{is_body, locals_written, all_locals_written}
+use Rattle.sp_known_bodies.specs.Trees.{is_body}
 use Rattle.sp_known_bodies.proofs.Formed.{formed_body}
 use Rattle.sp_whole_list.specs.Known.{AreKnown}
 use Rattle.sp_whole_list.specs.Types.{is_type}
@@ -51,7 +51,7 @@ use Rattle.sp_whole_list.proofs.Functions.{function_whole}
 use Rattle.sp_known_constants.specs.Good.{is_told}
 use Rattle.sp_known_constants.specs.Fine.{IsFine, AreFine}
 use Rattle.sp_known_constants.proofs.Fine.{inside, first, rest, formed, type_fine, written}
-use Rattle.sp_known_constants.proofs.Declarations.{AllOf, both_of, at_all, declaration_fine}
+use Rattle.sp_known_constants.proofs.Declarations.{AllOf, declaration_fine}
 use Rattle.sp_known_constants.proofs.Places.{constant_there, constant_typed}
 use Rattle.sp_known_constants.proofs.Paths.{list_told}
 use Rattle.sp_known_constants.proofs.Rounds.{constant_answered}
@@ -59,34 +59,6 @@ use Rattle.sp_known_constants.proofs.Named.{tree_told}
 use Rattle.sp_unbroken_list.proofs.Split.{declared_names, are_named, are_asked}
 use Rattle.sp_unbroken_list.proofs.Functions.{is_function_sort, whole, IsWhole, shape, function_slots, declared, function_at}
 use Rattle.sp_unbroken_list.proofs.Lists.{all_types, all_results, are_unbroken}
-
--- locals in declarations
-abbrev pub LocalsIn : Declaration → Type 0
-LocalsIn d = locals_written d.tree ≡ true
-
-row_locals : (m : ℕ) (ts : Trees) → all_locals_written ts ≡ true → AllOf LocalsIn (rows_of m (list_of ts))
-row_locals m none h = tt
-row_locals m (more t ts) h =
-    let p = and_parts (locals_written t) (all_locals_written ts) h in
-    (p.0, row_locals m ts p.1)
-
-module_locals : (m : ℕ) (t : Tree) → locals_written t ≡ true → AllOf LocalsIn (rows_of m (module_declarations t))
-module_locals m absent h = tt
-module_locals m (row ts) h = tt
-module_locals m (node form_is.Module span none) h = tt
-module_locals m (node form_is.Module span (more name none)) h = tt
-module_locals m (node form_is.Module span (more name (more absent ts))) h = tt
-module_locals m (node form_is.Module span (more name (more (node form at us) ts))) h = tt
-module_locals m (node form_is.Module span (more name (more (row ds) ts))) h =
-    let p = and_parts (locals_written name) (all_locals_written (more (row ds) ts)) h in
-    row_locals m ds (and_parts (all_locals_written ds) (all_locals_written ts) p.1).0
-module_locals m (node _ span ts) h = tt
-
-pub modules_locals : (m : ℕ) (ts : List Tree) → list_all locals_written ts ≡ true → AllOf LocalsIn (rows_from m ts)
-modules_locals m [] h = tt
-modules_locals m (t ∷ ts) h =
-    let p = and_parts (locals_written t) (list_all locals_written ts) h in
-    both_of LocalsIn (rows_of m (module_declarations t)) (rows_from (suc m) ts) (module_locals m t p.0) (modules_locals (suc m) ts p.1)
 
 function_is : (s : DeclSort) → (sort_number s == 7) ≡ true → s ≡ sort_is.Function
 function_is sort_is.Function e = refl
@@ -153,9 +125,9 @@ module _ (list : List Tree) (a : Answers list) (formed_list : list_all is_formed
       list_told list f (told a.values) it.settled t refl refl any_op (known_in t (values_of t) slots) m m (stored_by list stored) (number_of list f (told a.values))
 
   -- the tree of a function
-  tree_whole : (m : ℕ) (p : Bool) (span : Span) (name : Tree) (ps : Trees) (result body : Tree) → IsFine list f m (whole p span name ps result body) → locals_written (whole p span name ps result body) ≡ true
+  tree_whole : (m : ℕ) (p : Bool) (span : Span) (name : Tree) (ps : Trees) (result body : Tree) → IsFine list f m (whole p span name ps result body)
       → is_function (is_type list f m) (paths m) (whole p span name ps result body) ≡ true
-  tree_whole m p span name ps result body h l =
+  tree_whole m p span name ps result body h =
       let ts = more name (more (row ps) (more result (more body none))) in
       let it = are_unbroken list a formed_list unbroken in
       let types = is_type list f m in
@@ -163,18 +135,14 @@ module _ (list : List Tree) (a : Answers list) (formed_list : list_all is_formed
       let q = rest list f m name (more (row ps) (more result (more body none))) (inside list f m (form_is.Decl (decl_is.Function p)) span ts h) in
       let r = rest list f m (row ps) (more result (more body none)) q in
       let fine_body = first list f m body none (rest list f m result (more body none) r) in
-      let u = and_parts (locals_written name) (all_locals_written ps && (locals_written result && (locals_written body && true))) l in
-      let v = and_parts (all_locals_written ps) (locals_written result && (locals_written body && true)) u.1 in
-      let w = and_parts (locals_written result) (locals_written body && true) v.1 in
-      let y = and_parts (locals_written body) true w.1 in
-      let is_a_body = formed_body types (paths m) body fine_body.0 (written list f m (told a.values) body fine_body (tree_told list f (told a.values) t it m body)) y.0 in
+      let is_a_body = formed_body types (paths m) body fine_body.0 (written list f m (told a.values) body fine_body (tree_told list f (told a.values) t it m body)) in
       and_from (are_parameters types ps) (is_result types result && is_body types (paths m) body) (parameters_fine list f m ps (first list f m (row ps) (more result (more body none)) q))
       (and_from (is_result types result) (is_body types (paths m) body) (result_fine list f m result e.1 (first list f m result (more body none) r)) is_a_body)
 
-  function_tree : (m : ℕ) (x : Tree) → is_function_sort (sort_of x) ≡ true → IsFine list f m x → locals_written x ≡ true → is_function (is_type list f m) (paths m) x ≡ true
-  function_tree m x s h l =
+  function_tree : (m : ℕ) (x : Tree) → is_function_sort (sort_of x) ≡ true → IsFine list f m x → is_function (is_type list f m) (paths m) x ≡ true
+  function_tree m x s h =
       let w = shape x s h.0 in
-      subst (λ x. IsFine list f m x → locals_written x ≡ true → is_function (is_type list f m) (paths m) x ≡ true) (sym w.is) (tree_whole m w.public w.span w.name w.parameters w.result w.body) h l
+      subst (λ x. IsFine list f m x → is_function (is_type list f m) (paths m) x ≡ true) (sym w.is) (tree_whole m w.public w.span w.name w.parameters w.result w.body) h
 
   module _ (stored : ℕ → Option Ty) (members : (u : Ty) (name : List ℕ) (found : Member) → member_of list (stored_by list stored) u name ≡ Some found → is_full found.ty ≡ true) where
     all_known : AreKnown list (facts list f (told a.values) stored) any_op
@@ -192,7 +160,7 @@ module _ (list : List Tree) (a : Answers list) (formed_list : list_all is_formed
         module_known list (facts list f (told a.values) stored) any_op all_known (known_in t (values_of t) slots) m m (paths m)
         (decides t (values_of t) slots any_op m (is_type list f m) (paths m) (round_module stored m) (module_told stored slots m))
 
-  module _ (members : (u : Ty) (name : List ℕ) (found : Member) → member_of list (stored_by list (told a.stored)) u name ≡ Some found → is_full found.ty ≡ true) (locals : list_all locals_written list ≡ true) where
+  module _ (members : (u : Ty) (name : List ℕ) (found : Member) → member_of list (stored_by list (told a.stored)) u name ≡ Some found → is_full found.ty ≡ true) where
     -- a function, and all
     one_known : (n g : ℕ) (d : Declaration) → slice_get (all_of sort_is.Function list) n ≡ Some g → declaration_at list g ≡ Some d → sort_of d.tree ≡ sort_is.Function → is_known_function (declared list f (told a.values) (told a.stored) d) ≡ true
     one_known n g d at is sort =
@@ -201,7 +169,6 @@ module _ (list : List Tree) (a : Answers list) (formed_list : list_all is_formed
         let env = round_module (told a.stored) m in
         let types = is_type list f m in
         let fine = declaration_fine list f formed_list (declared_names list a unbroken) g d is in
-        let l = at_all LocalsIn (rows list) g d (modules_locals 0 list locals) is in
         let names = function_at list f (told a.values) (told a.stored) function_names (all_of sort_is.Function list) n g d at is (are_named list a unbroken).functions in
         let tests = function_at list f (told a.values) (told a.stored) (function_tests t values) (all_of sort_is.Function list) n g d at is (are_asked list a unbroken).functions in
         function_whole t values env (module_name (module_at list m)) m types (paths m) d.tree (known_blind t values) (λ slots. module_is_known (told a.stored) members slots m)
@@ -209,7 +176,7 @@ module _ (list : List Tree) (a : Answers list) (formed_list : list_all is_formed
         let inner = parameters_told t values slots any_op m types (paths m) env (module_told (told a.stored) slots m) 0 false ps in
         (decides t values slots any_op m types (paths m) (with_parameters 0 false ps env) inner, decides_under t values slots any_op m types (paths m) (with_parameters 0 false ps env) inner)
         ))
-        (function_tree m d.tree (ap is_function_sort sort) fine l) (subst (λ i. none_hold (stmt_names i (declared list f (told a.values) (told a.stored) d).body) ≡ true) (same_module env (module_name (module_at list m)) m d.tree (shape d.tree (ap is_function_sort sort) fine.0)) names) tests
+        (function_tree m d.tree (ap is_function_sort sort) fine) (subst (λ i. none_hold (stmt_names i (declared list f (told a.values) (told a.stored) d).body) ≡ true) (same_module env (module_name (module_at list m)) m d.tree (shape d.tree (ap is_function_sort sort) fine.0)) names) tests
 
     abbrev functions_known : List ℕ → Bool
     functions_known gs = list_all is_known_function (functions_of list f (told a.values) (told a.stored) gs)

@@ -9,14 +9,9 @@ use Rattle.sp_typing.specs.declared.context.Member.{Member}
 use Rattle.sp_around.specs.Arounds.{stored_by, member_of}
 use Rattle.sp_check_unit.specs.Rules.{Breaks}
 use Rattle.sp_known_types.specs.Full.{is_full}
-use Rattle.sp_known_bodies.specs.Trees.{locals_written}
 
 abbrev pub AreFormed : List Tree → Type 0
 AreFormed list = IsTrue (list_all is_formed list)
-
--- each local has a type or a value, as the grammar has it
-abbrev pub HaveLocals : List Tree → Type 0
-HaveLocals list = IsTrue (list_all locals_written list)
 
 abbrev pub IsUnbroken : List Tree → Type 0
 IsUnbroken list = (x : Fault) → Breaks list x → ⊥

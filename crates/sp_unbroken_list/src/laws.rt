@@ -19,7 +19,7 @@ ghost use Rattle.sp_whole_list.specs.Types.{is_type};
 ghost use Rattle.sp_whole_list.specs.Whole.{is_known_constant, is_known_enum, is_known_function, is_known_order};
 ghost use Rattle.sp_known_constants.specs.Good.{is_told};
 ghost use Rattle.sp_known_constants.specs.Given.{AreUnbroken};
-ghost use Rattle.sp_unbroken_list.specs.Given.{AreFormed, HaveLocals, IsUnbroken, HaveMembers};
+ghost use Rattle.sp_unbroken_list.specs.Given.{AreFormed, IsUnbroken, HaveMembers};
 
 /// In a list in which no rule is broken each declaration of a type has a full one, each function gives a value of a full type or
 /// nothing, and no rule on constants and labels is broken in the typed list: so all that is said of constants and labels holds of it.
@@ -59,10 +59,10 @@ pub fn modules_are_known()
         (values_of (typed_of list a)) (is_told list (told a.types) (told a.values) m) }
 {}
 
-/// Where members have full types and each local has a type or a value, all is known of all functions: their parameters, their
+/// Where members have full types, all is known of all functions: their parameters, their
 /// results, and each node of their bodies.
 pub fn functions_are_known()
-    ensures { (list : List Tree) (a : Answers list) → AreFormed list → HaveLocals list → IsUnbroken list
+    ensures { (list : List Tree) (a : Answers list) → AreFormed list → IsUnbroken list
         → HaveMembers list (told a.stored)
         → IsTrue (list_all is_known_function (typed_of list a).functions) }
 {}

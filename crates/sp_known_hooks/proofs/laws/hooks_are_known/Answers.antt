@@ -3,4 +3,4 @@ use Rattle.sp_known_hooks.proofs.Lists.{hooks_known}
 use Rattle.sp_known_hooks.proofs.laws.hooks_are_known.Goals as goal
 
 pub returns : goal.returns
-returns c = λ list a formed locals unbroken elements. hooks_known list a formed unbroken (units_read list a formed unbroken) c.none_is_passed_over.ensures locals elements
+returns c = λ list a formed unbroken. hooks_known list a formed unbroken (units_read list a formed unbroken) c.none_is_passed_over.ensures
