@@ -107,6 +107,19 @@ library_row = refl
 pub argument_row : in_tree (call_with (call_of (codes "forward_eod"))) ≡ 4 ∷ []
 argument_row = refl
 
+-- `self[0].x()`: a method of what stands in a container
+abbrev item_call : List ℕ → Tree
+item_call x = of (form_is.Expr expr_is.Call) 4 15 (of (form_is.Expr expr_is.Member) 4 13 (of (form_is.Expr expr_is.Index) 4 11 (expr 4 8 ∷ expr 9 10 ∷ []) ∷ name x 12 ∷ []) ∷ in_row [] ∷ [])
+
+pub pop_row : in_tree (call_of (codes "pop_back")) ≡ []
+pop_row = refl
+
+pub pop_inside_row : in_tree (item_call (codes "pop_back")) ≡ 4 ∷ []
+pop_inside_row = refl
+
+pub push_inside_row : in_tree (item_call (codes "push_back")) ≡ []
+push_inside_row = refl
+
 -- types: `bitfield(8) { }`, `filter::Base64Decode`, `filter::Other`
 abbrev path_to : List ℕ → List ℕ → Tree
 path_to x y = of (form_is.Type type_is.Path) 5 20 (of form_is.Path 5 20 (name x 5 ∷ name y 13 ∷ []) ∷ [])
