@@ -4,7 +4,5 @@
 mod links;
 mod lists;
 mod nodes;
-#[cfg(test)]
-mod tests;
 
 pub use lists::{Chains, ListId, Slot};

@@ -3,8 +3,6 @@
 
 mod numbers;
 mod options;
-#[cfg(test)]
-mod tests;
 mod words;
 
 pub use words::{Wanted, words_wanted};

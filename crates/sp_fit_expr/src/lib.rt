@@ -8,8 +8,6 @@ mod methods;
 mod nodes;
 mod rows;
 mod sorts;
-#[cfg(test)]
-mod tests;
 mod types;
 mod values;
 

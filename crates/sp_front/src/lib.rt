@@ -10,8 +10,6 @@ mod named;
 mod paths;
 mod places;
 mod seen;
-#[cfg(test)]
-mod tests;
 
 pub use entries::ModuleFile;
 pub use laws::{list_is_one, named_files_come_first};

@@ -6,8 +6,6 @@ mod language;
 mod laws;
 mod tables;
 mod terminals;
-#[cfg(test)]
-mod tests;
 
 pub use actions::{Action, action_of};
 pub use language::{Language, Start, parse_kinds};

@@ -17,6 +17,3 @@ pub use outs::{MemOut, SureOut};
 pub use sources::{MemSource, SureSource};
 pub use streams::{FileSource, StdOut, StdSource};
 pub use traits::{Modules, ModulesFault, Out, OutFault, Source, SourceFault, Took, put_all};
-
-#[cfg(test)]
-mod tests;

@@ -2,8 +2,6 @@
 #![tactic(auto)]
 
 mod decoding;
-#[cfg(test)]
-mod tests;
 mod values;
 
 pub use values::{bytes_value, name_text, number_value, regex_text, string_value, token_bytes};

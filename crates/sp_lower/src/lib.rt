@@ -6,8 +6,6 @@ mod functions;
 mod hooks;
 mod programs;
 mod starters;
-#[cfg(test)]
-mod tests;
 mod units;
 mod values;
 

@@ -5,8 +5,6 @@ mod bit_ranges;
 mod cast;
 mod operators;
 mod signed;
-#[cfg(test)]
-mod tests;
 mod unsigned;
 mod width;
 

@@ -8,8 +8,6 @@ mod escape;
 mod level;
 mod reader;
 mod shape;
-#[cfg(test)]
-mod tests;
 mod text;
 mod tree;
 

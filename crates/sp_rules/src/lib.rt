@@ -5,8 +5,6 @@
 mod fault;
 mod laws;
 mod rule;
-#[cfg(test)]
-mod tests;
 
 pub use fault::{Fault, note, note_if};
 pub use laws::{least_of_checked, least_of_groups, least_of_noted};

@@ -8,8 +8,6 @@ mod laws;
 mod parts;
 mod stmt_words;
 mod stmts;
-#[cfg(test)]
-mod tests;
 mod words;
 
 pub use exprs::{Expr, ExprLevel, ExprParts, MOST_LEVELS};

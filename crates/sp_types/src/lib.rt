@@ -4,8 +4,6 @@
 
 mod compare;
 mod laws;
-#[cfg(test)]
-mod tests;
 mod types;
 mod words;
 

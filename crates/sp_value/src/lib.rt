@@ -17,8 +17,6 @@ mod parts;
 mod pieces;
 mod read;
 mod swap;
-#[cfg(test)]
-mod tests;
 mod value;
 
 pub use bitfields::read_bits;

@@ -3,8 +3,6 @@
 //! bounded number of times in all.
 #![tactic(auto)]
 
-#[cfg(test)]
-mod tests;
 mod view;
 mod window;
 

@@ -1,9 +1,6 @@
 //! The command `spicyc`: the compiler over the real files.
 #![tactic(auto)]
 
-#[cfg(test)]
-mod tests;
-
 use sp_base::{NoMemory, Text};
 use sp_io::{DirModules, StdOut};
 use sp_spicyc::spicyc;

@@ -1,0 +1,16 @@
+//! Tests of what programs read: the adapters over real files and streams, command lines, lists of modules, runs of tokens,
+//! literals and regular expressions. They stand in a crate of their own, so that the crates that they ask are proved once.
+#![tactic(auto)]
+
+#[cfg(test)]
+mod adapters;
+#[cfg(test)]
+mod literals;
+#[cfg(test)]
+mod modules;
+#[cfg(test)]
+mod regexes;
+#[cfg(test)]
+mod runs;
+#[cfg(test)]
+mod words;
