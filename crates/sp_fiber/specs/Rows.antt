@@ -123,31 +123,31 @@ no_wait_at_the_end : IsStand stand_is.Waiting (Over Fine first) → ⊥
 no_wait_at_the_end h = h
 
 -- the fiber, given one byte
-abbrev given_one : Suspended
-given_one = record { code = program; phase = phase_is.Waiting; window = window 0 (1 ∷ []); at = start; received = 1 }
+abbrev waiting : Suspended
+waiting = record { code = program; phase = phase_is.Waiting; window = window 0 (1 ∷ []); at = start; received = 1 }
 
-one_byte_is_fed : Fed given_one start (1 ∷ []) [] [] []
+one_byte_is_fed : Fed waiting start (1 ∷ []) [] [] []
 one_byte_is_fed = record { events = []; told = refl; run = tt; stands = record { live = it_waits; counted = refl } }
 
-it_was_given_one_byte : StandsFor given_one start (1 ∷ 2 ∷ []) [] → ⊥
+it_was_given_one_byte : StandsFor waiting start (1 ∷ 2 ∷ []) [] → ⊥
 it_was_given_one_byte h = let counted = h.counted in omega (arith, counted)
 
 -- given three bytes at once, of which the last one is behind the end of all
-abbrev given_three : Suspended
-given_three = record { code = program; phase = phase_is.Over; window = window 3 []; at = Ending (Returned (uint W16 258)) [] behind; received = 3 }
+abbrev over : Suspended
+over = record { code = program; phase = phase_is.Over; window = window 3 []; at = Ending (Returned (uint W16 258)) [] behind; received = 3 }
 
-three_bytes_are_fed : Fed given_three start (1 ∷ 2 ∷ 9 ∷ []) [] [] []
+three_bytes_are_fed : Fed over start (1 ∷ 2 ∷ 9 ∷ []) [] [] []
 three_bytes_are_fed = record { events = []; told = refl; run = tt; stands = record { live = all_is_over; counted = refl } }
 
-its_input_is_held_open : EndedFor given_three start (1 ∷ 2 ∷ 9 ∷ []) [] → ⊥
+its_input_is_held_open : EndedFor over start (1 ∷ 2 ∷ 9 ∷ []) [] → ⊥
 its_input_is_held_open h = absurd (let q : phase_is.Over ≡ phase_is.Ended = h.phase in cc)
 
 -- one whose input ended behind one byte
-abbrev cut_off : Suspended
-cut_off = record { code = program; phase = phase_is.Ended; window = window 1 []; at = Ending (Failed (error_at error_is.Short first)) [] first; received = 1 }
+abbrev short : Suspended
+short = record { code = program; phase = phase_is.Ended; window = window 1 []; at = Ending (Failed (error_at error_is.Short first)) [] first; received = 1 }
 
-a_short_input_is_closed : Closed cut_off start (1 ∷ []) [] [] []
-a_short_input_is_closed = record { events = []; told = refl; stands = record { phase = refl; comes = next refl here; over = record { how = Failed (error_at error_is.Short first); state = first; over = refl; empty = refl } } }
+a_short_input_is_closed : Closed short start (1 ∷ []) [] [] []
+a_short_input_is_closed = record { events = []; told = refl; stands = record { phase = refl; comes = next refl here; over = it_is_too_short.stopped } }
 
 -- a unit that began at place 3, whose parts wait for what is behind place 5
 abbrev unit_at_3 : Bool → Frame

@@ -10,7 +10,7 @@ use Rattle.sp_machine.specs.declared.in_place.Slot.{Slot}
 use Rattle.sp_machine.specs.declared.in_place.Slot.TheVariants.{Local, Member}
 use Rattle.sp_machine.specs.InPlace.{IsStored, behind, with_slot}
 
-set_twice : {A : Type 0} (xs : List A) (n : ℕ) (x y : A) → slice_set (slice_set xs n x) n y ≡ slice_set xs n y
+pub set_twice : {A : Type 0} (xs : List A) (n : ℕ) (x y : A) → slice_set (slice_set xs n x) n y ≡ slice_set xs n y
 set_twice [] n x y = refl
 set_twice (z ∷ zs) zero x y = refl
 set_twice (z ∷ zs) (suc n) x y = ap (λ l. z ∷ l) (set_twice zs n x y)

@@ -8,3 +8,4 @@ pub mod InPlace
 pub mod Spots
 pub mod Running
 pub mod Quiet
+pub mod Nested

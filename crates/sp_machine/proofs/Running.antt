@@ -47,7 +47,7 @@ went old new before after (Waits m) h = absurd h
 went old new before after (Over how st) h = absurd h
 
 module _ (p : Plain) (w : Held) (is_ended : Bool) where
-  safe_on : (c d : Config) (es : List What) → IsSafe p w c → step p (reads_of w is_ended) c ≡ Goes es d → IsSafe p w d
+  pub safe_on : (c d : Config) (es : List What) → IsSafe p w c → step p (reads_of w is_ended) c ≡ Goes es d → IsSafe p w d
   safe_on c d es h e =
       let s = whole w.base w.bytes in
       let one : Comes p (reads_of w is_ended) c (es ++ []) d = next e here in
@@ -161,3 +161,12 @@ module _ (p : Plain) (w : Held) (is_ended : Bool) where
   advanced_put turns slot at old before after (Goes [] (Ending how fs st)) safe e stored put =
       subst (λ d. Advanced p (reads_of w is_ended) w old old before d stop_is.GoesOn) (sym put) (advanced turns stop_is.GoesOn old old before (Ending how fs st) safe (subst (Does stop_is.GoesOn old old before (Ending how fs st)) (sym e) (sym (append-nil old), refl)))
   advanced_put turns slot at old before after _ safe e stored put = absurd put
+
+  -- a step before others
+  pub further_on : Turns p → (old : List What) (before mid after : Config) → IsSafe p w before → step p (reads_of w is_ended) before ≡ Goes [] mid → Advanced p (reads_of w is_ended) w old old mid after stop_is.GoesOn
+      → Advanced p (reads_of w is_ended) w old old before after stop_is.GoesOn
+  further_on turns old before mid after safe e h =
+      let first : Came p (reads_of w is_ended) w old old before mid = record { events = []; told = sym (append-nil old); comes = next e here; safe = safe_on before mid [] safe e } in
+      let fewer = falls_on turns before mid [] safe e in
+      let less = h.1 in
+      (came_both old old old before mid after first h.0, omega (arith, fewer, less))

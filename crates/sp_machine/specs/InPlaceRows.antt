@@ -1,6 +1,5 @@
 -- Stores at once, on a little code and a small state.
-use Rattle.std.specs.Prelude.{◌≡◌, ℕ, true, false, List, [], ◌∷◌, Some, refl}
-use Rattle.std.proofs.Common.{arith}
+use Rattle.std.specs.Prelude.{◌≡◌, true, false, List, [], ◌∷◌, Some, refl}
 use Rattle.sp_numbers.specs.declared.width.Width.TheVariants.{W64}
 use Rattle.sp_words.specs.declared.operators.BinaryOp.TheVariants.{Add}
 use Rattle.sp_words.specs.declared.methods.Method.TheVariants as method_is
@@ -24,9 +23,7 @@ a_member_behind : IsStored code 3 (Member 0)
 a_member_behind = (refl, refl)
 
 another_local : IsStored code 1 (Local 0) → ⊥
-another_local h =
-    let same : ◌≡◌ {A = ℕ} 1 0 = (let q : Some (Store 1) ≡ Some (Store 0) = h in cc) in
-    omega (arith, same)
+another_local h = absurd (let q : Some (Store 1) ≡ Some (Store 0) = h in cc)
 
 no_store_there : IsStored code 2 (Local 1) → ⊥
 no_store_there h = absurd (let q : Some SetIndex ≡ Some (Store 1) = h in cc)

@@ -5,4 +5,5 @@ pub mod Methods
 pub mod Safe
 pub mod InPlace
 pub mod InPlaceRows
+pub mod Inside
 pub mod Ran

@@ -100,14 +100,14 @@ fn last_of(vector: &mut Value) -> Result<Value, NoMemory>
 }
 
 impl Machine {
-    /// The slot in which the code stores what the instruction at hand gives.
-    pub(crate) fn slot_behind(&self, p: &Program) -> Option<Slot>
-        requires within { self.now.pc + 1 + 1 < 2 ^ 64 }
-        ensures { IfSome result (λ slot. IsStored p.now.code.items (self.now.pc + 1) slot × IsSlot slot (state_of self.now)) }
+    /// The slot in which the code from an address on stores what is on top.
+    pub(crate) fn slot_from(&self, p: &Program, at: usize) -> Option<Slot>
+        requires within { at + 1 < 2 ^ 64 }
+        ensures { IfSome result (λ slot. IsStored p.now.code.items at slot × IsSlot slot (state_of self.now)) }
     {
-        match p.code.get(self.pc + 1) {
+        match p.code.get(at) {
             Some(Instr::Store(l)) => self.local_slot(*l),
-            Some(Instr::SelfUnit) => match p.code.get(self.pc + 2) {
+            Some(Instr::SelfUnit) => match p.code.get(at + 1) {
                 Some(Instr::SetField(m)) => self.member_slot(*m),
                 _ => None,
             },
@@ -137,7 +137,7 @@ impl Machine {
         }
     }
 
-    fn set_slot(&mut self, slot: Slot, value: Value)
+    pub(crate) fn set_slot(&mut self, slot: Slot, value: Value)
         requires there { IsSlot slot (state_of self.old) }
         ensures rest { self.new ≡ record self.old { locals = self.new.locals; instances = self.new.instances } }
         ensures state { state_of self.new ≡ with_slot slot value (state_of self.old) }
@@ -184,7 +184,7 @@ impl Machine {
 
     /// Puts a value at a key of a container.
     #[tactic(auto, using(crate::proofs::InPlace::given_up, crate::proofs::Spots::past_error, crate::proofs::Spots::with_item_at))]
-    fn put_at_in(
+    pub(crate) fn put_at_in(
         &mut self,
         container: Value,
         key: Value,
@@ -400,7 +400,7 @@ impl Machine {
             × IsSlot found.1 (state_of self.now) × (self.now.pc + 1 + 1 + 1 < 2 ^ 64)) }
     {
         match p.code.get(self.pc) {
-            Some(instr) if may_change(*instr) => match self.slot_behind(p) {
+            Some(instr) if may_change(*instr) => match self.slot_from(p, self.pc + 1) {
                 Some(slot) => Some((*instr, slot)),
                 None => None,
             },

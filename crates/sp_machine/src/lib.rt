@@ -4,6 +4,7 @@
 mod calls;
 mod flow;
 mod in_place;
+mod inside;
 mod library;
 mod machine;
 mod makes;

@@ -145,6 +145,10 @@ impl Machine {
                 self.change(p, limits, window, is_ended, instr, slot)?;
                 return Ok(Stop::GoesOn);
             }
+            if let Some((instr, slot)) = self.inside_at_hand(p) {
+                self.advance_inside(p, limits, window, is_ended, instr, slot)?;
+                return Ok(Stop::GoesOn);
+            }
             return self.go(p, limits, window, is_ended, told);
         }
         self.step(p, limits, window, is_ended, told)

@@ -1,0 +1,39 @@
+use Rattle.std.proofs.Common.{◌+◌, Some, sym, ap, subst}
+use Rattle.sp_code.specs.Machine.{At, act}
+use Rattle.sp_code.specs.Programs.{plain_of}
+use Rattle.sp_machine.specs.declared.machine.Stop.TheVariants.{GoesOn}
+use Rattle.sp_machine.specs.Plain.{state_of, plain, plain_in, reads_of}
+use Rattle.sp_machine.specs.Safe.{IsSafe}
+use Rattle.sp_machine.specs.Ran.{Advanced}
+use Rattle.sp_machine.proofs.Safety.{safe_can}
+use Rattle.sp_machine.proofs.Nested.{can_put, advanced_inside}
+use Rattle.sp_machine.proofs.machine.Machine.advance_inside.Goals as goal
+
+pub change_inside-requires-clause-can : goal.change_inside-requires-clause-can
+change_inside-requires-clause-can c =
+    let m = c.args.self.now in
+    let p = plain_of c.args.limits.now c.args.p.now in
+    safe_can p c.args.window.now m.pc m.operands m.stack (state_of m) c.args.instr
+    (subst (λ mode. IsSafe p c.args.window.now (plain_in mode m)) c.requires.running c.requires.safe) c.requires.instr
+
+pub change_inside-requires-clause-below : goal.change_inside-requires-clause-below
+change_inside-requires-clause-below c =
+    let m = c.args.self.now in
+    let p = plain_of c.args.limits.now c.args.p.now in
+    let w = c.args.window.now in
+    let reads = reads_of w c.args.is_ended in
+    can_put p w c.args.is_ended (m.pc + 1) (At m.pc m.operands m.stack (state_of m)) (act p reads (Some c.args.instr) m.pc m.operands m.stack (state_of m))
+    (subst (λ mode. IsSafe p w (plain_in mode m)) c.requires.running c.requires.safe)
+    (ap (λ o. act p reads o m.pc m.operands m.stack (state_of m)) c.requires.instr) c.requires.put
+
+pub returns : goal.returns
+returns c = λ told.
+    let m = c.args.self.now in
+    let p = plain_of c.args.limits.now c.args.p.now in
+    let w = c.args.window.now in
+    let reads = reads_of w c.args.is_ended in
+    let after = plain c.change_inside.new.self in
+    subst (λ mode. Advanced p reads w told told (plain_in mode m) after GoesOn) (sym c.requires.running)
+    (advanced_inside p w c.args.is_ended c.requires.turns c.args.slot (m.pc + 1) told (At m.pc m.operands m.stack (state_of m)) after
+    (act p reads (Some c.args.instr) m.pc m.operands m.stack (state_of m)) (subst (λ mode. IsSafe p w (plain_in mode m)) c.requires.running c.requires.safe)
+    (ap (λ o. act p reads o m.pc m.operands m.stack (state_of m)) c.requires.instr) c.requires.put c.requires.stored c.in_ok-change_inside.ensures)
