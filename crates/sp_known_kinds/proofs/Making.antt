@@ -1,6 +1,6 @@
 -- Each node that typing makes has the type that its form gives.
-use Rattle.std.specs.Prelude.{ℕ, ◌==◌, zero, suc, Bool, true, false, not, ◌&&◌, ◌||◌, if◌then◌else◌, List, [], ◌∷◌, map, Option, Some, None}
-use Rattle.std.proofs.Common.{◌≡◌, refl, sym, ap, subst, arith}
+use Rattle.std.specs.Prelude.{ℕ, ◌+◌, ◌==◌, zero, suc, Bool, true, false, not, ◌&&◌, ◌||◌, if◌then◌else◌, List, [], ◌∷◌, ◌++◌, map, length, Option, Some, None, slice_get}
+use Rattle.std.proofs.Common.{◌≡◌, refl, sym, ap, ◌∙◌, subst, arith}
 use Rattle.std.proofs.lemmas.Bool.{and_parts, and_from}
 use Rattle.std.proofs.lemmas.Bool.Decides.{nat_tests}
 use Rattle.sp_base.specs.declared.places.Span.{Span}
@@ -28,14 +28,15 @@ use Rattle.sp_typed.specs.declared.heads.Leaf.{Leaf}
 use Rattle.sp_typed.specs.declared.heads.One.{One}
 use Rattle.sp_typed.specs.Exprs.{Expr, Exprs, leaf, one, two, three, many, exprs, listed, span_of, is_literal, is_number, is_minus, number_leaf, retyped}
 use Rattle.sp_typed.specs.Nodes.{holds}
-use Rattle.sp_operands.specs.Operands.{is_integer, first_type, unary_type, result_type, sort_of}
+use Rattle.sp_operands.specs.Operands.{unknown, is_integer, first_type, unary_type, result_type, sort_of}
 use Rattle.sp_operands.specs.Literals.{signed_literal, can_take, taken, seen}
 use Rattle.sp_operands.specs.Wholes.{row_type, map_type}
 use Rattle.sp_typing.specs.declared.context.Member.{Member}
 use Rattle.sp_typing.specs.Contexts.{Around as Names}
-use Rattle.sp_typing.specs.Typing.{typed, name_of, int_word, cast_type, signed_type, unary_op, unary_at, choice_type, second_type, one_at, to_target, in_turn, map_of, member_at, set_op, set_member_at, part_at, item_of, item_at, index_at, callee_op, call_by, call_at, started, new_by}
+use Rattle.sp_typing.specs.Typing.{typed, name_of, int_word, cast_type, signed_type, unary_op, unary_at, choice_type, second_type, one_at, to_target, in_turn, map_of, member_at, set_op, set_member_at, part_at, item_of, item_at, index_at, callee_op, call_by, call_at, started, new_by, to_maybe, each_to}
 use Rattle.sp_known_types.specs.Full.{is_unknown}
-use Rattle.sp_known_types.specs.Given.{is_method_op}
+use Rattle.sp_around.specs.Methods.{method_gives, method_takes}
+use Rattle.sp_list_rules.specs.Told.{function_takes, target_of}
 use Rattle.sp_known_types.proofs.Full.{never}
 use Rattle.sp_made_nodes.specs.Makes.{Makes}
 use Rattle.sp_made_nodes.proofs.Nodes.{typed_holds}
@@ -43,7 +44,7 @@ use Rattle.sp_fit_expr.specs.declared.around.Around.{Around}
 use Rattle.sp_fit_expr.specs.declared.sorts.Sort.TheVariants.{Units}
 use Rattle.sp_fit_expr.specs.Lists.{part_is}
 use Rattle.sp_fit_expr.specs.Test.{is_sort, is_enum, tuple_has, has_member}
-use Rattle.sp_known_kinds.specs.Made.{is_targeted, element_made, is_even, member_made, one_made, many_made, leaf_made, is_made, IsMade, AreMade}
+use Rattle.sp_known_kinds.specs.Made.{is_targeted, element_made, is_even, maybe_targeted, are_targeted, given_by, receiver_sort, has_slot, callable_made, member_made, one_made, many_made, leaf_made, is_made, IsMade, AreMade}
 
 taken_integer : (w : Word) → can_take w ≡ true → is_integer (word w) ≡ true
 taken_integer (word_is.Uint w) e = refl
@@ -90,12 +91,34 @@ or_left true b e = by b
     by false = refl
 or_left false b e = never e
 
-targeted_made : (t : Ty) (e : Expr) → is_targeted t (to_target t e) ≡ true
+pub targeted_made : (t : Ty) (e : Expr) → is_targeted t (to_target t e) ≡ true
 targeted_made t e = by (widens (seen (taken t e)) t && not (same (seen (taken t e)) t)) refl
   where
     by : (b : Bool) → (widens (seen (taken t e)) t && not (same (seen (taken t e)) t)) ≡ b → is_targeted t (if b then one_at (span_of (taken t e)) t one_is.Widen (taken t e) else taken t e) ≡ true
     by true w = or_left (same t t) (widens t t) (same_itself t)
     by false w = ap not w
+
+-- arguments that go to their targets
+pub maybe_made : (o : Option Ty) (e : Expr) → maybe_targeted o (to_maybe o e) ≡ true
+maybe_made None e = refl
+maybe_made (Some t) e = targeted_made t e
+
+each_targeted : (f g : ℕ → Option Ty) → ((i : ℕ) → f i ≡ g i) → (n : ℕ) (es : List Expr) → are_targeted g n (exprs (each_to f n es)) ≡ true
+each_targeted f g is n [] = refl
+each_targeted f g is n (e ∷ es) =
+    and_from (maybe_targeted (g n) (to_maybe (f n) e)) (are_targeted g (suc n) (exprs (each_to f (suc n) es))) (subst (λ o. maybe_targeted o (to_maybe (f n) e) ≡ true) (is n) (maybe_made (f n) e)) (each_targeted f g is (suc n) es)
+
+-- those that were left out stand behind the others
+both_targeted : (f : ℕ → Option Ty) (n m : ℕ) (xs ys : List Expr) → n + length xs ≡ m → are_targeted f n (exprs xs) ≡ true → are_targeted f m (exprs ys) ≡ true → are_targeted f n (exprs (xs ++ ys)) ≡ true
+both_targeted f n m [] ys at a b = (let e : m ≡ n = omega (arith, at) in subst (λ i. are_targeted f i (exprs ys) ≡ true) e b)
+both_targeted f n m (x ∷ xs) ys at a b =
+    let p = and_parts (maybe_targeted (f n) x) (are_targeted f (suc n) (exprs xs)) a in
+    let next : suc n + length xs ≡ n + suc (length xs) = omega arith in
+    and_from (maybe_targeted (f n) x) (are_targeted f (suc n) (exprs (xs ++ ys))) p.0 (both_targeted f (suc n) m xs ys (next ∙ at) p.1 b)
+
+each_length : (f : ℕ → Option Ty) (n : ℕ) (es : List Expr) → length (each_to f n es) ≡ length es
+each_length f n [] = refl
+each_length f n (e ∷ es) = ap suc (each_length f (suc n) es)
 
 -- members of tuples
 part_found : (ts : Tys) (n : ℕ) (t : Ty) → part_at ts n ≡ Some t → part_is ts n t ≡ true
@@ -162,7 +185,7 @@ module _ (around : Around) where
   index_found g span (made maker_is.Map ts) a i e =
       subst (λ s. element_made s (second_type ts) (to_target (first_type ts) i) ≡ true) e
       (and_from (same (second_type ts) (second_type ts)) (is_targeted (first_type ts) (to_target (first_type ts) i)) (same_itself (second_type ts)) (targeted_made (first_type ts) i))
-  index_found g span (made maker_is.Set ts) a i e = subst (λ s. element_made s (word word_is.Unknown) (to_target (first_type ts) i) ≡ true) e refl
+  index_found g span (made maker_is.Set ts) a i e = subst (λ s. element_made s (word word_is.Unknown) (to_target (first_type ts) i) ≡ true) e (targeted_made (first_type ts) i)
   index_found g span (made maker_is.Tuple ts) a i e = items_found span ts (g.item i) a i e
   index_found g span (word w) a i e = subst (λ s. element_made s (word word_is.Unknown) i ≡ true) e refl
 
@@ -178,28 +201,46 @@ module _ (around : Around) where
       let es = in_turn s t ps in
       and_from (same (map_type es) (map_type (listed (exprs es)))) (is_even (exprs es)) (subst (λ xs. same (map_type es) (map_type xs) ≡ true) (sym (listed_is es)) (same_itself (map_type es))) (turn_even s t ps)
 
-  method_made : (op : ManyOp) (t : Ty) (es : Exprs) → is_method_op op ≡ true → many_made op t es ≡ true
-  method_made (many_is.Method method slot) t es m = refl
-  method_made (many_is.OfUnit method name) t es m = refl
-  method_made (many_is.OfSink method) t es m = refl
-  method_made _ t es m = never m
+  -- calls of methods
+  method_call : (g : Names) → AreMade around g → (op : ManyOp) (t : Ty) (span : Span) (object : Expr) (es : List Expr) → callable_made (seen object) op t ≡ true
+      → many_made around op t (exprs (object ∷ (each_to (g.target op (seen object)) 0 es ++ g.left_out op span (length es)))) ≡ true
+  method_call g known (many_is.Method m slot) t span object es c =
+      let op = many_is.Method m slot in
+      let s = seen object in
+      let xs = each_to (g.target op s) 0 es in
+      let ys = g.left_out op span (length es) in
+      let takes : ℕ → Option Ty = slice_get (method_takes m s) in
+      let p = and_parts (is_sort s (receiver_sort m) && same t (method_gives m s)) (not (has_slot slot)) c in
+      let count : 0 + length xs ≡ length es = (let e : 0 + length xs ≡ length xs = omega arith in e ∙ each_length (g.target op s) 0 es) in
+      let goes_on : are_targeted takes (length es) (exprs ys) ≡ true = known.filled op s span (length es) refl in
+      and_from (is_sort s (receiver_sort m) && same t (method_gives m s)) (are_targeted takes 0 (exprs (xs ++ ys))) p.0 (both_targeted takes 0 (length es) xs ys count (each_targeted (g.target op s) takes (λ i. known.target op s i refl) 0 es) goes_on)
+  method_call g known (many_is.OfUnit m name) t span object es c = c
+  method_call g known (many_is.OfSink m) t span object es c = refl
+  method_call g known _ t span object es c = never c
 
-  -- calls
+  -- calls of functions
+  function_call : (g : Names) → AreMade around g → (span : Span) (f : ℕ) (callee : Expr) (es : List Expr) → Made (call_by g span (callee_op (leaf_is.Function f)) callee es)
+  function_call g known span f callee es =
+      let op = many_is.Call f in
+      let found = slice_get around.list.now.functions f in
+      and_from (same (g.result f) (given_by found)) (are_targeted (function_takes found) 0 (exprs (each_to (g.target op unknown) 0 es))) (subst (λ u. same (g.result f) u ≡ true) (known.result f) (same_itself (g.result f)))
+      (each_targeted (g.target op unknown) (function_takes found) (λ i. known.target op unknown i refl) 0 es)
+
   type_call_found : (g : Names) (span : Span) (w : Word) (callee : Expr) (es : List Expr) → Made (call_by g span (callee_op (leaf_is.TypeName w)) callee es)
   type_call_found g span (word_is.Enum n) callee es = enum_itself n
   type_call_found g span _ callee es = refl
 
-  leaf_call_found : (g : Names) (span : Span) (op : LeafOp) (callee : Expr) (es : List Expr) → Made (call_by g span (callee_op op) callee es)
-  leaf_call_found g span (leaf_is.Function n) callee es = refl
-  leaf_call_found g span (leaf_is.TypeName w) callee es = type_call_found g span w callee es
-  leaf_call_found g span _ callee es = refl
+  leaf_call_found : (g : Names) → AreMade around g → (span : Span) (op : LeafOp) (callee : Expr) (es : List Expr) → Made (call_by g span (callee_op op) callee es)
+  leaf_call_found g known span (leaf_is.Function n) callee es = function_call g known span n callee es
+  leaf_call_found g known span (leaf_is.TypeName w) callee es = type_call_found g span w callee es
+  leaf_call_found g known span _ callee es = refl
 
-  call_found : (g : Names) (span : Span) (callee : Expr) (es : List Expr) → Made (call_at g span callee es)
-  call_found g span (leaf h) es = leaf_call_found g span h.op (leaf h) es
-  call_found g span (one h a) es = refl
-  call_found g span (two h a b) es = refl
-  call_found g span (three h c a b) es = refl
-  call_found g span (many h fs) es = refl
+  call_found : (g : Names) → AreMade around g → (span : Span) (callee : Expr) (es : List Expr) → Made (call_at g span callee es)
+  call_found g known span (leaf h) es = leaf_call_found g known span h.op (leaf h) es
+  call_found g known span (one h a) es = refl
+  call_found g known span (two h a b) es = refl
+  call_found g known span (three h c a b) es = refl
+  call_found g known span (many h fs) es = refl
 
   start_found : (g : Names) (span path : Span) (o : Option NewOf) (callee : Expr) (es : List Expr) → Made (new_by g span path o callee es)
   start_found g span path None callee es = refl
@@ -218,7 +259,7 @@ module _ (around : Around) where
       by false e = never e
   minus_taken _ w a m n may = never m
 
-  literal_taken : (w : Word) (e : Expr) → is_literal e ≡ true → can_take w ≡ true → IsMade around e → IsMade around (retyped (word w) e)
+  pub literal_taken : (w : Word) (e : Expr) → is_literal e ≡ true → can_take w ≡ true → IsMade around e → IsMade around (retyped (word w) e)
   literal_taken w (leaf h) l may i = leaf_taken h w h.op l may
   literal_taken w (one h a) l may i =
       let p = and_parts (is_minus h.op) (is_number a) l in
@@ -260,8 +301,8 @@ module _ (around : Around) where
     no_member = λ span name e. refl;
     index = λ span a i. index_found g span (seen a) a i refl;
     no_callee = λ span callee es. refl;
-    call = λ span callee es. call_found g span callee es;
-    method = λ span at name found object es is. method_made found.op found.ty _ (known.method (seen object) name at (map seen es) found is);
+    call = λ span callee es. call_found g known span callee es;
+    method = λ span at name found object es is. method_call g known found.op found.ty span object es (known.method (seen object) name at (map seen es) found is);
     start = λ span path callee es. start_found g span path (started callee) callee es;
   }
 

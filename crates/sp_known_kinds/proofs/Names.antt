@@ -1,25 +1,30 @@
 -- What is named round an expression has the type under which it is kept: in a module, behind parameters, locals, `self` and `$$`.
-use Rattle.std.specs.Prelude.{ℕ, ◌≡◌, ◌+◌, ◌==◌, zero, suc, Bool, true, false, ◌||◌, if◌then◌else◌, List, [], ◌∷◌, Option, Some, None, slice_get}
+use Rattle.std.specs.Prelude.{ℕ, ◌≡◌, ◌+◌, ◌==◌, zero, suc, Bool, true, false, not, ◌&&◌, ◌||◌, if◌then◌else◌, List, [], ◌∷◌, Option, Some, None, slice_get}
 use Rattle.std.specs.List.{list_all}
 use Rattle.std.specs.Str.{bytes_eq}
-use Rattle.std.proofs.Common.{refl}
-use Rattle.std.proofs.lemmas.Bool.{and_parts}
+use Rattle.std.proofs.Common.{refl, sym, ap, ◌∙◌}
+use Rattle.std.proofs.lemmas.Bool.{and_parts, and_from}
 use Rattle.sp_base.specs.declared.places.Span.{Span}
 use Rattle.sp_words.specs.declared.methods.Method.{Method}
 use Rattle.sp_words.specs.declared.methods.Method.TheVariants as method_is
 use Rattle.sp_ast.specs.Trees.{Tree}
 use Rattle.sp_types.specs.declared.words.Word.{Word}
 use Rattle.sp_types.specs.declared.words.Word.TheVariants as word_is
-use Rattle.sp_types.specs.Types.{Ty, word, made}
+use Rattle.sp_types.specs.declared.words.Maker.TheVariants as maker_is
+use Rattle.sp_types.specs.Types.{Ty, word, made, same}
+use Rattle.sp_types.proofs.Same.{same_itself}
 use Rattle.sp_typed.specs.declared.words.LeafOp.TheVariants as leaf_is
 use Rattle.sp_typed.specs.declared.words.ManyOp.{ManyOp}
 use Rattle.sp_typed.specs.declared.words.ManyOp.TheVariants as many_is
 use Rattle.sp_typed.specs.declared.words.Standing.{Standing}
+use Rattle.sp_typed.specs.declared.words.UnitMethod.{UnitMethod}
+use Rattle.sp_typed.specs.declared.words.SinkMethod.{SinkMethod}
 use Rattle.sp_typed.specs.Exprs.{Expr, exprs}
 use Rattle.sp_typed.specs.Nodes.{all_hold}
 use Rattle.sp_typed_units.specs.declared.declarations.Parameter.{Parameter}
 use Rattle.sp_operands.specs.Operands.{unknown}
 use Rattle.sp_typing.specs.declared.context.Member.{Member}
+use Rattle.sp_typing.specs.declared.context.Callable.{Callable}
 use Rattle.sp_typing.specs.Contexts.{Around as Names}
 use Rattle.sp_typing_units.specs.Decorators.{with_current, with_self}
 use Rattle.sp_typing_stmts.specs.Scopes.{Local, found}
@@ -31,13 +36,96 @@ use Rattle.sp_names.specs.declared.sort.Meaning.{Meaning}
 use Rattle.sp_names.specs.declared.sort.Meaning.TheVariants as meaning_is
 use Rattle.sp_names.specs.Declarations.{sort_at, number_at}
 use Rattle.sp_names.specs.Names.{path_means}
-use Rattle.sp_around.specs.Methods.{base_ten, utf8, replace, left_out_of}
-use Rattle.sp_around.specs.Arounds.{Facts, word_leaf, type_leaf, declared_at, meaning_at, left_out_by, member_of, around as module_names}
-use Rattle.sp_whole_list.proofs.Modules.{method_op}
+use Rattle.sp_around.specs.Heads.{function_takes as takes_of, function_gives}
+use Rattle.sp_around.specs.Methods.{told, begins_with_order, by_order, bytes_methods, text_methods, vector_methods, are_two, get_method, map_methods, method_gives, method_takes, unit_methods, unit_method_gives, sink_methods, library_call, unit_call, sink_call, method_of, base_ten, utf8, replace, left_out_of}
+use Rattle.sp_around.specs.Arounds.{Facts, word_leaf, type_leaf, declared_at, meaning_at, left_out_by, member_of, target_of as takes_at, around as module_names}
+use Rattle.sp_list_rules.specs.Told.{function_takes, target_of}
+use Rattle.sp_whole_list.proofs.Modules.{none_found, some_found}
+use Rattle.sp_known_types.proofs.Full.{never}
 use Rattle.sp_fit_expr.specs.declared.around.Around.{Around}
-use Rattle.sp_known_kinds.specs.Made.{member_made, leaf_made, is_made, IsMade, AreMade}
+use Rattle.sp_fit_expr.specs.declared.sorts.Sort.{Sort}
+use Rattle.sp_fit_expr.specs.declared.sorts.Sort.TheVariants.{Bytes, Text, Vectors, Maps, Units}
+use Rattle.sp_fit_expr.specs.Sorts.{same_sort}
+use Rattle.sp_fit_expr.specs.Test.{is_sort}
+use Rattle.sp_known_kinds.specs.Made.{are_targeted, given_by, receiver_sort, has_slot, callable_made, takes_arguments, member_made, leaf_made, is_made, IsMade, AreMade}
 use Rattle.sp_known_kinds.specs.Kept.{is_kept, LocalsKept, ParametersKept, ConstantsKept}
 use Rattle.sp_known_kinds.proofs.Making.{number_itself}
+
+-- the methods of the library, by the sort of their receivers
+abbrev EachOf : Sort → List (List ℕ × Method) → Type 0
+EachOf s [] = Unit {0}
+EachOf s (r ∷ rs) = (same_sort s (receiver_sort r.1) ≡ true) × EachOf s rs
+
+told_of : (s : Sort) (x : List ℕ) (rs : List (List ℕ × Method)) (m : Method) → EachOf s rs → told x rs ≡ Some m → same_sort s (receiver_sort m) ≡ true
+told_of s x [] m each e = none_found m e
+told_of s x (r ∷ rs) m each e = elim (bytes_eq x r.0) as (λ b. (if b then Some r.1 else told x rs) ≡ Some m → same_sort s (receiver_sort m) ≡ true) [
+  | true ↦ λ h. ap (λ k. same_sort s (receiver_sort k)) (sym (some_found r.1 m h)) ∙ each.0
+  | false ↦ λ h. told_of s x rs m each.1 h
+] e
+
+ordered_of : (ts : List Ty) (a b : Method) → same_sort Bytes (receiver_sort a) ≡ true → same_sort Bytes (receiver_sort b) ≡ true → same_sort Bytes (receiver_sort (by_order a b ts)) ≡ true
+ordered_of ts a b h i = by (begins_with_order ts)
+  where
+    by : (c : Bool) → same_sort Bytes (receiver_sort (if c then b else a)) ≡ true
+    by true = i
+    by false = h
+
+bytes_of : (ts : List Ty) → EachOf Bytes (bytes_methods ts)
+bytes_of ts = (ordered_of ts method_is.ToUint method_is.ToUintOrder refl refl, (ordered_of ts method_is.ToInt method_is.ToIntOrder refl refl, (refl, (refl, (refl, (refl, (refl, (refl, (refl, tt)))))))))
+
+get_of : (ts : List Ty) → same_sort Maps (receiver_sort (get_method ts)) ≡ true
+get_of ts = by (are_two ts)
+  where
+    by : (c : Bool) → same_sort Maps (receiver_sort (if c then method_is.GetOr else method_is.Get)) ≡ true
+    by true = refl
+    by false = refl
+
+library_made : (t : Ty) (o : Option Method) (found : Callable) → ((m : Method) → o ≡ Some m → is_sort t (receiver_sort m) ≡ true) → library_call t o ≡ Some found → callable_made t found.op found.ty ≡ true
+library_made t None found h e = none_found found e
+library_made t (Some m) found h e =
+    let called : Callable = record { op = many_is.Method m None; ty = method_gives m t } in
+    let own = and_from (is_sort t (receiver_sort m)) (same (method_gives m t) (method_gives m t)) (h m refl) (same_itself (method_gives m t)) in
+    ap (λ (c : Callable). callable_made t c.op c.ty) (sym (some_found called found e))
+    ∙ and_from (is_sort t (receiver_sort m) && same (method_gives m t) (method_gives m t)) (not (has_slot None)) own refl
+
+unit_made : (n : ℕ) (span : Span) (o : Option UnitMethod) (found : Callable) → unit_call span o ≡ Some found → callable_made (word (word_is.Unit n)) found.op found.ty ≡ true
+unit_made n span None found e = none_found found e
+unit_made n span (Some m) found e =
+    let called : Callable = record { op = many_is.OfUnit m span; ty = unit_method_gives m } in
+    ap (λ (c : Callable). callable_made (word (word_is.Unit n)) c.op c.ty) (sym (some_found called found e)) ∙ same_itself (unit_method_gives m)
+
+sink_made : (o : Option SinkMethod) (found : Callable) → sink_call o ≡ Some found → callable_made (word word_is.Sink) found.op found.ty ≡ true
+sink_made None found e = none_found found e
+sink_made (Some m) found e =
+    let called : Callable = record { op = many_is.OfSink m; ty = word word_is.Void } in
+    ap (λ (c : Callable). callable_made (word word_is.Sink) c.op c.ty) (sym (some_found called found e))
+
+methods_made : (t : Ty) (x : List ℕ) (span : Span) (ts : List Ty) (found : Callable) → method_of t x span ts ≡ Some found → callable_made t found.op found.ty ≡ true
+methods_made (word (word_is.Unit n)) x span ts found e = unit_made n span (told x unit_methods) found e
+methods_made (word word_is.Sink) x span ts found e = sink_made (told x (sink_methods ts)) found e
+methods_made (word word_is.Bytes) x span ts found e = library_made (word word_is.Bytes) (told x (bytes_methods ts)) found (λ m at. told_of Bytes x (bytes_methods ts) m (bytes_of ts) at) e
+methods_made (word word_is.String) x span ts found e = library_made (word word_is.String) (told x text_methods) found (λ m at. told_of Text x text_methods m (refl, tt) at) e
+methods_made (made maker_is.Vector us) x span ts found e = library_made (made maker_is.Vector us) (told x vector_methods) found (λ m at. told_of Vectors x vector_methods m (refl, (refl, (refl, (refl, tt)))) at) e
+methods_made (made maker_is.Map us) x span ts found e = library_made (made maker_is.Map us) (told x (map_methods ts)) found (λ m at. told_of Maps x (map_methods ts) m (get_of ts, tt) at) e
+methods_made _ x span ts found e = none_found found e
+
+-- what stands for arguments that were left out goes where it stands
+either_goes : (target : ℕ → Option Ty) (n : ℕ) (b : Bool) (xs ys : List Expr) → are_targeted target n (exprs xs) ≡ true → are_targeted target n (exprs ys) ≡ true → are_targeted target n (exprs (if b then xs else ys)) ≡ true
+either_goes target n true xs ys h i = h
+either_goes target n false xs ys h i = i
+
+left_out_goes : (m : Method) (t : Ty) (span : Span) (n : ℕ) → are_targeted (slice_get (method_takes m t)) n (exprs (left_out_of m span n)) ≡ true
+left_out_goes method_is.ToUint t span zero = refl
+left_out_goes method_is.ToUint t span (suc n) = either_goes (slice_get (method_takes method_is.ToUint t)) (suc n) (suc n == 0) (base_ten span ∷ []) [] refl refl
+left_out_goes method_is.ToInt t span zero = refl
+left_out_goes method_is.ToInt t span (suc n) = either_goes (slice_get (method_takes method_is.ToInt t)) (suc n) (suc n == 0) (base_ten span ∷ []) [] refl refl
+left_out_goes method_is.Decode t span zero = refl
+left_out_goes method_is.Decode t span (suc zero) = refl
+left_out_goes method_is.Decode t span (suc (suc n)) =
+    let target = slice_get (method_takes method_is.Decode t) in
+    either_goes target (suc (suc n)) (suc (suc n) == 0) (utf8 span ∷ replace span ∷ []) (if suc (suc n) == 1 then replace span ∷ [] else []) refl
+    (either_goes target (suc (suc n)) (suc (suc n) == 1) (replace span ∷ []) [] refl refl)
+left_out_goes _ t span n = refl
 
 module _ (around : Around) where
   abbrev Made : Expr → Type 0
@@ -65,6 +153,9 @@ module _ (around : Around) where
     left_out = known.left_out;
     member = known.member;
     method = known.method;
+    result = known.result;
+    target = known.target;
+    filled = known.filled;
   }
 
   -- parameters
@@ -86,6 +177,9 @@ module _ (around : Around) where
     left_out = known.left_out;
     member = known.member;
     method = known.method;
+    result = known.result;
+    target = known.target;
+    filled = known.filled;
   }
 
   -- `self` and `$$`
@@ -98,6 +192,9 @@ module _ (around : Around) where
     left_out = known.left_out;
     member = known.member;
     method = known.method;
+    result = known.result;
+    target = known.target;
+    filled = known.filled;
   }
 
   pub current_made : (g : Names) (t : Ty) (s : Standing) → AreMade around g → leaf_made around (leaf_is.Current s) t ≡ true → AreMade around (with_current t s g)
@@ -109,6 +206,9 @@ module _ (around : Around) where
     left_out = known.left_out;
     member = known.member;
     method = known.method;
+    result = known.result;
+    target = known.target;
+    filled = known.filled;
   }
 
   -- modules
@@ -150,13 +250,27 @@ module _ (around : Around) where
     meaning_made span path meaning_is.Decoder = refl
     meaning_made span path (meaning_is.Nothing n) = refl
 
-    pub module_made : ((t : Ty) (name : List ℕ) (found : Member) → member_of list facts.stored t name ≡ Some found → member_made around found.op t found.ty ≡ true) → AreMade around (module_names list facts m)
-    module_made members = record {
-      path = λ span path. meaning_made span path (path_means list facts.answers m path);
-      named = λ span path. meaning_made span path (path_means list facts.answers m path);
-      itself = λ span. refl;
-      current = λ span. refl;
-      left_out = all_left_out;
-      member = members;
-      method = λ t name at ts found e. method_op t name at ts found e;
-    }
+    module _ (gives : (f : ℕ) → function_gives list facts.answers f ≡ given_by (slice_get around.list.now.functions f)) (takes : (f n : ℕ) → slice_get (takes_of list facts.answers f) n ≡ function_takes (slice_get around.list.now.functions f) n) where
+      targets : (op : ManyOp) (t : Ty) (n : ℕ) → takes_arguments op ≡ true → takes_at list facts.answers op t n ≡ target_of around.list.now op t n
+      targets (many_is.Call f) t n a = takes f n
+      targets (many_is.Method m slot) t n a = refl
+      targets _ t n a = never a
+
+      filled_so : (op : ManyOp) (t : Ty) (span : Span) (n : ℕ) → takes_arguments op ≡ true → are_targeted (target_of around.list.now op t) n (exprs (left_out_by op span n)) ≡ true
+      filled_so (many_is.Call f) t span n a = refl
+      filled_so (many_is.Method m slot) t span n a = left_out_goes m t span n
+      filled_so _ t span n a = never a
+
+      pub module_made : ((t : Ty) (name : List ℕ) (found : Member) → member_of list facts.stored t name ≡ Some found → member_made around found.op t found.ty ≡ true) → AreMade around (module_names list facts m)
+      module_made members = record {
+        path = λ span path. meaning_made span path (path_means list facts.answers m path);
+        named = λ span path. meaning_made span path (path_means list facts.answers m path);
+        itself = λ span. refl;
+        current = λ span. refl;
+        left_out = all_left_out;
+        member = members;
+        method = methods_made;
+        result = gives;
+        target = targets;
+        filled = filled_so;
+      }

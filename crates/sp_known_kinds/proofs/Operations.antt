@@ -1,11 +1,11 @@
--- An expression without calls of functions and methods in which no rule is broken passes the test before lowering.
-use Rattle.std.specs.Prelude.{ℕ, Bool, true, false, not, ◌&&◌, ◌||◌, if◌then◌else◌, map, Option}
-use Rattle.std.proofs.Common.{◌≡◌, refl, sym, ap, ◌∙◌, subst, arith}
+-- An expression in which no rule is broken passes the test before lowering, and so does a place that may be changed.
+use Rattle.std.specs.Prelude.{ℕ, Bool, true, false, not, ◌&&◌, ◌||◌, if◌then◌else◌, map, Option, Some, None, slice_get}
+use Rattle.std.proofs.Common.{◌≡◌, refl, sym, ap, ◌∙◌, subst}
 use Rattle.std.proofs.lemmas.Bool.{and_parts, and_from}
-use Rattle.std.proofs.lemmas.Bool.Decides.{nat_tests}
 use Rattle.sp_base.specs.declared.places.Span.{Span}
-use Rattle.sp_numbers.specs.declared.width.Width.TheVariants.{W8, W16, W32, W64}
 use Rattle.sp_words.specs.declared.operators.UnaryOp.TheVariants as unary_is
+use Rattle.sp_words.specs.declared.methods.Method.{Method}
+use Rattle.sp_words.specs.Methods.{changes}
 use Rattle.sp_types.specs.declared.words.Word.TheVariants as word_is
 use Rattle.sp_types.specs.declared.words.Maker.{Maker}
 use Rattle.sp_types.specs.declared.words.Maker.TheVariants as maker_is
@@ -14,8 +14,6 @@ use Rattle.sp_types.specs.Types as types
 use Rattle.sp_types.proofs.Same.{same_is, same_itself}
 use Rattle.sp_typed.specs.declared.heads.Leaf.{Leaf}
 use Rattle.sp_typed.specs.declared.heads.One.{One}
-use Rattle.sp_typed.specs.declared.heads.Two.{Two}
-use Rattle.sp_typed.specs.declared.heads.Three.{Three}
 use Rattle.sp_typed.specs.declared.words.LeafOp.{LeafOp}
 use Rattle.sp_typed.specs.declared.words.LeafOp.TheVariants as leaf_is
 use Rattle.sp_typed.specs.declared.words.OneOp.{OneOp}
@@ -24,157 +22,47 @@ use Rattle.sp_typed.specs.declared.words.TwoOp.{TwoOp}
 use Rattle.sp_typed.specs.declared.words.TwoOp.TheVariants as two_is
 use Rattle.sp_typed.specs.declared.words.ManyOp.{ManyOp}
 use Rattle.sp_typed.specs.declared.words.ManyOp.TheVariants as many_is
+use Rattle.sp_typed.specs.declared.words.UnitMethod.TheVariants as unit_is
 use Rattle.sp_typed.specs.Exprs.{Expr, Exprs, none, more, listed, leaf, one, two, three, many, type_of, is_number, is_minus, number_leaf}
-use Rattle.sp_typed.specs.Nodes.{holds, all_hold, is_word, word_leaf}
+use Rattle.sp_typed.specs.Nodes.{holds, all_hold, word_leaf, word_one}
 use Rattle.sp_operands.specs.declared.operators.OperatorSort.{OperatorSort}
-use Rattle.sp_operands.specs.Operands.{unknown, is_valueless, is_unsigned, is_signed, is_integer, is_boolean, is_enum as is_enum_type, first_type, sort_of as operator_sort, stands_before, stands_behind, agree, unary_type, result_type, stands_alone, has_size}
+use Rattle.sp_operands.specs.Operands.{unknown, is_valueless, is_unsigned, is_integer, is_boolean, is_enum as is_enum_type, first_type, sort_of as operator_sort, stands_before, stands_behind, agree, unary_type, result_type, stands_alone, has_size}
 use Rattle.sp_operands.specs.Literals.{leaf_number, type_has, typed_leaf, is_past, seen}
 use Rattle.sp_operands.specs.Wholes.{may_hold, is_of, all_of, first_seen, second_seen, has_keys_alone, row_type, all_in_turn, are_entries, map_type}
 use Rattle.sp_typing.specs.Typing.{choice_type}
+use Rattle.sp_around.specs.Methods.{number, method_gives, method_takes}
 use Rattle.sp_body_rules.specs.Known.{Known}
-use Rattle.sp_body_rules.specs.Values.{names_no_value, is_set_key, is_no_value, knows, value_goes, written_tests}
-use Rattle.sp_body_rules.specs.ExprTests.{is_unmeant, negates, leaf_tests, one_op_tests, is_past_key, disagree, index_tests, two_op_tests, unlike, choice_tests, all_value_tests, element_tests, elements_tests, row_tests, entries_tests, map_tests, is_convertible, convert_tests, many_op_tests}
-use Rattle.sp_words.specs.declared.methods.Method.{Method}
-use Rattle.sp_bodies.specs.Exprs.{offset_local, is_self}
-use Rattle.sp_emit_expr.specs.Many.{row_of}
-use Rattle.sp_emit_expr.specs.Literals.{number_behind, negative_number}
+use Rattle.sp_body_rules.specs.Values.{is_no_value, is_regex, knows, value_goes, written_tests}
+use Rattle.sp_body_rules.specs.ExprTests.{is_unmeant, negates, leaf_tests, one_op_tests, is_past_key, disagree, index_tests, two_op_tests, unlike, choice_tests, all_value_tests, element_tests, elements_tests, row_tests, entries_tests, map_tests, is_convertible, convert_tests, many_op_tests, argument_fits, arguments_fit, changes_leaf, changes_one, is_element, may_change, expr_tests}
+use Rattle.sp_list_rules.specs.Told.{function_takes}
+use Rattle.sp_bodies.specs.Exprs.{offset_local, slot_local, is_self, is_item_place}
+use Rattle.sp_emit_expr.specs.declared.rows.Row.TheVariants as row_is
+use Rattle.sp_emit_expr.specs.Many.{kept_in, row_of}
+use Rattle.sp_emit_expr.specs.Literals.{number_behind}
 use Rattle.sp_known_types.specs.Full.{is_full, is_right, is_unknown}
 use Rattle.sp_known_types.specs.Clear.{is_clear, any_op}
 use Rattle.sp_known_types.proofs.Full.{never, full_is_known}
-use Rattle.sp_known_types.proofs.Tests.{Fine, fine_parts, both_false, not_so, at_first, first_fine}
-use Rattle.sp_known_values.proofs.Literals.{signed_within, negative_within}
+use Rattle.sp_known_types.proofs.Tests.{Fine, fine_parts, both_false, not_so, at_first, tests_of}
 use Rattle.sp_known_literals.specs.Widened.{is_widen, widens_value}
+use Rattle.sp_whole_list.proofs.None.{holds_both, all_hold_both}
 use Rattle.sp_fit_expr.specs.declared.around.Around.{Around}
-use Rattle.sp_fit_expr.specs.declared.sorts.Sort.{Sort}
 use Rattle.sp_fit_expr.specs.declared.sorts.Sort.TheVariants.{Bools, Unsigned, Signed, Bytes, Text, Units}
 use Rattle.sp_fit_expr.specs.Around.{layout_in}
 use Rattle.sp_fit_expr.specs.Lists.{part_is, members_are, all_are, are_in_turn}
-use Rattle.sp_fit_expr.specs.Sorts.{sort_of, same_sort, takes, is_sized, goes_to_unsigned, is_integer as is_integer_sort, casts}
-use Rattle.sp_fit_expr.specs.Test.{number_is, is_sort, both_are, two_is_of, three_is, leaf_is_of, one_is_of, one_or_literal, is_enum, has_member, has_range, item_is, tuple_has, tuple_of, vector_with, set_with, map_with, converts, many_is_of, row_is_of, expr_passes, exprs_pass}
-use Rattle.sp_known_kinds.specs.Made.{is_targeted, element_made, is_even, many_made, one_made, two_made, leaf_made, is_made, is_operator, is_row, is_operation}
+use Rattle.sp_fit_expr.specs.Sorts.{sort_of, takes, is_sized, is_integer as is_integer_sort, casts}
+use Rattle.sp_fit_expr.specs.Test.{is_sort, local_is, two_is_of, three_is, leaf_is_of, one_is_of, one_or_literal, is_enum, has_member, has_range, item_is, tuple_has, tuple_of, vector_with, set_with, map_with, converts, offset_is, call_is, method_is, change_is, member_place, local_place, owner_is, is_index, many_is_of, row_is_of, expr_passes, exprs_pass, change_passes, place_passes}
+use Rattle.sp_known_kinds.specs.Made.{is_targeted, element_made, is_even, are_targeted, given_by, receiver_sort, method_made, unit_method_made, many_made, one_made, two_made, leaf_made, is_made, IsAsked, owner_kept, receiver_kept, keeps_owner, is_operator, has_place, is_row, is_built}
+use Rattle.sp_known_kinds.specs.Kept.{offset_kept}
 use Rattle.sp_known_kinds.proofs.Types.{boolean_sort, unsigned_sort, signed_sort, bytes_sort, text_sort, sized_sort, sort_itself, either, operators_take}
-
--- a type of a sort
-sorted : (t : Ty) (s : Sort) → sort_of t ≡ s → is_sort t s ≡ true
-sorted t s e = ap (λ x. same_sort x s) e ∙ sort_itself s
-
--- numbers
-number_in : (t : Ty) (n : ℕ) → is_integer t ≡ true → type_has t false n ≡ true → number_is t false n ≡ true
-number_in (word (word_is.Uint w)) n i h = h
-number_in (word (word_is.Int w)) n i h = signed_within w n h
-number_in (word _) n i h = never i
-number_in (made m ts) n i h = never i
-
-minus_in : (t : Ty) (n : ℕ) → is_integer t ≡ true → type_has t true n ≡ true → number_is t true n ≡ true
-minus_in (word (word_is.Uint W8)) n i h = grind (arith, nat_tests)
-minus_in (word (word_is.Uint W16)) n i h = grind (arith, nat_tests)
-minus_in (word (word_is.Uint W32)) n i h = grind (arith, nat_tests)
-minus_in (word (word_is.Uint W64)) n i h = grind (arith, nat_tests)
-minus_in (word (word_is.Int w)) n i h = negative_within w n h
-minus_in (word _) n i h = never i
-minus_in (made m ts) n i h = never i
-
--- what is known of a value
-or_false : (a b : Bool) → (a || b) ≡ false → b ≡ false
-or_false true b e = never (sym e)
-or_false false b e = e
-
-has_type : (e : Expr) → is_no_value e ≡ false → is_valueless (type_of e) ≡ false
-has_type (leaf h) n = or_false (names_no_value h.op) (is_valueless h.ty) n
-has_type (one h a) n = n
-has_type (two h a b) n = or_false (is_set_key h.op (type_of a)) (is_valueless h.ty) n
-has_type (three h c a b) n = n
-has_type (many h es) n = n
-
-seen_is : (e : Expr) → is_past e ≡ false → seen e ≡ type_of e
-seen_is e past = ap (λ b. if b then unknown else type_of e) past
-
-full_type : (e : Expr) → is_right e ≡ true → is_full (type_of e) ≡ true
-full_type e r = (and_parts (not (is_word e)) (is_full (type_of e)) r).1
-
-is_asked : (e : Expr) → is_right e ≡ true → is_past e ≡ false → knows e ≡ true
-is_asked e r past = and_from (is_known (type_of e)) (not (is_past e)) (full_is_known (type_of e) (full_type e r)) (ap not past)
-
--- what is asked of a value of a full type is so
-asked_so : (e : Expr) (right : Bool) → is_right e ≡ true → is_past e ≡ false → (knows e && not right) ≡ false → right ≡ true
-asked_so e right r past wrong = not_so right (both_false (knows e) (not right) wrong (is_asked e r past))
-
-not_unknown : (t : Ty) → is_full t ≡ true → is_unknown t ≡ true → false ≡ true
-not_unknown (word word_is.Unknown) f u = f
-not_unknown (word _) f u = u
-not_unknown (made m ts) f u = u
-
--- casts, and what widens
-cast_sorts : (s t : Ty) → (is_integer s || is_enum_type s) ≡ true → (is_enum_type s && is_signed t) ≡ false → is_integer t ≡ true → casts (sort_of s) t ≡ true
-cast_sorts (word (word_is.Uint v)) (word (word_is.Uint w)) h e i = refl
-cast_sorts (word (word_is.Uint v)) (word (word_is.Int w)) h e i = refl
-cast_sorts (word (word_is.Int v)) (word (word_is.Uint w)) h e i = refl
-cast_sorts (word (word_is.Int v)) (word (word_is.Int w)) h e i = refl
-cast_sorts (word (word_is.Enum n)) (word (word_is.Uint w)) h e i = refl
-cast_sorts (word (word_is.Enum n)) (word (word_is.Int w)) h e i = never (sym e)
-cast_sorts (word _) (word (word_is.Uint w)) h e i = never h
-cast_sorts (word _) (word (word_is.Int w)) h e i = never h
-cast_sorts (made m ts) (word (word_is.Uint w)) h e i = never h
-cast_sorts (made m ts) (word (word_is.Int w)) h e i = never h
-cast_sorts s (word _) h e i = never i
-cast_sorts s (made m ts) h e i = never i
-
-widen_sorts : (s t : Ty) → widens s t ≡ true → casts (sort_of s) t ≡ true
-widen_sorts (word (word_is.Uint v)) (word (word_is.Uint w)) h = refl
-widen_sorts (word (word_is.Int v)) (word (word_is.Int w)) h = refl
-widen_sorts (word _) (word (word_is.Uint w)) h = never h
-widen_sorts (word _) (word (word_is.Int w)) h = never h
-widen_sorts (word _) (word _) h = never h
-widen_sorts (word _) (made m ts) h = never h
-widen_sorts (made m ts) t h = never h
-
-widened_valued : (s t : Ty) → widens s t ≡ true → is_valueless s ≡ false
-widened_valued (word (word_is.Uint v)) t h = refl
-widened_valued (word (word_is.Int v)) t h = refl
-widened_valued (word _) (word (word_is.Uint w)) h = never h
-widened_valued (word _) (word (word_is.Int w)) h = never h
-widened_valued (word _) (word _) h = never h
-widened_valued (word _) (made m ts) h = never h
-widened_valued (made m ts) t h = never h
-
--- types that are the same, the other way round, and the first of several
-turned : (s t : Ty) → same s t ≡ true → same t s ≡ true
-turned s t e = subst (λ u. same u s ≡ true) (same_is s t e) (same_itself s)
-
-first_part : (ts : Tys) (t : Ty) → same t (first_type ts) ≡ true → is_full t ≡ true → part_is ts 0 t ≡ true
-first_part types.none t e full = never (not_unknown t full (ap is_unknown (same_is t unknown e)))
-first_part (types.more u us) t e full = turned t u e
-
--- a key that goes to a type and needs no widening is of it
-key_same : (s t : Ty) → is_known s ≡ true → is_known t ≡ true → goes s t ≡ true → not (widens s t && not (same s t)) ≡ true → same s t ≡ true
-key_same s t ks kt g n = by (is_known s && is_known t) (same s t) (widens s t) (and_from (is_known s) (is_known t) ks kt) g n
-  where
-    by : (a b c : Bool) → a ≡ true → (not a || b || c) ≡ true → not (c && not b) ≡ true → b ≡ true
-    by true true c k g n = refl
-    by true false true k g n = never n
-    by true false false k g n = never g
-    by false b c k g n = never k
-
-integer_sort : (t : Ty) → is_integer t ≡ true → is_integer_sort (sort_of t) ≡ true
-integer_sort (word (word_is.Uint w)) e = refl
-integer_sort (word (word_is.Int w)) e = refl
-integer_sort (word _) e = never e
-integer_sort (made m ts) e = never e
-
-no_number : (b : Bool) → (b && false) ≡ false
-no_number true = refl
-no_number false = refl
-
-not_true : (b : Bool) → not b ≡ true → b ≡ false
-not_true true e = never e
-not_true false e = refl
+use Rattle.sp_known_kinds.proofs.Values.{sorted, number_in, minus_in, or_false, has_type, seen_is, full_type, is_asked, asked_so, not_unknown, cast_sorts, widen_sorts, widened_valued, turned, first_part, key_same, integer_sort, no_number, not_true, no_regex, and_false, Valued}
+use Rattle.sp_known_kinds.proofs.Calls.{arguments_of, of_list, call_so, row_full, takes_full, method_so, change_so}
 
 module _ (around : Around) (k : Known) (m : ℕ) where
   -- leaves
   abbrev over_of : Ty → LeafOp → Bool
   over_of t op = if number_leaf op then not (type_has t false (leaf_number op)) else (if typed_leaf op then not (type_has t false (leaf_number op)) else false)
 
-  leaf_so : (h : Leaf) (op : LeafOp) → h.op ≡ op → leaf_made around op h.ty ≡ true → Fine (leaf_tests m (leaf h) op) → not (word_leaf op) ≡ true → (number_leaf op && over_of h.ty op) ≡ false → is_valueless h.ty ≡ false → leaf_is_of around op h.ty ≡ true
+  leaf_so : (h : Leaf) (op : LeafOp) → h.op ≡ op → leaf_made around op h.ty ≡ true → Fine (leaf_tests m (leaf h) op) → not (word_leaf op) ≡ true → (number_leaf op && over_of h.ty op) ≡ false → is_regex h.ty ≡ false → leaf_is_of around op h.ty ≡ true
   leaf_so h leaf_is.True is given f w past valued = sorted h.ty Bools (boolean_sort h.ty given)
   leaf_so h leaf_is.False is given f w past valued = sorted h.ty Bools (boolean_sort h.ty given)
   leaf_so h (leaf_is.Number n) is given f w past valued = number_in h.ty n given (not_so (type_has h.ty false n) past)
@@ -187,7 +75,7 @@ module _ (around : Around) (k : Known) (m : ℕ) where
   leaf_so h (leaf_is.Current s) is given f w past valued = either (is_unmeant s) (leaf_is_of around (leaf_is.Current s) h.ty) given (λ u. never (sym f.0 ∙ u)) (λ x. x)
   leaf_so h (leaf_is.Local l) is given f w past valued = given
   leaf_so h (leaf_is.Parameter n s) is given f w past valued = given
-  leaf_so h (leaf_is.Constant c) is given f w past valued = either (is_valueless h.ty) (leaf_is_of around (leaf_is.Constant c) h.ty) given (λ u. never (sym valued ∙ u)) (λ x. x)
+  leaf_so h (leaf_is.Constant c) is given f w past valued = either (is_regex h.ty) (leaf_is_of around (leaf_is.Constant c) h.ty) given (λ u. never (sym valued ∙ u)) (λ x. x)
   leaf_so h (leaf_is.Label j l) is given f w past valued = given
   leaf_so h _ is given f w past valued = never w
 
@@ -281,7 +169,7 @@ module _ (around : Around) (k : Known) (m : ℕ) where
   index_so (made maker_is.Map types.none) t a b given f whole full r past = never whole
   index_so (made maker_is.Map (types.more x types.none)) t a b given f whole full r past = never whole
   index_so (made maker_is.Map (types.more x (types.more v (types.more u us)))) t a b given f whole full r past = never whole
-  index_so (made maker_is.Set ts) t a b given f whole full r past = never (not_unknown t full given)
+  index_so (made maker_is.Set ts) t a b given f whole full r past = never (not_unknown t full (and_parts (is_unknown t) (is_targeted (first_type ts) b) given).0)
   index_so (made maker_is.Tuple ts) t a b given f whole full r past = never (not_unknown t full given)
   index_so (word w) t a b given f whole full r past = never (not_unknown t full given)
 
@@ -320,9 +208,6 @@ module _ (around : Around) (k : Known) (m : ℕ) where
       asked_both : (a b : Expr) → is_right a ≡ true → is_past a ≡ false → is_right b ≡ true → is_past b ≡ false → unlike a b ≡ false → same (type_of a) (type_of b) ≡ true
       asked_both a b s past u late d = not_so (same (type_of a) (type_of b)) (both_false (knows a && knows b) (not (same (type_of a) (type_of b))) d (and_from (knows a) (knows b) (is_asked a s past) (is_asked b u late)))
 
-  abbrev clear : Expr → Bool
-  clear = is_clear any_op k m
-
   -- a node round parts that pass
   one_passes : (h : One) (a : Expr) → is_past (one h a) ≡ false → (is_minus h.op ≡ true → is_number a ≡ true → is_integer h.ty ≡ true) → ((is_minus h.op && is_number a) ≡ false → (expr_passes around a && one_is_of around h.op (type_of a) h.ty) ≡ true) → expr_passes around (one h a) ≡ true
   one_passes h (leaf i) past integer next = minus_so h.op i.op h.ty (expr_passes around (leaf i) && one_is_of around h.op i.ty h.ty) past integer next
@@ -332,10 +217,6 @@ module _ (around : Around) (k : Known) (m : ℕ) where
   one_passes h (many i es) past integer next = next (no_number (is_minus h.op))
 
   -- rows of parts: each is a value, and no literal past its type
-  abbrev Valued : Exprs → Type 0
-  Valued none = Unit {0}
-  Valued (more e es) = ((is_past e ≡ false) × (is_valueless (type_of e) ≡ false)) × Valued es
-
   all_valued : (es : Exprs) → Fine (all_value_tests m es) → Valued es
   all_valued none f = tt
   all_valued (more e es) f = ((f.1.0, has_type e f.0), all_valued es f.1.1)
@@ -361,10 +242,6 @@ module _ (around : Around) (k : Known) (m : ℕ) where
   map_valued span (more e none) f = never (sym f.0)
   map_valued span (more key (more value es)) f = entries_valued true key value (more key (more value es)) f
 
-  and_false : (b : Bool) → (b && true) ≡ false → b ≡ false
-  and_false true e = e
-  and_false false e = e
-
   converted_valued : (span : Span) (es : Exprs) → Fine (convert_tests m span es) → Valued es
   converted_valued span none f = tt
   converted_valued span (more e none) f =
@@ -372,7 +249,15 @@ module _ (around : Around) (k : Known) (m : ℕ) where
       ((not_true (is_past e) c.0, has_type e (and_false (is_no_value e) f.1.0)), tt)
   converted_valued span (more e (more x es)) f = never (not_so false f.0)
 
-  many_valued : (op : ManyOp) (span : Span) (es : Exprs) → is_row op ≡ true → Fine (many_op_tests k m op span es) → Valued es
+  abbrev is_container : ManyOp → Bool
+  is_container many_is.Tuple = true
+  is_container many_is.Vector = true
+  is_container many_is.Set = true
+  is_container many_is.Map = true
+  is_container (many_is.Convert n) = true
+  is_container op = false
+
+  many_valued : (op : ManyOp) (span : Span) (es : Exprs) → is_container op ≡ true → Fine (many_op_tests k m op span es) → Valued es
   many_valued many_is.Tuple span es row f = all_valued es f
   many_valued many_is.Vector span es row f = row_valued false span es f
   many_valued many_is.Set span es row f = row_valued true span es f
@@ -442,7 +327,7 @@ module _ (around : Around) (k : Known) (m : ℕ) where
   abbrev made_tuple : Exprs → Ty
   made_tuple es = made maker_is.Tuple (tys (map seen (listed es)))
 
-  many_so : (op : ManyOp) (t : Ty) (span : Span) (es : Exprs) → is_row op ≡ true → many_made op t es ≡ true → Fine (many_op_tests k m op span es) → is_full t ≡ true → all_hold is_right es ≡ true → Valued es → many_is_of around op es t ≡ true
+  many_so : (op : ManyOp) (t : Ty) (span : Span) (es : Exprs) → is_container op ≡ true → many_made around op t es ≡ true → Fine (many_op_tests k m op span es) → is_full t ≡ true → all_hold is_right es ≡ true → Valued es → many_is_of around op es t ≡ true
   many_so many_is.Tuple t span es row given f full r v =
       subst (λ u. tuple_of u es ≡ true) (sym (same_is t (made_tuple es) given)) (members_so es v)
   many_so many_is.Vector t span es row given f full r v = (let w = row_whole maker_is.Vector t es given full in subst (λ u. vector_with u es ≡ true) (sym w.is) (elements_so w.of es w.all))
@@ -452,7 +337,7 @@ module _ (around : Around) (k : Known) (m : ℕ) where
   many_so _ t span es row given f full r v = never row
 
   -- such a node is made of the values of its parts
-  values_alone : (op : ManyOp) (o : Option ℕ) (kept : ℕ → Bool) (change : Method → Option ℕ → Bool) (values : Bool) → is_row op ≡ true → values ≡ true → row_is_of around (row_of op o) kept change values ≡ true
+  values_alone : (op : ManyOp) (o : Option ℕ) (kept : ℕ → Bool) (change : Method → Option ℕ → Bool) (values : Bool) → is_container op ≡ true → values ≡ true → row_is_of around (row_of op o) kept change values ≡ true
   values_alone many_is.Tuple o kept change values row e = e
   values_alone many_is.Vector o kept change values row e = e
   values_alone many_is.Set o kept change values row e = e
@@ -460,73 +345,250 @@ module _ (around : Around) (k : Known) (m : ℕ) where
   values_alone (many_is.Convert n) o kept change values row e = e
   values_alone _ o kept change values row e = never row
 
-  -- An expression without calls of functions and methods.
-  mutual
-    pub operation_passes : (e : Expr) → holds is_operation e ≡ true → holds (is_made around) e ≡ true → holds clear e ≡ true → holds is_right e ≡ true → holds widens_value e ≡ true → is_past e ≡ false → is_valueless (type_of e) ≡ false → expr_passes around e ≡ true
-    operation_passes (leaf h) o given c r w past valued =
-        leaf_so h h.op refl given (first_fine any_op k m (leaf h) c) (and_parts (not (word_leaf h.op)) (is_full h.ty) r).0 past valued
-    operation_passes (one h a) o given c r w past valued =
-        let e = one h a in
-        let f = first_fine any_op k m e c in
-        let p = and_parts (is_operator h.op) (holds is_operation a) o in
-        let q = and_parts (one_made around h.op h.ty a) (holds (is_made around) a) given in
-        let x = and_parts (clear e) (holds clear a) c in
-        let y = and_parts (is_right e) (holds is_right a) r in
-        let z = and_parts (widens_value e) (holds widens_value a) w in
-        let part = one_valued h.op h.ty a p.0 q.0 f z.0 in
-        let first = at_first is_right a y.1 in
-        one_passes h a past (minus_integer h.op h.ty a q.0) (λ minus. and_from (expr_passes around a) (one_is_of around h.op (type_of a) h.ty) (operation_passes a p.1 q.1 x.1 y.1 z.1 part.0 part.1) (one_so h.op h.ty a p.0 minus q.0 f z.0 first (full_type e y.0)))
-    operation_passes (two h a b) o given c r w past valued =
-        let e = two h a b in
-        let f = first_fine any_op k m e c in
-        let p = and_parts (holds is_operation a) (holds is_operation b) o in
-        let q = and_parts (two_made h.op h.ty a b) (holds (is_made around) a && holds (is_made around) b) given in
-        let q2 = and_parts (holds (is_made around) a) (holds (is_made around) b) q.1 in
-        let x = and_parts (holds clear a) (holds clear b) (and_parts (clear e) (holds clear a && holds clear b) c).1 in
-        let y0 = and_parts (is_right e) (holds is_right a && holds is_right b) r in
-        let y = and_parts (holds is_right a) (holds is_right b) y0.1 in
-        let z = and_parts (holds widens_value a) (holds widens_value b) w in
-        let part = two_valued h.op a b f in
-        and_from (expr_passes around a && expr_passes around b) (two_is_of h.op (type_of a) (type_of b) h.ty)
-        (and_from (expr_passes around a) (expr_passes around b) (operation_passes a p.0 q2.0 x.0 y.0 z.0 part.0 part.1) (operation_passes b p.1 q2.1 x.1 y.1 z.1 part.2 part.3))
-        (two_so h.op h.ty a b q.0 f (at_first is_right a y.0) (at_first is_right b y.1) (full_type e y0.0))
-    operation_passes (three h c a b) o given cl r w past valued =
-        let e = three h c a b in
-        let f = first_fine any_op k m e cl in
-        let p = and_parts (holds is_operation c) (holds is_operation a && holds is_operation b) o in
-        let p2 = and_parts (holds is_operation a) (holds is_operation b) p.1 in
-        let q = and_parts (same h.ty (choice_type a b)) (holds (is_made around) c && (holds (is_made around) a && holds (is_made around) b)) given in
-        let q2 = and_parts (holds (is_made around) c) (holds (is_made around) a && holds (is_made around) b) q.1 in
-        let q3 = and_parts (holds (is_made around) a) (holds (is_made around) b) q2.1 in
-        let x = and_parts (holds clear c) (holds clear a && holds clear b) (and_parts (clear e) (holds clear c && (holds clear a && holds clear b)) cl).1 in
-        let x2 = and_parts (holds clear a) (holds clear b) x.1 in
-        let y = and_parts (holds is_right c) (holds is_right a && holds is_right b) (and_parts (is_right e) (holds is_right c && (holds is_right a && holds is_right b)) r).1 in
-        let y2 = and_parts (holds is_right a) (holds is_right b) y.1 in
-        let z = and_parts (holds widens_value c) (holds widens_value a && holds widens_value b) w in
-        let z2 = and_parts (holds widens_value a) (holds widens_value b) z.1 in
-        and_from (expr_passes around c && expr_passes around a && expr_passes around b) (three_is (type_of c) (type_of a) (type_of b) h.ty)
-        (and_from (expr_passes around c && expr_passes around a) (expr_passes around b)
-        (and_from (expr_passes around c) (expr_passes around a) (operation_passes c p.0 q2.0 x.0 y.0 z.0 f.1.0 (has_type c f.0)) (operation_passes a p2.0 q3.0 x2.0 y2.0 z2.0 f.1.1.1.1.0 (has_type a f.1.1.1.0)))
-        (operation_passes b p2.1 q3.1 x2.1 y2.1 z2.1 f.1.1.1.1.1.1.0 (has_type b f.1.1.1.1.1.0)))
-        (choice_so c a b h.ty q.0 f (at_first is_right c y.0) (at_first is_right a y2.0) (at_first is_right b y2.1))
-    operation_passes (many h es) o given c r w past valued =
-        let e = many h es in
-        let f = first_fine any_op k m e c in
-        let p = and_parts (is_row h.op) (all_hold is_operation es) o in
-        let q = and_parts (many_made h.op h.ty es) (all_hold (is_made around) es) given in
-        let x = and_parts (clear e) (all_hold clear es) c in
-        let y = and_parts (is_right e) (all_hold is_right es) r in
-        let v = many_valued h.op h.span es p.0 f in
-        let each = operations_pass es p.1 q.1 x.1 y.1 w v in
-        values_alone h.op (offset_local (layout_in around) (is_self es)) _ _ (exprs_pass around es && many_is_of around h.op es h.ty) p.0
-        (and_from (exprs_pass around es) (many_is_of around h.op es h.ty) each (many_so h.op h.ty h.span es p.0 q.0 f (full_type e y.0) y.1 v))
+  -- what is known of each node
+  abbrev owned : Expr → Bool
+  owned e = widens_value e && keeps_owner around e
 
-    operations_pass : (es : Exprs) → all_hold is_operation es ≡ true → all_hold (is_made around) es ≡ true → all_hold clear es ≡ true → all_hold is_right es ≡ true → all_hold widens_value es ≡ true → Valued es → exprs_pass around es ≡ true
-    operations_pass none o given c r w v = refl
-    operations_pass (more e es) o given c r w v =
-        let p = and_parts (holds is_operation e) (all_hold is_operation es) o in
-        let q = and_parts (holds (is_made around) e) (all_hold (is_made around) es) given in
-        let x = and_parts (holds clear e) (all_hold clear es) c in
-        let y = and_parts (holds is_right e) (all_hold is_right es) r in
-        let z = and_parts (holds widens_value e) (all_hold widens_value es) w in
-        and_from (expr_passes around e) (exprs_pass around es) (operation_passes e p.0 q.0 x.0 y.0 z.0 v.0.0 v.0.1) (operations_pass es p.1 q.1 x.1 y.1 z.1 v.1)
+  abbrev right_so : Expr → Bool
+  right_so e = is_right e && owned e
+
+  abbrev clear_so : Expr → Bool
+  clear_so e = is_clear any_op k m e && right_so e
+
+  abbrev made_so : Expr → Bool
+  made_so e = is_made around e && clear_so e
+
+  abbrev pub all_so : Expr → Bool
+  all_so e = is_built e && made_so e
+
+  record Node (e : Expr) : Type 0 where
+    built : is_built e ≡ true
+    of_form : is_made around e ≡ true
+    tests : Fine (expr_tests k m e)
+    right : is_right e ≡ true
+    widened : widens_value e ≡ true
+    owner : keeps_owner around e ≡ true
+
+  node_of : (e : Expr) → all_so e ≡ true → Node e
+  node_of e n =
+      let b = and_parts (is_built e) (made_so e) n in
+      let f = and_parts (is_made around e) (clear_so e) b.1 in
+      let c = and_parts (is_clear any_op k m e) (right_so e) f.1 in
+      let r = and_parts (is_right e) (owned e) c.1 in
+      let w = and_parts (widens_value e) (keeps_owner around e) r.1 in
+      record { built = b.0; of_form = f.0; tests = tests_of any_op k m e c.0; right = r.0; widened = w.0; owner = w.1 }
+
+  rights : (es : Exprs) → all_hold all_so es ≡ true → all_hold is_right es ≡ true
+  rights es n = all_hold_both all_so all_so is_right (λ e i j. (node_of e i).right) es n n
+
+  pub joined : (e : Expr) → holds is_built e ≡ true → holds (is_made around) e ≡ true → holds (is_clear any_op k m) e ≡ true → holds is_right e ≡ true → holds widens_value e ≡ true → holds (keeps_owner around) e ≡ true → holds all_so e ≡ true
+  joined e b f c r w o =
+      holds_both is_built made_so all_so (λ x i j. and_from (is_built x) (made_so x) i j) e b
+      (holds_both (is_made around) clear_so made_so (λ x i j. and_from (is_made around x) (clear_so x) i j) e f
+      (holds_both (is_clear any_op k m) right_so clear_so (λ x i j. and_from (is_clear any_op k m x) (right_so x) i j) e c
+      (holds_both is_right owned right_so (λ x i j. and_from (is_right x) (owned x) i j) e r
+      (holds_both widens_value (keeps_owner around) owned (λ x i j. and_from (widens_value x) (keeps_owner around x) i j) e w o))))
+
+  -- a place
+  local_so : (op : LeafOp) (t : Ty) → changes_leaf k op ≡ true → leaf_made around op t ≡ true → not (word_leaf op) ≡ true → local_place around op t ≡ true
+  local_so (leaf_is.Local l) t change given w = given
+  local_so (leaf_is.Nothing at) t change given w = never w
+  local_so _ t change given w = never change
+
+  member_so : (op : OneOp) (t : Ty) (a : Expr) → changes_one op ≡ true → one_made around op t a ≡ true → Fine (one_op_tests m t op a) → not (word_one op) ≡ true → member_place around op (type_of a) t ≡ true
+  member_so (one_is.Field n) t a change given f w = subst (λ s. has_member around s n t ≡ true) (seen_is a f.1.0) given
+  member_so (one_is.Variable n) t a change given f w = subst (λ s. has_member around s n t ≡ true) (seen_is a f.1.0) given
+  member_so (one_is.NoMember at) t a change given f w = never w
+  member_so _ t a change given f w = never change
+
+  element_so : (op : TwoOp) (s u t : Ty) → is_element op s ≡ true → two_is_of op s u t ≡ true → (is_index op && item_is s u t) ≡ true
+  element_so two_is.Index s u t e i = i
+  element_so (two_is.Item n) s u t e i = never e
+  element_so (two_is.Binary op) s u t e i = never e
+
+  -- the receiver of a method that changes it is a place
+  abbrev ReceiverPasses : Exprs → Type 0
+  ReceiverPasses none = Unit {0}
+  ReceiverPasses (more r es) = may_change k r ≡ true → (owner : Option ℕ) → owner_kept around owner r ≡ true → place_passes around owner r ≡ true
+
+  -- a node of any number of parts passes
+  abbrev kept_so : Ty → Exprs → ℕ → Bool
+  kept_so t es l = exprs_pass around es && local_is around l t
+
+  abbrev change_at : Ty → Exprs → Method → Option ℕ → Bool
+  change_at t es call slot = change_passes around call slot t es
+
+  abbrev RowPasses : ManyOp → Ty → Exprs → Type 0
+  RowPasses op t es =
+      row_is_of around (row_of op (offset_local (layout_in around) (is_self es))) (kept_so t es) (change_at t es) (exprs_pass around es && many_is_of around op es t) ≡ true
+
+  container_passes : (op : ManyOp) (t : Ty) (span : Span) (es : Exprs) → is_container op ≡ true → many_made around op t es ≡ true → Fine (many_op_tests k m op span es) → is_full t ≡ true → all_hold is_right es ≡ true → (Valued es → exprs_pass around es ≡ true) → RowPasses op t es
+  container_passes op t span es is given f full r parts =
+      let v = many_valued op span es is f in
+      values_alone op (offset_local (layout_in around) (is_self es)) (kept_so t es) (change_at t es) (exprs_pass around es && many_is_of around op es t) is
+      (and_from (exprs_pass around es) (many_is_of around op es t) (parts v) (many_so op t span es is given f full r v))
+
+  method_row : (call : Method) (slot o : Option ℕ) (kept : ℕ → Bool) (change : Method → Option ℕ → Bool) (values : Bool) → (changes call ≡ true → change call slot ≡ true) → (changes call ≡ false → values ≡ true) → row_is_of around (row_of (many_is.Method call slot) o) kept change values ≡ true
+  method_row call slot o kept change values c v = by (changes call) refl
+    where
+      by : (b : Bool) → changes call ≡ b → row_is_of around (if b then row_is.Changes call slot else row_is.Values) kept change values ≡ true
+      by true e = c e
+      by false e = v e
+
+  offset_row : (o : Option ℕ) (kept : ℕ → Bool) (change : Method → Option ℕ → Bool) (values : Bool) → ((l : ℕ) → o ≡ Some l → kept l ≡ true) → values ≡ true → row_is_of around (kept_in o) kept change values ≡ true
+  offset_row (Some l) kept change values k v = k l refl
+  offset_row None kept change values k v = v
+
+  module _ (asked : IsAsked around k) (offset : offset_kept around around.places.offset ≡ true) where
+    call_passes : (f : ℕ) (t : Ty) (span : Span) (es : Exprs) → many_made around (many_is.Call f) t es ≡ true → Fine (many_op_tests k m (many_is.Call f) span es) → is_full t ≡ true → all_hold is_right es ≡ true → (Valued es → exprs_pass around es ≡ true) → RowPasses (many_is.Call f) t es
+    call_passes f t span es given tests full r parts =
+        let op = many_is.Call f in
+        let found = slice_get around.list.now.functions f in
+        let p = and_parts (same t (given_by found)) (are_targeted (function_takes found) 0 es) given in
+        let fit = not_so (arguments_fit (k.target op unknown) 0 es) tests.0 in
+        let a = arguments_of m (k.target op unknown) (function_takes found) (λ i. asked.target op unknown i) (asked.full f) 0 es fit tests.1 r p.1 in
+        and_from (exprs_pass around es) (call_is found es t) (parts a.1) (call_so found t es p.0 full a.0)
+
+    method_call_passes : (call : Method) (slot : Option ℕ) (t : Ty) (span : Span) (r : Expr) (es : Exprs) → has_place call (more r es) ≡ true → method_made call t (more r es) ≡ true → Fine (many_op_tests k m (many_is.Method call slot) span (more r es)) → all_hold is_right (more r es) ≡ true
+        → receiver_kept around (many_is.Method call slot) (more r es) ≡ true → (Valued (more r es) → exprs_pass around (more r es) ≡ true) → ReceiverPasses (more r es) → RowPasses (many_is.Method call slot) t (more r es)
+    method_call_passes call slot t span r es built given tests right owner parts place =
+        let op = many_is.Method call slot in
+        let all = more r es in
+        let s = type_of r in
+        let past = tests.1.0 in
+        let own : seen r ≡ s = seen_is r past in
+        let x = subst (λ u. (is_sort u (receiver_sort call) && same t (method_gives call u) && are_targeted (slice_get (method_takes call u)) 0 es) ≡ true) own given in
+        let p = and_parts (is_sort s (receiver_sort call) && same t (method_gives call s)) (are_targeted (slice_get (method_takes call s)) 0 es) x in
+        let q = and_parts (is_sort s (receiver_sort call)) (same t (method_gives call s)) p.0 in
+        let y = and_parts (holds is_right r) (all_hold is_right es) right in
+        let full = full_type r (at_first is_right r y.0) in
+        let takes = method_takes call s in
+        let fit = not_so (arguments_fit (k.target op (seen r)) 0 es) tests.1.1.1.0 in
+        let a = arguments_of m (k.target op (seen r)) (slice_get takes) (λ i. asked.target op (seen r) i ∙ ap (λ u. slice_get (method_takes call u) i) own) (row_full takes (takes_full call s q.0 full)) 0 es fit tests.1.1.1.1 y.1 p.1 in
+        let of_types = of_list takes es a.0 in
+        let valued : Valued all = ((past, has_type r tests.0), a.1) in
+        let each = parts valued in
+        let change_so_far : changes call ≡ true → change_at t all call slot ≡ true =
+        λ c.
+        (let may = not_so (may_change k r) (both_false (changes call) (not (may_change k r)) tests.1.1.0 c) in
+        let kept = slot_local (layout_in around) slot in
+        and_from (place_passes around kept r && exprs_pass around es) (change_is call (is_item_place r) s es t)
+        (and_from (place_passes around kept r) (exprs_pass around es) (place may kept owner) (and_parts (expr_passes around r) (exprs_pass around es) each).1)
+        (change_so call (is_item_place r) t s es c built q.0 full q.1 of_types)) in
+        method_row call slot (offset_local (layout_in around) (is_self all)) (kept_so t all) (change_at t all) (exprs_pass around all && many_is_of around op all t) change_so_far
+        (λ c. and_from (exprs_pass around all) (method_is call all t) each (method_so call t r es c q.0 full q.1 of_types))
+
+    -- the offset of a unit, which a local may have
+    offset_found : (b : Bool) (t : Ty) (l : ℕ) → t ≡ number → offset_local (layout_in around) b ≡ Some l → local_is around l t ≡ true
+    offset_found true t l own e = subst (λ u. local_is around l u ≡ true) (sym own) (subst (λ o. offset_kept around o ≡ true) e offset)
+    offset_found false t l own e = absurd (let z : ⊥ = cc in z)
+
+    offset_passes : (name : Span) (t : Ty) (span : Span) (es : Exprs) → unit_method_made unit_is.Offset t es ≡ true → Fine (many_op_tests k m (many_is.OfUnit unit_is.Offset name) span es) → (Valued es → exprs_pass around es ≡ true) → RowPasses (many_is.OfUnit unit_is.Offset name) t es
+    offset_passes name t span none given tests parts = never given
+    offset_passes name t span (more r none) given tests parts =
+        let all = more r none in
+        let past = tests.1.0 in
+        let p = and_parts (is_sort (seen r) Units) (same t number) given in
+        let own = same_is t number p.1 in
+        let each = parts ((past, has_type r tests.0), tt) in
+        let receiver : is_sort (type_of r) Units ≡ true = subst (λ u. is_sort u Units ≡ true) (seen_is r past) p.0 in
+        offset_row (offset_local (layout_in around) (is_self all)) (kept_so t all) (change_at t all) (exprs_pass around all && offset_is all t)
+        (λ l e. and_from (exprs_pass around all) (local_is around l t) each (offset_found (is_self all) t l own e))
+        (and_from (exprs_pass around all) (offset_is all t) each (and_from (is_sort (type_of r) Units) (is_sort t Unsigned) receiver (subst (λ u. is_sort u Unsigned ≡ true) (sym own) refl)))
+    offset_passes name t span (more r (more e es)) given tests parts =
+        let op = many_is.OfUnit unit_is.Offset name in
+        let fit = not_so (arguments_fit (k.target op (seen r)) 0 (more e es)) tests.1.1.1.0 in
+        let p = and_parts (argument_fits (k.target op (seen r) 0) e) (arguments_fit (k.target op (seen r)) 1 es) fit in
+        never (subst (λ o. argument_fits o e ≡ true) (asked.target op (seen r) 0) p.0)
+
+    many_passes : (op : ManyOp) (t : Ty) (span : Span) (es : Exprs) → is_row op es ≡ true → many_made around op t es ≡ true → Fine (many_op_tests k m op span es) → is_full t ≡ true → all_hold is_right es ≡ true → receiver_kept around op es ≡ true → (Valued es → exprs_pass around es ≡ true) → ReceiverPasses es → RowPasses op t es
+    many_passes many_is.Tuple t span es built given f full r owner parts place = container_passes many_is.Tuple t span es refl given f full r parts
+    many_passes many_is.Vector t span es built given f full r owner parts place = container_passes many_is.Vector t span es refl given f full r parts
+    many_passes many_is.Set t span es built given f full r owner parts place = container_passes many_is.Set t span es refl given f full r parts
+    many_passes many_is.Map t span es built given f full r owner parts place = container_passes many_is.Map t span es refl given f full r parts
+    many_passes (many_is.Convert n) t span es built given f full r owner parts place = container_passes (many_is.Convert n) t span es refl given f full r parts
+    many_passes (many_is.Call n) t span es built given f full r owner parts place = call_passes n t span es given f full r parts
+    many_passes (many_is.Method call slot) t span none built given f full r owner parts place = never given
+    many_passes (many_is.Method call slot) t span (more x es) built given f full r owner parts place = method_call_passes call slot t span x es built given f r owner parts place
+    many_passes (many_is.OfUnit unit_is.Offset name) t span es built given f full r owner parts place = offset_passes name t span es given f parts
+    many_passes (many_is.OfUnit _ name) t span es built given f full r owner parts place = never built
+    many_passes _ t span es built given f full r owner parts place = never built
+
+    -- An expression, several, and a place.
+    mutual
+      pub passes : (e : Expr) → holds all_so e ≡ true → is_past e ≡ false → is_regex (type_of e) ≡ false → expr_passes around e ≡ true
+      passes (leaf h) n past valued = (let x = node_of (leaf h) n in leaf_so h h.op refl x.of_form x.tests (and_parts (not (word_leaf h.op)) (is_full h.ty) x.right).0 past valued)
+      passes (one h a) n past valued =
+          let e = one h a in
+          let p = and_parts (all_so e) (holds all_so a) n in
+          let x = node_of e p.0 in
+          let y = node_of a (at_first all_so a p.1) in
+          let part = one_valued h.op h.ty a x.built x.of_form x.tests x.widened in
+          one_passes h a past (minus_integer h.op h.ty a x.of_form) (λ minus. and_from (expr_passes around a) (one_is_of around h.op (type_of a) h.ty) (passes a p.1 part.0 (no_regex (type_of a) part.1)) (one_so h.op h.ty a x.built minus x.of_form x.tests x.widened y.right (full_type e x.right)))
+      passes (two h a b) n past valued =
+          let e = two h a b in
+          let p = and_parts (all_so e) (holds all_so a && holds all_so b) n in
+          let q = and_parts (holds all_so a) (holds all_so b) p.1 in
+          let x = node_of e p.0 in
+          let y = node_of a (at_first all_so a q.0) in
+          let z = node_of b (at_first all_so b q.1) in
+          let part = two_valued h.op a b x.tests in
+          and_from (expr_passes around a && expr_passes around b) (two_is_of h.op (type_of a) (type_of b) h.ty)
+          (and_from (expr_passes around a) (expr_passes around b) (passes a q.0 part.0 (no_regex (type_of a) part.1)) (passes b q.1 part.2 (no_regex (type_of b) part.3)))
+          (two_so h.op h.ty a b x.of_form x.tests y.right z.right (full_type e x.right))
+      passes (three h c a b) n past valued =
+          let e = three h c a b in
+          let p = and_parts (all_so e) (holds all_so c && (holds all_so a && holds all_so b)) n in
+          let q = and_parts (holds all_so c) (holds all_so a && holds all_so b) p.1 in
+          let r = and_parts (holds all_so a) (holds all_so b) q.1 in
+          let x = node_of e p.0 in
+          let f = x.tests in
+          let u = node_of c (at_first all_so c q.0) in
+          let v = node_of a (at_first all_so a r.0) in
+          let w = node_of b (at_first all_so b r.1) in
+          and_from (expr_passes around c && expr_passes around a && expr_passes around b) (three_is (type_of c) (type_of a) (type_of b) h.ty)
+          (and_from (expr_passes around c && expr_passes around a) (expr_passes around b)
+          (and_from (expr_passes around c) (expr_passes around a) (passes c q.0 f.1.0 (no_regex (type_of c) (has_type c f.0))) (passes a r.0 f.1.1.1.1.0 (no_regex (type_of a) (has_type a f.1.1.1.0))))
+          (passes b r.1 f.1.1.1.1.1.1.0 (no_regex (type_of b) (has_type b f.1.1.1.1.1.0))))
+          (choice_so c a b h.ty x.of_form f u.right v.right w.right)
+      passes (many h es) n past valued =
+          let e = many h es in
+          let p = and_parts (all_so e) (all_hold all_so es) n in
+          let x = node_of e p.0 in
+          many_passes h.op h.ty h.span es x.built x.of_form x.tests (full_type e x.right) (rights es p.1) x.owner (λ v. all_pass es p.1 v) (receiver_passes es p.1)
+
+      all_pass : (es : Exprs) → all_hold all_so es ≡ true → Valued es → exprs_pass around es ≡ true
+      all_pass none n v = refl
+      all_pass (more e es) n v =
+          let p = and_parts (holds all_so e) (all_hold all_so es) n in
+          and_from (expr_passes around e) (exprs_pass around es) (passes e p.0 v.0.0 (no_regex (type_of e) v.0.1)) (all_pass es p.1 v.1)
+
+      receiver_passes : (es : Exprs) → all_hold all_so es ≡ true → ReceiverPasses es
+      receiver_passes none n = tt
+      receiver_passes (more r es) n = λ change owner kept. place_so r (and_parts (holds all_so r) (all_hold all_so es) n).0 change owner kept
+
+      pub place_so : (e : Expr) → holds all_so e ≡ true → may_change k e ≡ true → (owner : Option ℕ) → owner_kept around owner e ≡ true → place_passes around owner e ≡ true
+      place_so (leaf h) n change owner kept = (let x = node_of (leaf h) n in local_so h.op h.ty change x.of_form (and_parts (not (word_leaf h.op)) (is_full h.ty) x.right).0)
+      place_so (one h a) n change owner kept =
+          let e = one h a in
+          let p = and_parts (all_so e) (holds all_so a) n in
+          let x = node_of e p.0 in
+          let part = one_valued h.op h.ty a x.built x.of_form x.tests x.widened in
+          and_from (expr_passes around a && owner_is around owner (type_of a)) (member_place around h.op (type_of a) h.ty)
+          (and_from (expr_passes around a) (owner_is around owner (type_of a)) (passes a p.1 part.0 (no_regex (type_of a) part.1)) kept)
+          (member_so h.op h.ty a change x.of_form x.tests (and_parts (not (word_one h.op)) (is_full h.ty) x.right).0)
+      place_so (two h a b) n change owner kept =
+          let e = two h a b in
+          let c = and_parts (is_element h.op (type_of a)) (may_change k a) change in
+          let p = and_parts (all_so e) (holds all_so a && holds all_so b) n in
+          let q = and_parts (holds all_so a) (holds all_so b) p.1 in
+          let x = node_of e p.0 in
+          let y = node_of a (at_first all_so a q.0) in
+          let z = node_of b (at_first all_so b q.1) in
+          let part = two_valued h.op a b x.tests in
+          let item = two_so h.op h.ty a b x.of_form x.tests y.right z.right (full_type e x.right) in
+          let i = and_parts (is_index h.op) (item_is (type_of a) (type_of b) h.ty) (element_so h.op (type_of a) (type_of b) h.ty c.0 item) in
+          and_from (place_passes around owner a && expr_passes around b && is_index h.op) (item_is (type_of a) (type_of b) h.ty)
+          (and_from (place_passes around owner a && expr_passes around b) (is_index h.op) (and_from (place_passes around owner a) (expr_passes around b) (place_so a q.0 c.1 owner kept) (passes b q.1 part.2 (no_regex (type_of b) part.3))) i.0) i.1
+      place_so (three h c a b) n change owner kept = never change
+      place_so (many h es) n change owner kept = never change

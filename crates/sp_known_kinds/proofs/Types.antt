@@ -226,7 +226,7 @@ held_bytes s (made m ts) i a = never i
 members_take : (s t r : Ty) → (has_keys t || is_bytes t) ≡ true → (if is_bytes t then is_bytes s else goes s (key_of t)) ≡ true → r ≡ word word_is.Bool → held (sort_of s) (sort_of t) (sort_of r) ≡ true
 members_take s t r h a e = ap (λ x. held (sort_of s) (sort_of t) x) (ap sort_of e) ∙ either (has_keys t) (is_bytes t) h (held_in s t) (λ i. held_bytes s t i a)
 
-alike_take : (s t r : Ty) → (is_plain s || is_iterator s) ≡ true → (of_one_sign s t || same s t) ≡ true → r ≡ word word_is.Bool → compared (sort_of s) (sort_of t) (sort_of r) ≡ true
+pub alike_take : (s t r : Ty) → (is_plain s || is_iterator s) ≡ true → (of_one_sign s t || same s t) ≡ true → r ≡ word word_is.Bool → compared (sort_of s) (sort_of t) (sort_of r) ≡ true
 alike_take s t r h a e =
     ap (λ x. compared (sort_of s) (sort_of t) x) (ap sort_of e)
     ∙ either (of_one_sign s t) (same s t) a

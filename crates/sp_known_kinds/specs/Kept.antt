@@ -1,9 +1,10 @@
 -- What stands round the code of an expression keeps what is named round its text: locals, parameters and constants.
-use Rattle.std.specs.Prelude.{ℕ, ◌≡◌, ◌+◌, Bool, List, Some, slice_get, IsTrue}
+use Rattle.std.specs.Prelude.{ℕ, ◌≡◌, ◌+◌, Bool, true, List, Option, Some, None, slice_get, IsTrue}
 use Rattle.std.specs.List.{list_all}
 use Rattle.sp_types.specs.Types.{Ty}
 use Rattle.sp_typed.specs.declared.words.LeafOp.TheVariants as leaf_is
 use Rattle.sp_typed_units.specs.declared.declarations.Parameter.{Parameter}
+use Rattle.sp_around.specs.Methods.{number}
 use Rattle.sp_typing_stmts.specs.Scopes.{Local}
 use Rattle.sp_fit_expr.specs.declared.around.Around.{Around}
 use Rattle.sp_fit_expr.specs.Test.{local_is, seen_parameter}
@@ -24,3 +25,15 @@ module _ (around : Around) where
   -- a constant of the list is of the type that its paths have, unless it is a regular expression
   abbrev pub ConstantsKept : (ℕ → Ty) → Type 0
   ConstantsKept constant = (n : ℕ) → IsTrue (leaf_made around (leaf_is.Constant n) (constant n))
+
+  -- the local in which the offset of the field at hand stands, where one does
+  abbrev pub offset_kept : Option ℕ → Bool
+  offset_kept (Some l) = local_is around l number
+  offset_kept None = true
+
+  abbrev pub OffsetKept : Type 0
+  OffsetKept = IsTrue (offset_kept around.places.offset)
+
+  -- the slots of a body are its locals from a number on
+  abbrev pub SlotsKept : List Ty → Type 0
+  SlotsKept slots = (n : ℕ) (t : Ty) → slice_get slots n ≡ Some t → IsTrue (local_is around (around.places.first + n) t)

@@ -3,4 +3,6 @@
 
 mod laws;
 
-pub use laws::{names_are_made, operations_pass, typing_makes_kinds};
+pub use laws::{
+    expressions_pass, names_are_made, owners_are_kept, places_pass, typing_makes_kinds,
+};

@@ -2,7 +2,7 @@ use Rattle.sp_known_kinds.proofs.Names.{locals_made, parameters_made, self_made,
 use Rattle.sp_known_kinds.proofs.laws.names_are_made.Goals as goal
 
 pub returns-clause-module : goal.returns-clause-module
-returns-clause-module c = λ around list facts m constants members. module_made around list facts m constants members
+returns-clause-module c = λ around list facts m constants gives takes members. module_made around list facts m constants gives takes members
 
 pub returns-clause-locals : goal.returns-clause-locals
 returns-clause-locals c = λ around g ls known kept. locals_made around g ls known kept

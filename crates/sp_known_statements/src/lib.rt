@@ -1,0 +1,6 @@
+//! In a body in which no rule is broken each statement has the parts that its form asks.
+#![tactic(auto)]
+
+mod laws;
+
+pub use laws::{statements_pass, typing_makes_statements};
