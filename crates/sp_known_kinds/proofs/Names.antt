@@ -237,14 +237,14 @@ module _ (around : Around) where
   all_left_out (many_is.Method m slot) span n = left_out_made m span n
   all_left_out _ span n = refl
 
-  module _ (list : List Tree) (facts : Facts) (m : ℕ) (constants : ConstantsKept around facts.constant) where
-    declared_made : (span : Span) (g : ℕ) (s : DeclSort) → Made (declared_at list facts.answers facts.constant span g s)
-    declared_made span g sort_is.Constant = constants (number_at list g)
-    declared_made span g sort_is.Function = refl
-    declared_made span g _ = type_made (facts.answers g) unknown
+  module _ (list : List Tree) (facts : Facts) (m : ℕ) (constants : ConstantsKept around list facts.constant) where
+    declared_made : (span : Span) (g : ℕ) (s : DeclSort) → sort_at list g ≡ s → Made (declared_at list facts.answers facts.constant span g s)
+    declared_made span g sort_is.Constant is = constants g is
+    declared_made span g sort_is.Function is = refl
+    declared_made span g _ is = type_made (facts.answers g) unknown
 
     meaning_made : (span : Span) (path : Tree) (meaning : Meaning) → Made (meaning_at list facts.answers facts.constant span path meaning)
-    meaning_made span path (meaning_is.Declaration g) = declared_made span g (sort_at list g)
+    meaning_made span path (meaning_is.Declaration g) = declared_made span g (sort_at list g) refl
     meaning_made span path (meaning_is.LibraryEnum n) = refl
     meaning_made span path (meaning_is.Label owner label) = number_itself owner
     meaning_made span path meaning_is.Decoder = refl

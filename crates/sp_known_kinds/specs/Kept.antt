@@ -1,9 +1,12 @@
 -- What stands round the code of an expression keeps what is named round its text: locals, parameters and constants.
 use Rattle.std.specs.Prelude.{ℕ, ◌≡◌, ◌+◌, Bool, true, List, Option, Some, None, slice_get, IsTrue}
 use Rattle.std.specs.List.{list_all}
+use Rattle.sp_ast.specs.Trees.{Tree}
 use Rattle.sp_types.specs.Types.{Ty}
 use Rattle.sp_typed.specs.declared.words.LeafOp.TheVariants as leaf_is
 use Rattle.sp_typed_units.specs.declared.declarations.Parameter.{Parameter}
+use Rattle.sp_names.specs.declared.sort.DeclSort.TheVariants as sort_is
+use Rattle.sp_names.specs.Declarations.{sort_at, number_at}
 use Rattle.sp_around.specs.Methods.{number}
 use Rattle.sp_typing_stmts.specs.Scopes.{Local}
 use Rattle.sp_fit_expr.specs.declared.around.Around.{Around}
@@ -22,9 +25,10 @@ module _ (around : Around) where
   abbrev pub ParametersKept : ℕ → List Parameter → Type 0
   ParametersKept first ps = (n : ℕ) (p : Parameter) → slice_get ps n ≡ Some p → IsTrue (seen_parameter around (first + n) p.ty)
 
-  -- a constant of the list is of the type that its paths have, unless it is a regular expression
-  abbrev pub ConstantsKept : (ℕ → Ty) → Type 0
-  ConstantsKept constant = (n : ℕ) → IsTrue (leaf_made around (leaf_is.Constant n) (constant n))
+  -- a declared constant is of the type that its paths have, unless it is a regular expression
+  abbrev pub ConstantsKept : List Tree → (ℕ → Ty) → Type 0
+  ConstantsKept list constant =
+      (g : ℕ) → sort_at list g ≡ sort_is.Constant → IsTrue (leaf_made around (leaf_is.Constant (number_at list g)) (constant (number_at list g)))
 
   -- the local in which the offset of the field at hand stands, where one does
   abbrev pub offset_kept : Option ℕ → Bool

@@ -40,7 +40,7 @@ pub fn typing_makes_kinds()
 /// them.
 pub fn names_are_made()
     ensures module { (around : Around) (list : List Tree) (facts : Facts) (m : ℕ)
-        → ConstantsKept around facts.constant
+        → ConstantsKept around list facts.constant
         → ((f : ℕ) → function_gives list facts.answers f ≡ given_by (slice_get around.list.now.functions f))
         → ((f n : ℕ) → slice_get (takes_of list facts.answers f) n ≡ function_takes (slice_get around.list.now.functions f) n)
         → ((t : Ty) (name : List ℕ) (found : Member) → member_of list facts.stored t name ≡ Some found → IsTrue (member_made around found.op t found.ty))
