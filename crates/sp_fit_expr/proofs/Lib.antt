@@ -3,6 +3,6 @@ pub mod Lengths
 pub mod OfTypes
 mod Leaves
 mod Forms
-mod OfValues
+pub mod OfValues
 mod Pieces
 pub mod Sound

@@ -64,7 +64,7 @@ use Rattle.sp_known_constants.proofs.Evaluated.{of_constant, constant_stands}
 use Rattle.sp_known_constants.proofs.Fine.{inside, first, rest, formed}
 use Rattle.sp_known_constants.proofs.Declarations.{AllOf, ValueFine, declaration_fine}
 use Rattle.sp_known_constants.proofs.Labels.{enum_found}
-use Rattle.sp_known_constants.proofs.Places.{placed_fits}
+use Rattle.sp_known_constants.proofs.Places.{equal_itself, placed_fits}
 use Rattle.sp_known_constants.proofs.Clear.{all_clear}
 use Rattle.sp_known_constants.proofs.Constants.{EachFrom, Answers, values_known, values_told, value_formed}
 
@@ -100,7 +100,7 @@ shown_constant outcome_is.NotConstant e = never (sym e)
 shown_constant _ e = refl
 
 unsigned_numbered : (owner : ℕ) (t : Ty) (o : Outcome) → is_unsigned t ≡ true → fits t o ≡ true → fits (word (word_is.Enum owner)) (labelled owner o) ≡ true
-unsigned_numbered owner (word (word_is.Uint x)) (outcome_is.Value (uint w n)) u f = refl
+unsigned_numbered owner (word (word_is.Uint x)) (outcome_is.Value (uint w n)) u f = equal_itself owner
 unsigned_numbered owner (word (word_is.Uint x)) (outcome_is.Value _) u f = never f
 unsigned_numbered owner (word (word_is.Uint x)) (outcome_is.Regex text) u f = never f
 unsigned_numbered owner (word (word_is.Uint x)) outcome_is.NotConstant u f = refl
@@ -111,7 +111,7 @@ unsigned_numbered owner _ o u f = never u
 -- one more than the label before
 more_fits : (owner i : ℕ) (b : Bool) → is_past_label (or_past (number_is.Number i) (shown_number (if b then outcome_is.Value (enum owner (i + 1)) else outcome_is.Unknown))) ≡ false
     → fits (word (word_is.Enum owner)) (if b then outcome_is.Value (enum owner (i + 1)) else outcome_is.Unknown) ≡ true
-more_fits owner i true past = refl
+more_fits owner i true past = equal_itself owner
 more_fits owner i false past = never (sym past)
 
 next_fits : (owner : ℕ) (o : Outcome) → fits (word (word_is.Enum owner)) o ≡ true → is_past_label (or_past (shown_number o) (shown_number (next_label owner o))) ≡ false → fits (word (word_is.Enum owner)) (next_label owner o) ≡ true
@@ -248,13 +248,13 @@ module _ (list : List Tree) (f : ℕ → Option Ty) where
           let e = label_expr list f known m number in
           let valued = own_value n i lt ∙ ap (λ j. value_or (known j)) (sym at) ∙ ap value_or is in
           (numbered_good owner m i number fine told valued names (and_parts (not (is_past_label (own_number list f known owner i))) (none_hold (number_tests k m (own_number list f known owner i) e)) tests).1).0
-      entry_good n m i p true None x at zero_is lt fine names tests is told = refl
+      entry_good n m i p true None x at zero_is lt fine names tests is told = equal_itself (library_enums + n)
       entry_good n m i p false None x at zero_is lt fine names tests is told =
           let owner = library_enums + n in
           let l = length (constants list f) in
           let b = length (labels_before list n) in
           let back = step_back l b i p at zero_is in
-          let fit = subst (λ j. is_answered (known j) ≡ true → fits (word (word_is.Enum owner)) (value_or (known j)) ≡ true) (sym back.0) (placed_fits list f known it.settled owner (b + (i - 1))) (and_parts (is_answered (known (p - 1))) true told).0 in
+          let fit = subst (λ j. is_answered (known j) ≡ true → fits (word (word_is.Enum owner)) (value_or (known j)) ≡ true) (sym back.0) (placed_fits list f known it.settled n (i - 1) (omega (arith, lt))) (and_parts (is_answered (known (p - 1))) true told).0 in
           let last = own_value n (i - 1) (omega (arith, lt)) ∙ ap (λ j. value_or (known j)) (sym back.1) in
           let this = own_value n i lt ∙ ap (λ j. value_or (known j)) (sym at) ∙ ap value_or is in
           let past : is_past_label (or_past (own_number list f known owner (i - 1)) (own_number list f known owner i)) ≡ false =

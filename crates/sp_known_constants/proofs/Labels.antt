@@ -30,6 +30,7 @@ use Rattle.sp_declared_values.specs.TypedRows.{shown_number, or_past, number_at,
 use Rattle.sp_known_types.proofs.Full.{never}
 use Rattle.sp_known_values.specs.Values.{fits}
 use Rattle.sp_whole_list.proofs.Modules.{none_found, some_found}
+use Rattle.sp_known_constants.proofs.Places.{equal_itself}
 
 -- a label that a path names is there
 module _ (list : List Tree) where
@@ -113,7 +114,7 @@ Fits owner n = fits (word (word_is.Enum owner)) (used (label_outcome owner n)) �
 -- labels of the library
 rows_fit : (owner k j : ℕ) (ns : List (List ℕ)) → j < length ns → fits (word (word_is.Enum owner)) (used (label_told owner (slice_get (library_rows k ns) j))) ≡ true
 rows_fit owner k j [] lt = absurd (let z : ⊥ = omega (arith, lt) in z)
-rows_fit owner k zero (x ∷ ns) lt = refl
+rows_fit owner k zero (x ∷ ns) lt = equal_itself owner
 rows_fit owner k (suc j) (x ∷ ns) lt = rows_fit owner (suc k) j ns (omega (arith, lt))
 
 module _ (list : List Tree) (f : ℕ → Option Ty) (known : ℕ → Option Answer) where
@@ -145,7 +146,7 @@ module _ (list : List Tree) (f : ℕ → Option Ty) (known : ℕ → Option Answ
 
   -- the number of a label whose value fits
   shown_fits : (owner : ℕ) (o : Outcome) → fits (word (word_is.Enum owner)) o ≡ true → Fits owner (shown_number o)
-  shown_fits owner (outcome_is.Value (enum k n)) e = refl
+  shown_fits owner (outcome_is.Value (enum k n)) e = equal_itself owner
   shown_fits owner (outcome_is.Value _) e = never e
   shown_fits owner (outcome_is.Regex t) e = never e
   shown_fits owner outcome_is.NotConstant e = refl

@@ -1,5 +1,5 @@
 -- Where the answers of constants and labels stand, and what they are where they are settled.
-use Rattle.std.specs.Prelude.{◌==◌, nat_lt, if◌then◌else◌}
+use Rattle.std.specs.Prelude.{◌==◌, ◌≤◌, nat_lt, if◌then◌else◌}
 use Rattle.std.specs.List.{list_all}
 use Rattle.std.proofs.Common.{ℕ, ◌≡◌, ◌<◌, ◌+◌, ◌-◌, zero, suc, Bool, true, false, refl, sym, ap, subst, ◌∙◌, arith, List, [], ◌∷◌, ◌++◌, length, take, Option, Some, None, slice_get}
 use Rattle.std.proofs.lemmas.Bool.{and_parts, and_from}
@@ -17,7 +17,7 @@ use Rattle.sp_names.specs.declared.rows.Declaration.{Declaration}
 use Rattle.sp_names.specs.declared.sort.DeclSort.{DeclSort}
 use Rattle.sp_names.specs.declared.sort.DeclSort.TheVariants as sort_is
 use Rattle.sp_names.specs.Declarations.{rows, sort_of, sort_or, sort_at, sort_number, all_of, all_from, declaration_at, number_in, number_at, library_enums, type_tree_of}
-use Rattle.sp_names.specs.Names.{declaration_of, enum_labels, own_labels}
+use Rattle.sp_names.specs.Names.{declaration_of, enum_labels, own_labels, labels_of}
 use Rattle.sp_names.specs.Types.{one_or_none}
 use Rattle.sp_typing_units.specs.Attributes.{present}
 use Rattle.sp_constants.specs.declared.outcome.Outcome.{Outcome}
@@ -49,14 +49,11 @@ told_fits t outcome_is.NotConstant e = refl
 told_fits t outcome_is.Error e = refl
 told_fits t outcome_is.Unknown e = never e
 
--- each enum's labels are alike
-pub enum_fits : (x y : ℕ) (o : Outcome) → fits (word (word_is.Enum x)) o ≡ true → fits (word (word_is.Enum y)) o ≡ true
-enum_fits x y (outcome_is.Value (enum k n)) e = refl
-enum_fits x y (outcome_is.Value _) e = never e
-enum_fits x y (outcome_is.Regex text) e = never e
-enum_fits x y outcome_is.NotConstant e = refl
-enum_fits x y outcome_is.Error e = refl
-enum_fits x y outcome_is.Unknown e = never e
+pub equal_itself : (n : ℕ) → (n == n) ≡ true
+equal_itself n = grind (arith, nat_tests)
+
+equal_numbers : (m n : ℕ) → (m == n) ≡ true → m ≡ n
+equal_numbers m n e = grind (arith, nat_tests)
 
 type_good : (w : Option Ty) (o : Option Answer) → is_answered o ≡ true → is_full (type_or w o) ≡ true
 type_good None None e = never e
@@ -77,36 +74,96 @@ behind_front (x ∷ xs) ys j =
     let e : suc (length xs) + j ≡ suc (length xs + j) = omega arith in
     ap (slice_get (x ∷ (xs ++ ys))) e ∙ behind_front xs ys j
 
--- labels are no constants
-abbrev is_label : Valued → Bool
-is_label (valued_is.Constant m written value) = false
-is_label _ = true
+-- the label of an enum
+abbrev is_label : ℕ → Valued → Bool
+is_label owner (valued_is.Constant m written value) = false
+is_label owner (valued_is.Numbered x m number) = x == owner
+is_label owner (valued_is.First x) = x == owner
+is_label owner (valued_is.Next x) = x == owner
 
-label_is : (owner m : ℕ) (first : Bool) (o : Option Tree) → is_label (label_of owner m first o) ≡ true
-label_is owner m first (Some number) = refl
-label_is owner m true None = refl
-label_is owner m false None = refl
+label_is : (owner m : ℕ) (first : Bool) (o : Option Tree) → is_label owner (label_of owner m first o) ≡ true
+label_is owner m first (Some number) = equal_itself owner
+label_is owner m true None = equal_itself owner
+label_is owner m false None = equal_itself owner
 
-labels_are : (owner m : ℕ) (first : Bool) (ts : List Tree) → list_all is_label (labels_from owner m first ts) ≡ true
+labels_are : (owner m : ℕ) (first : Bool) (ts : List Tree) → list_all (is_label owner) (labels_from owner m first ts) ≡ true
 labels_are owner m first [] = refl
 labels_are owner m first (t ∷ ts) =
-    and_from (is_label (label_of owner m first (present (number_tree t)))) (list_all is_label (labels_from owner m false ts)) (label_is owner m first (present (number_tree t))) (labels_are owner m false ts)
+    and_from (is_label owner (label_of owner m first (present (number_tree t)))) (list_all (is_label owner) (labels_from owner m false ts)) (label_is owner m first (present (number_tree t))) (labels_are owner m false ts)
 
-declared_are : (owner : ℕ) (o : Option Declaration) → list_all is_label (declared_labels owner o) ≡ true
+declared_are : (owner : ℕ) (o : Option Declaration) → list_all (is_label owner) (declared_labels owner o) ≡ true
 declared_are owner None = refl
 declared_are owner (Some d) = labels_are owner d.«module» true (enum_labels (type_tree_of d.tree))
 
-all_are : (list : List Tree) (n : ℕ) → list_all is_label (labels_before list n) ≡ true
-all_are list zero = refl
-all_are list (suc n) =
-    let last = declared_labels (library_enums + n) (declaration_of list (slice_get (all_of sort_is.Enum list) n)) in
-    list_all-append is_label (labels_before list n) last
-    ∙ and_from (list_all is_label (labels_before list n)) (list_all is_label last) (all_are list n) (declared_are (library_enums + n) (declaration_of list (slice_get (all_of sort_is.Enum list) n)))
+label_at : (owner : ℕ) (vs : List Valued) (j : ℕ) (v : Valued) → list_all (is_label owner) vs ≡ true → slice_get vs j ≡ Some v → is_label owner v ≡ true
+label_at owner [] j v all e = none_found v e
+label_at owner (x ∷ vs) zero v all e = sym (ap (is_label owner) (some_found x v e)) ∙ (and_parts (is_label owner x) (list_all (is_label owner) vs) all).0
+label_at owner (x ∷ vs) (suc j) v all e = label_at owner vs j v (and_parts (is_label owner x) (list_all (is_label owner) vs) all).1 e
 
-label_at : (vs : List Valued) (j : ℕ) (v : Valued) → list_all is_label vs ≡ true → slice_get vs j ≡ Some v → is_label v ≡ true
-label_at [] j v all e = none_found v e
-label_at (x ∷ vs) zero v all e = sym (ap is_label (some_found x v e)) ∙ (and_parts (is_label x) (list_all is_label vs) all).0
-label_at (x ∷ vs) (suc j) v all e = label_at vs j v (and_parts (is_label x) (list_all is_label vs) all).1 e
+-- where the labels of an enum of the list stand
+before_front : {A : Type 0} (xs ys : List A) (j : ℕ) → j < length xs → slice_get (xs ++ ys) j ≡ slice_get xs j
+before_front [] ys j lt = absurd (let z : ⊥ = omega (arith, lt) in z)
+before_front (x ∷ xs) ys zero lt = refl
+before_front (x ∷ xs) ys (suc j) lt = before_front xs ys j (omega (arith, lt))
+
+long : {A : Type 0} (xs ys : List A) → length (xs ++ ys) ≡ length xs + length ys
+long [] ys = (let e : length ys ≡ 0 + length ys = omega arith in e)
+long (x ∷ xs) ys = (let h = long xs ys in omega (arith, h))
+
+found_below : {A : Type 0} (xs : List A) (n : ℕ) (x : A) → slice_get xs n ≡ Some x → n < length xs
+found_below [] n x e = none_found x e
+found_below (y ∷ xs) zero x e = omega arith
+found_below (y ∷ xs) (suc n) x e = (let h = found_below xs n x e in omega (arith, h))
+
+module _ (list : List Tree) where
+  abbrev own_row : ℕ → List Valued
+  own_row k = declared_labels (library_enums + k) (declaration_of list (slice_get (all_of sort_is.Enum list) k))
+
+  as_many_labels : (owner m : ℕ) (first : Bool) (ts : List Tree) → length (labels_from owner m first ts) ≡ length ts
+  as_many_labels owner m first [] = refl
+  as_many_labels owner m first (t ∷ ts) = ap suc (as_many_labels owner m false ts)
+
+  as_many_declared : (owner : ℕ) (o : Option Declaration) → length (declared_labels owner o) ≡ length (labels_of o)
+  as_many_declared owner None = refl
+  as_many_declared owner (Some d) = as_many_labels owner d.«module» true (enum_labels (type_tree_of d.tree))
+
+  rises : (n k : ℕ) → k < n → length (labels_before list k) + length (own_row k) ≤ length (labels_before list n)
+  rises zero k lt = absurd (let z : ⊥ = omega (arith, lt) in z)
+  rises (suc n) k lt = by (k == n) refl (rises n k)
+    where
+      by : (b : Bool) → (k == n) ≡ b → (k < n → length (labels_before list k) + length (own_row k) ≤ length (labels_before list n)) → length (labels_before list k) + length (own_row k) ≤ length (labels_before list n ++ own_row n)
+      by true e next =
+          let same : k ≡ n = grind (arith, nat_tests) in
+          let both = long (labels_before list n) (own_row n) in
+          subst (λ j. length (labels_before list j) + length (own_row j) ≤ length (labels_before list n ++ own_row n)) (sym same) (omega (arith, both))
+      by false e next =
+          let before : k < n = grind (arith, nat_tests) in
+          let h = next before in
+          let both = long (labels_before list n) (own_row n) in
+          let z : length (labels_before list k) + length (own_row k) ≤ length (labels_before list n ++ own_row n) = omega (arith, h, both) in
+          z
+
+  enum_there : (k i : ℕ) → i < length (own_labels list k) → k < length (all_of sort_is.Enum list)
+  enum_there k i below = by (slice_get (all_of sort_is.Enum list) k) refl below
+    where
+      by : (o : Option ℕ) → slice_get (all_of sort_is.Enum list) k ≡ o → i < length (labels_of (declaration_of list o)) → k < length (all_of sort_is.Enum list)
+      by None at h = absurd (let z : ⊥ = omega (arith, h) in z)
+      by (Some g) at h = found_below (all_of sort_is.Enum list) k g at
+
+  label_in : (n k i : ℕ) (v : Valued) → k < n → i < length (own_row k) → slice_get (labels_before list n) (length (labels_before list k) + i) ≡ Some v → is_label (library_enums + k) v ≡ true
+  label_in zero k i v lt below e = absurd (let z : ⊥ = omega (arith, lt) in z)
+  label_in (suc n) k i v lt below e = by (k == n) refl (label_in n k i v)
+    where
+      by : (b : Bool) → (k == n) ≡ b → (k < n → i < length (own_row k) → slice_get (labels_before list n) (length (labels_before list k) + i) ≡ Some v → is_label (library_enums + k) v ≡ true) → is_label (library_enums + k) v ≡ true
+      by true is next =
+          let same : k ≡ n = grind (arith, nat_tests) in
+          let here : slice_get (own_row n) i ≡ Some v = sym (behind_front (labels_before list n) (own_row n) i) ∙ subst (λ j. slice_get (labels_before list n ++ own_row n) (length (labels_before list j) + i) ≡ Some v) same e in
+          subst (λ j. is_label (library_enums + j) v ≡ true) (sym same) (label_at (library_enums + n) (own_row n) i v (declared_are (library_enums + n) (declaration_of list (slice_get (all_of sort_is.Enum list) n))) here)
+      by false is next =
+          let before : k < n = grind (arith, nat_tests) in
+          let h = rises n k before in
+          let within : length (labels_before list k) + i < length (labels_before list n) = omega (arith, h, below) in
+          next before below (sym (before_front (labels_before list n) (own_row n) (length (labels_before list k) + i) within) ∙ e)
 
 module _ (list : List Tree) (f : ℕ → Option Ty) where
   -- how many constants stand before one
@@ -198,44 +255,59 @@ module _ (list : List Tree) (f : ℕ → Option Ty) where
           let lt = in_row k.0 i a k.1 in
           (when_done (gives list f known i) a (first_open known (needs list f i)) (sym (try_within all (needs list f) (gives list f) known i lt) ∙ settled.solved i a e)).1
 
-      -- the value of a label is one of an enum
-      case_fits : (owner p : ℕ) (v : Valued) → is_label v ≡ true → is_good (answer_of list f known p (Some v)) ≡ true → fits (word (word_is.Enum owner)) (answer_of list f known p (Some v)).value ≡ true
+      -- the value of a label is one of its enum
+      case_fits : (owner p : ℕ) (v : Valued) → is_label owner v ≡ true → is_good (answer_of list f known p (Some v)) ≡ true → fits (word (word_is.Enum owner)) (answer_of list f known p (Some v)).value ≡ true
       case_fits owner p (valued_is.Constant m written value) l e = never l
-      case_fits owner p (valued_is.Numbered x m number) l e = enum_fits x owner (answer_of list f known p (Some (valued_is.Numbered x m number))).value e
-      case_fits owner p (valued_is.First x) l e = enum_fits x owner (answer_of list f known p (Some (valued_is.First x))).value e
-      case_fits owner p (valued_is.Next x) l e = enum_fits x owner (answer_of list f known p (Some (valued_is.Next x))).value e
+      case_fits owner p (valued_is.Numbered x m number) l e = subst (λ k. fits (word (word_is.Enum k)) (answer_of list f known p (Some (valued_is.Numbered x m number))).value ≡ true) (equal_numbers x owner l) e
+      case_fits owner p (valued_is.First x) l e = subst (λ k. fits (word (word_is.Enum k)) (answer_of list f known p (Some (valued_is.First x))).value ≡ true) (equal_numbers x owner l) e
+      case_fits owner p (valued_is.Next x) l e = subst (λ k. fits (word (word_is.Enum k)) (answer_of list f known p (Some (valued_is.Next x))).value ≡ true) (equal_numbers x owner l) e
 
-      entry_fits : (owner p j : ℕ) (a : Answer) (o : Option Valued) → slice_get (labels list) j ≡ o → answer_of list f known p o ≡ a → is_good a ≡ true → fits (word (word_is.Enum owner)) a.value ≡ true
-      entry_fits owner p j a None at same good = sym (ap (λ (a : Answer). fits (word (word_is.Enum owner)) a.value) same)
-      entry_fits owner p j a (Some v) at same good =
-          sym (ap (λ (a : Answer). fits (word (word_is.Enum owner)) a.value) same)
-          ∙ case_fits owner p v (label_at (labels list) j v (all_are list (length (all_of sort_is.Enum list))) at) (ap is_good same ∙ good)
+      module _ (k i : ℕ) (lt : k < length (all_of sort_is.Enum list)) (below : i < length (own_row list k)) where
+        abbrev own : ℕ
+        own = library_enums + k
 
-      label_fits : (owner j : ℕ) (a : Answer) → known (length (constants list f) + j) ≡ Some a → is_good a ≡ true → fits (word (word_is.Enum owner)) a.value ≡ true
-      label_fits owner j a at good =
-          let p = length (constants list f) + j in
-          entry_fits owner p j a (slice_get (labels list) j) refl (sym (ap (answer_of list f known p) (behind_front (constants list f) (labels list) j)) ∙ answer_is p a at) good
+        abbrev at_place : ℕ
+        at_place = length (labels_before list k) + i
+
+        entry_fits : (p : ℕ) (a : Answer) (o : Option Valued) → slice_get (labels list) at_place ≡ o → answer_of list f known p o ≡ a → is_good a ≡ true → fits (word (word_is.Enum own)) a.value ≡ true
+        entry_fits p a None at same good = sym (ap (λ (a : Answer). fits (word (word_is.Enum own)) a.value) same)
+        entry_fits p a (Some v) at same good =
+            sym (ap (λ (a : Answer). fits (word (word_is.Enum own)) a.value) same)
+            ∙ case_fits own p v (label_in list (length (all_of sort_is.Enum list)) k i v lt below at) (ap is_good same ∙ good)
+
+        label_fits : (a : Answer) → known (length (constants list f) + at_place) ≡ Some a → is_good a ≡ true → fits (word (word_is.Enum own)) a.value ≡ true
+        label_fits a at good =
+            let p = length (constants list f) + at_place in
+            entry_fits p a (slice_get (labels list) at_place) refl (sym (ap (answer_of list f known p) (behind_front (constants list f) (labels list) at_place)) ∙ answer_is p a at) good
 
       -- the same, where it is answered
-      pub placed_fits : (owner j : ℕ) → is_answered (known (length (constants list f) + j)) ≡ true → fits (word (word_is.Enum owner)) (value_or (known (length (constants list f) + j))) ≡ true
-      placed_fits owner j e = by (known (length (constants list f) + j)) refl e
+      pub placed_fits : (k i : ℕ) → i < length (own_labels list k) → is_answered (known (length (constants list f) + (length (labels_before list k) + i))) ≡ true
+          → fits (word (word_is.Enum (library_enums + k))) (value_or (known (length (constants list f) + (length (labels_before list k) + i)))) ≡ true
+      placed_fits k i below e = by (known (length (constants list f) + (length (labels_before list k) + i))) refl e
         where
-          by : (o : Option Answer) → known (length (constants list f) + j) ≡ o → is_answered o ≡ true → fits (word (word_is.Enum owner)) (value_or o) ≡ true
+          count : length (own_row list k) ≡ length (own_labels list k)
+          count = as_many_declared list (library_enums + k) (declaration_of list (slice_get (all_of sort_is.Enum list) k))
+
+          by : (o : Option Answer) → known (length (constants list f) + (length (labels_before list k) + i)) ≡ o → is_answered o ≡ true → fits (word (word_is.Enum (library_enums + k))) (value_or o) ≡ true
           by None at h = never h
-          by (Some a) at h = label_fits owner j a at h
+          by (Some a) at h = (let c = count in label_fits k i (enum_there list k i below) (omega (arith, below, c)) a at h)
 
       pub value_fits : (owner n : ℕ) → are_answered known (one_or_none (label_place list f owner n)) ≡ true → fits (word (word_is.Enum owner)) (label_value list f known owner n) ≡ true
-      value_fits owner n e = by (nat_lt owner library_enums) e
+      value_fits owner n e = by (nat_lt owner library_enums) refl e
         where
-          own : (many before : ℕ) (c : Bool) → ((j : ℕ) → is_answered (known (many + j)) ≡ true → fits (word (word_is.Enum owner)) (value_or (known (many + j))) ≡ true)
-              → are_answered known (one_or_none (if c then Some (many + before + n) else None)) ≡ true → fits (word (word_is.Enum owner)) (value_or (answer_at known (if c then Some (many + before + n) else None))) ≡ true
-          own many before true fit h =
+          own : (k many before : ℕ) (c : Bool) → (c ≡ true → is_answered (known (many + (before + n))) ≡ true → fits (word (word_is.Enum (library_enums + k))) (value_or (known (many + (before + n)))) ≡ true)
+              → are_answered known (one_or_none (if c then Some (many + before + n) else None)) ≡ true → fits (word (word_is.Enum (library_enums + k))) (value_or (answer_at known (if c then Some (many + before + n) else None))) ≡ true
+          own k many before true fit h =
               let s : many + (before + n) ≡ many + before + n = omega arith in
-              subst (λ p. is_answered (known p) ≡ true → fits (word (word_is.Enum owner)) (value_or (known p)) ≡ true) s (fit (before + n)) (and_parts (is_answered (known (many + before + n))) true h).0
-          own many before false fit h = refl
+              subst (λ p. is_answered (known p) ≡ true → fits (word (word_is.Enum (library_enums + k))) (value_or (known p)) ≡ true) s (fit refl) (and_parts (is_answered (known (many + before + n))) true h).0
+          own k many before false fit h = refl
 
-          by : (b : Bool) → are_answered known (one_or_none (if b then None else own_place list f (owner - library_enums) n)) ≡ true
+          by : (b : Bool) → nat_lt owner library_enums ≡ b → are_answered known (one_or_none (if b then None else own_place list f (owner - library_enums) n)) ≡ true
               → fits (word (word_is.Enum owner)) (if b then outcome_is.Value (enum owner n) else value_or (answer_at known (if b then None else own_place list f (owner - library_enums) n))) ≡ true
-          by true h = refl
-          by false h =
-              own (length (constants list f)) (length (labels_before list (owner - library_enums))) (nat_lt n (length (own_labels list (owner - library_enums)))) (placed_fits owner) h
+          by true is h = equal_itself owner
+          by false is h =
+              let k = owner - library_enums in
+              let same : library_enums + k ≡ owner = grind (arith, nat_tests) in
+              let place = nat_lt n (length (own_labels list k)) in
+              subst (λ j. fits (word (word_is.Enum j)) (value_or (answer_at known (own_place list f k n))) ≡ true) same
+              (own k (length (constants list f)) (length (labels_before list k)) place (λ c. (let below : n < length (own_labels list k) = grind (arith, nat_tests) in placed_fits k n below)) h)

@@ -47,6 +47,7 @@ use Rattle.sp_known_types.proofs.Full.{never}
 use Rattle.sp_known_types.proofs.Kept.{taken_holds}
 use Rattle.sp_known_types.proofs.Typed.{typed_holds}
 use Rattle.sp_known_values.specs.Given.{AreTold}
+use Rattle.sp_known_bodies.specs.Decided.{DecidesUnder}
 use Rattle.sp_known_bodies.specs.Trees.{is_body, is_maybe_expr}
 use Rattle.sp_whole_list.specs.Whole.{is_known_parameter, is_known_if, is_known_body, is_known_hook}
 use Rattle.sp_whole_list.specs.Trees.{are_parameters}
@@ -138,10 +139,16 @@ module _ (t : Typed) (values : Values) (g : Around) (s : Site) (is_type is_path 
       abbrev typed_block : Tree → Stmt
       typed_block body = (typed_body (hook_body s.of) inside [] body).0
 
+      -- all that is named round it is known
+      pub inside_known : (slots : List ℕ) → IsKnown inside any_op (k slots) m is_type is_path
+      inside_known slots = seen_known slots 0 false own having (having_known slots) (having_told slots) own_full
+
+      pub inside_decides : (slots : List ℕ) → DecidesUnder inside any_op (k slots) m is_type is_path
+      inside_decides slots = decides_under t values slots any_op m is_type is_path inside (seen_told slots 0 false own having (having_known slots) (having_told slots))
+
       block_known : (slots : List ℕ) (body : Tree) → is_body is_type is_path body ≡ true → none_hold (stmt_names m (typed_block body)) ≡ true → none_hold (body_tests (k slots) None m (typed_block body)) ≡ true → is_known_body (typed_block body) ≡ true
       block_known slots body is names tests =
-          body_whole (k slots) m is_type is_path (known_blind t values slots) inside (hook_body s.of) None [] body (seen_known slots 0 false own having (having_known slots) (having_told slots) own_full)
-          (decides_under t values slots any_op m is_type is_path inside (seen_told slots 0 false own having (having_known slots) (having_told slots))) is names tests
+          body_whole (k slots) m is_type is_path (known_blind t values slots) inside (hook_body s.of) None [] body (inside_known slots) (inside_decides slots) is names tests
 
       -- the priority
       abbrev above : Around

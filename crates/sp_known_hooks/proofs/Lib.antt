@@ -9,4 +9,5 @@ pub mod Seen
 pub mod Contexts
 pub mod Bodies
 pub mod Rows
+pub mod Built
 pub mod Lists

@@ -78,7 +78,7 @@ use Rattle.sp_known_hooks.proofs.Rows.{RowGood, rows_good}
 use Rattle.sp_known_hooks.proofs.Hooks.{behind_known, on_known}
 
 -- a hook is of what its place says
-of_body : (g : Around) (worth : Expr → Option ℤ) (s : Site) (units own : List Parameter) (x : Tree) → (hook_of_body g worth s units own x).of ≡ s.of
+pub of_body : (g : Around) (worth : Expr → Option ℤ) (s : Site) (units own : List Parameter) (x : Tree) → (hook_of_body g worth s units own x).of ≡ s.of
 of_body g worth s units own (node (form_is.HookBody each) span (more priority (more body none))) = refl
 of_body g worth s units own _ = refl
 
@@ -86,7 +86,7 @@ of_on : (g : Around) (worth : Expr → Option ℤ) (s : Site) (units : List Para
 of_on g worth s units (node form_is.Hook span (more (row own) (more body none))) = of_body g worth s units _ body
 of_on g worth s units _ = refl
 
-of_written : (g : Around) (worth : Expr → Option ℤ) (s : Site) (units : List Parameter) (hook : Option Tree) (body : Tree) → (written_hook g worth s units hook body).of ≡ s.of
+pub of_written : (g : Around) (worth : Expr → Option ℤ) (s : Site) (units : List Parameter) (hook : Option Tree) (body : Tree) → (written_hook g worth s units hook body).of ≡ s.of
 of_written g worth s units (Some hook) body = of_on g worth s units hook
 of_written g worth s units None body = of_body g worth s units [] body
 
@@ -112,7 +112,7 @@ written_on g worth s units (Some hook) body e elements = hook_on_container g wor
 written_on g worth s units None body e elements = body_on g worth s units [] body e elements
 
 -- a hook that is of something is written as it has to be, and is asked
-own_tests : (t : Typed) (worth : Constants) (h : Hook) → none_hold (hook_names h) ≡ true → none_hold (hook_tests t worth h) ≡ true → (is_of_nothing h.of ≡ false) × (h.fits ≡ true) × (none_hold (own_hook_tests t worth h) ≡ true)
+pub own_tests : (t : Typed) (worth : Constants) (h : Hook) → none_hold (hook_names h) ≡ true → none_hold (hook_tests t worth h) ≡ true → (is_of_nothing h.of ≡ false) × (h.fits ≡ true) × (none_hold (own_hook_tests t worth h) ≡ true)
 own_tests t worth h names tests = by (is_of_nothing h.of) refl h.fits refl (and_parts (not (is_of_nothing h.of || not h.fits)) _ names).0 tests
   where
     by : (b : Bool) → is_of_nothing h.of ≡ b → (c : Bool) → h.fits ≡ c → not (b || not c) ≡ true → none_hold (if b then [] else own_hook_tests t worth h) ≡ true → (is_of_nothing h.of ≡ false) × (h.fits ≡ true) × (none_hold (own_hook_tests t worth h) ≡ true)
@@ -185,7 +185,7 @@ module _ (list : List Tree) (a : Answers list) (formed_list : list_all is_formed
         by true e = unit_full e
         by false e = subst (λ xs. AllOf Full (sites_among m (number_at list g) xs)) (sym (no_items d.tree e)) tt
 
-  all_fine : AllOf (SiteFine list f) (sites list)
+  pub all_fine : AllOf (SiteFine list f) (sites list)
   all_fine = all_places list (SiteFine list f) place_fine
 
   all_stored : AllOf Full (sites list)
@@ -203,7 +203,7 @@ module _ (list : List Tree) (a : Answers list) (formed_list : list_all is_formed
   element_seen : (x : ℕ × ℕ × ℕ) → is_some (one_of (elements_of list units worth x (sites list))) ≡ true → is_full (or_unknown (one_of (elements_of list units worth x (sites list)))) ≡ true
   element_seen x e = element_full list units worth x (sites list) all_stored e
 
-  current_full : (of : HookOf) (place : Option ℕ) → is_of_nothing of ≡ false → IsSeen list of place → (is_of_elements of ≡ true → is_some (Sees of place).1 ≡ true) → (is_unmeant (current_standing of) || is_full (current_type of (current_of of (Sees of place).0 (Sees of place).1))) ≡ true
+  pub current_full : (of : HookOf) (place : Option ℕ) → is_of_nothing of ≡ false → IsSeen list of place → (is_of_elements of ≡ true → is_some (Sees of place).1 ≡ true) → (is_unmeant (current_standing of) || is_full (current_type of (current_of of (Sees of place).0 (Sees of place).1))) ≡ true
   current_full of_is.Nothing place something seen element = never (sym something)
   current_full (of_is.Unit n h) place something seen element = refl
   current_full (of_is.Field n k) place something seen element = field_stored (1, n, k) seen
@@ -214,7 +214,7 @@ module _ (list : List Tree) (a : Answers list) (formed_list : list_all is_formed
   current_full (of_is.AnonymousElements n) (Some place) something seen element = element_seen (2, n, place) (element refl)
 
   -- the parameters of what a hook is of
-  unit_parameters : (o : Option ℕ) → parameters_full (parameters_of (all_parameters list f (told a.values) (told a.stored)) o) ≡ true
+  pub unit_parameters : (o : Option ℕ) → parameters_full (parameters_of (all_parameters list f (told a.values) (told a.stored)) o) ≡ true
   unit_parameters None = refl
   unit_parameters (Some n) = row_full (all_parameters list f (told a.values) (told a.stored)) n (all_full list a formed_list unbroken)
 
@@ -239,10 +239,10 @@ module _ (list : List Tree) (a : Answers list) (formed_list : list_all is_formed
     abbrev env : Around
     env = in_module list f (told a.values) (told a.stored) r.«module»
 
-    env_known : (slots : List ℕ) → IsKnown env any_op (known_in t (values_of t) slots) r.«module» (types list a formed_list unbroken r.«module») (paths list a formed_list unbroken r.«module»)
+    pub env_known : (slots : List ℕ) → IsKnown env any_op (known_in t (values_of t) slots) r.«module» (types list a formed_list unbroken r.«module») (paths list a formed_list unbroken r.«module»)
     env_known slots = module_is_known list a formed_list unbroken (told a.stored) (members_known list a formed_list unbroken reads passed) slots r.«module»
 
-    env_told : (slots : List ℕ) → AreTold env any_op (known_in t (values_of t) slots) r.«module» (values_of t) (paths list a formed_list unbroken r.«module»)
+    pub env_told : (slots : List ℕ) → AreTold env any_op (known_in t (values_of t) slots) r.«module» (values_of t) (paths list a formed_list unbroken r.«module»)
     env_told slots = module_told list a formed_list unbroken (told a.stored) slots r.«module»
 
     row_known : none_hold (hook_names (written_hook env rank site_ own_units r.hook r.body)) ≡ true → none_hold (hook_tests t (values_of t) (written_hook env rank site_ own_units r.hook r.body)) ≡ true → is_known_hook (written_hook env rank site_ own_units r.hook r.body) ≡ true

@@ -196,7 +196,7 @@ module _ (around : Around) where
       sym (holds_plain (is_made around) made_plain (kept sc e).0) ∙ ap (holds (is_made around)) (kept_plain sc e) ∙ holds_plain (is_made around) made_plain e ∙ h
 
   -- owners
-  none_kept : (e : Expr) → owner_kept around None e ≡ true
+  pub none_kept : (e : Expr) → owner_kept around None e ≡ true
   none_kept (leaf h) = refl
   none_kept (one h a) = refl
   none_kept (two h a b) = none_kept a

@@ -1,2 +1,3 @@
 pub mod Stmts
 pub mod Typing
+pub mod Declared

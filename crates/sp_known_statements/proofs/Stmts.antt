@@ -58,6 +58,7 @@ use Rattle.sp_known_kinds.specs.Kept.{offset_kept}
 use Rattle.sp_known_kinds.proofs.Types.{boolean_sort, text_sort, either, alike_take}
 use Rattle.sp_known_kinds.proofs.Values.{sorted, has_type, seen_is, full_type, is_asked, asked_so, turned, key_same, not_true, no_regex, and_false}
 use Rattle.sp_known_kinds.proofs.Operations.{all_so, passes, place_so}
+use Rattle.sp_known_statements.specs.Declared.{valued_full, locals_full_in, locals_full_among, branch_locals_full, case_locals_full}
 use Rattle.sp_known_statements.specs.Ready.{returns_so, local_ready, node_ready, expr_ready, all_ready, owner_ready, bare_ready, valued_ready, stmt_ready, stmts_ready, branches_ready, cases_ready}
 
 -- a literal can't be changed
@@ -91,12 +92,6 @@ alone_is e n = by (is_void (type_of e)) refl n
     by : (b : Bool) → is_void (type_of e) ≡ b → (is_no_value e && not b) ≡ false → is_regex (type_of e) ≡ false
     by true v i = void_is (type_of e) v
     by false v i = no_regex (type_of e) (has_type e (and_false (is_no_value e) i))
-
--- a local of a type that is there has a full type, where all have
-local_full : (ts : List Ty) (n : ℕ) (t : Ty) → list_all is_full ts ≡ true → is_type (slice_get ts n) t ≡ true → is_full t ≡ true
-local_full [] n t f i = never i
-local_full (u ∷ us) zero t f i = subst (λ x. is_full x ≡ true) (same_is u t i) (and_parts (is_full u) (list_all is_full us) f).0
-local_full (u ∷ us) (suc n) t f i = local_full us n t (and_parts (is_full u) (list_all is_full us) f).1 i
 
 -- what goes over what
 over_first : (x t : Ty) → same t x ≡ true → part_is (types.more x types.none) 0 t ≡ true
@@ -171,7 +166,7 @@ module _ (k : Known) (m : ℕ) where
   key_is true (word w) t a e h f given tests r past = never h
   key_is false (word w) t a e h f given tests r past = never h
 
-module _ (body : Body) (wanted : Option Ty) (k : Known) (m : ℕ) (asked : IsAsked body.around k) (offset : offset_kept body.around body.around.places.offset ≡ true) (so : returns_so body.returns wanted ≡ true) (full : list_all is_full body.around.locals.now ≡ true) where
+module _ (body : Body) (wanted : Option Ty) (k : Known) (m : ℕ) (asked : IsAsked body.around k) (offset : offset_kept body.around body.around.places.offset ≡ true) (so : returns_so body.returns wanted ≡ true) where
   abbrev clear : Expr → Bool
   clear = is_clear any_op k m
 
@@ -215,14 +210,14 @@ module _ (body : Body) (wanted : Option Ty) (k : Known) (m : ℕ) (asked : IsAsk
       and_from (pass e) (is_sort (type_of e) Bools) (value_so e i c r has_value past) (sorted (type_of e) Bools (boolean_sort (type_of e) (asked_so e (is_boolean (type_of e)) (at_first is_right e r) past wrong)))
 
   -- a local and its value
-  local_so : (l : Local) (o : Option Written) (e : Expr) → holds ready e ≡ true → holds clear e ≡ true → holds is_right e ≡ true → local_ready o l.ty e ≡ true → slot_is body.around l.slot l.ty ≡ true → Fine (local_tests m l.ty o e) → (pass e && slot_is body.around l.slot (type_of e)) ≡ true
-  local_so l None e i c r own slot tests =
+  local_so : (l : Local) (o : Option Written) (e : Expr) → is_full l.ty ≡ true → holds ready e ≡ true → holds clear e ≡ true → holds is_right e ≡ true → local_ready o l.ty e ≡ true → slot_is body.around l.slot l.ty ≡ true → Fine (local_tests m l.ty o e) → (pass e && slot_is body.around l.slot (type_of e)) ≡ true
+  local_so l None e full i c r own slot tests =
       let past = tests.1.0 in
       let is : same l.ty (type_of e) ≡ true = subst (λ u. same l.ty u ≡ true) (seen_is e past) own in
       and_from (pass e) (slot_is body.around l.slot (type_of e)) (value_so e i c r tests.0 past) (slot_moves l.slot l.ty (type_of e) is slot)
-  local_so l (Some w) e i c r own slot tests =
+  local_so l (Some w) e full i c r own slot tests =
       let g = (fine_parts (written_tests m w) _ tests).1 in
-      let t = target_so l.ty e (local_full body.around.locals.now (body.around.places.first + l.slot) l.ty full slot) i c r own g.1 in
+      let t = target_so l.ty e full i c r own g.1 in
       and_from (pass e) (slot_is body.around l.slot (type_of e)) t.0 (slot_moves l.slot l.ty (type_of e) t.1 slot)
 
   -- what is returned
@@ -293,17 +288,17 @@ module _ (body : Body) (wanted : Option Ty) (k : Known) (m : ℕ) (asked : IsAsk
   bare_so in_loop (bare_is.Continue meant) span i tests = meant_so meant in_loop i tests.0
   bare_so in_loop _ span i tests = never i
 
-  valued_so : (op : ValuedOp) (e : Expr) → holds ready e ≡ true → valued_ready body wanted op e ≡ true → holds clear e ≡ true → (if takes_key op then is_good e else holds is_right e) ≡ true → Fine (valued_op_tests k wanted m op e) → valued_passes body op e ≡ true
-  valued_so (valued_is.Local l) e i own c r tests =
+  valued_so : (op : ValuedOp) (e : Expr) → valued_full op ≡ true → holds ready e ≡ true → valued_ready body wanted op e ≡ true → holds clear e ≡ true → (if takes_key op then is_good e else holds is_right e) ≡ true → Fine (valued_op_tests k wanted m op e) → valued_passes body op e ≡ true
+  valued_so (valued_is.Local l) e full i own c r tests =
       let p = and_parts (local_ready l.written l.ty e) (slot_is body.around l.slot l.ty) own in
-      local_so l l.written e i c r p.0 p.1 tests
-  valued_so valued_is.Return e i own c r tests = return_so wanted e so i c r own tests
-  valued_so valued_is.Throw e i own c r tests =
+      local_so l l.written e full i c r p.0 p.1 tests
+  valued_so valued_is.Return e full i own c r tests = return_so wanted e so i c r own tests
+  valued_so valued_is.Throw e full i own c r tests =
       and_from (pass e) (is_sort (type_of e) Text) (value_so e i c r tests.0 tests.1.0) (sorted (type_of e) Text (text_sort (type_of e) (asked_so e (is_text (type_of e)) (at_first is_right e r) tests.1.0 tests.1.1.0)))
-  valued_so (valued_is.Assert text) e i own c r tests = truth_so e i c r tests.0 tests.1.0 tests.1.1.0
-  valued_so (valued_is.Add owner) e i own c r tests = key_so false owner e i c r own tests
-  valued_so (valued_is.Delete owner) e i own c r tests = key_so true owner e i c r own tests
-  valued_so valued_is.Expr e i own c r tests = passes body.around k m asked offset e (so_of e i c r) tests.1.0 (alone_is e tests.0)
+  valued_so (valued_is.Assert text) e full i own c r tests = truth_so e i c r tests.0 tests.1.0 tests.1.1.0
+  valued_so (valued_is.Add owner) e full i own c r tests = key_so false owner e i c r own tests
+  valued_so (valued_is.Delete owner) e full i own c r tests = key_so true owner e i c r own tests
+  valued_so valued_is.Expr e full i own c r tests = passes body.around k m asked offset e (so_of e i c r) tests.1.0 (alone_is e tests.0)
 
   -- rows of values
   printed_so : (es : Exprs) → all_hold ready es ≡ true → all_hold clear es ≡ true → each_holds (holds is_right) es ≡ true → Fine (print_tests m es) → exprs_pass body.around es ≡ true
@@ -347,34 +342,35 @@ module _ (body : Body) (wanted : Option Ty) (k : Known) (m : ℕ) (asked : IsAsk
   Still ss = Quiet k wanted m ss
 
   mutual
-    pub stmt_so : (in_loop : Bool) (s : Stmt) → stmt_ready body wanted in_loop s ≡ true → nodes_hold clear s ≡ true → Still (stmts_in s) → exprs_hold (holds is_right) is_good s ≡ true → stmt_passes body in_loop s ≡ true
-    stmt_so in_loop (bare h) i c q r = bare_so in_loop h.op h.span i (first_tests k wanted m (bare h) [] q)
-    stmt_so in_loop (valued h e) i c q r =
+    pub stmt_so : (in_loop : Bool) (s : Stmt) → locals_full_in s ≡ true → stmt_ready body wanted in_loop s ≡ true → nodes_hold clear s ≡ true → Still (stmts_in s) → exprs_hold (holds is_right) is_good s ≡ true → stmt_passes body in_loop s ≡ true
+    stmt_so in_loop (bare h) full i c q r = bare_so in_loop h.op h.span i (first_tests k wanted m (bare h) [] q)
+    stmt_so in_loop (valued h e) full i c q r =
         let p = and_parts (expr_ready body wanted e) (valued_ready body wanted h.op e) i in
-        valued_so h.op e p.0 p.1 c r (first_tests k wanted m (valued h e) [] q)
-    stmt_so in_loop (assign h d e) i c q r =
+        valued_so h.op e full p.0 p.1 c r (first_tests k wanted m (valued h e) [] q)
+    stmt_so in_loop (assign h d e) full i c q r =
         let p = and_parts (holds ready d) (holds ready e && (is_targeted (seen d) e && owner_ready body wanted h.owner d)) i in
         let o = and_parts (holds ready e) (is_targeted (seen d) e && owner_ready body wanted h.owner d) p.1 in
         let u = and_parts (is_targeted (seen d) e) (owner_ready body wanted h.owner d) o.1 in
         let x = and_parts (holds clear d) (holds clear e) c in
         let y = and_parts (holds is_right d) (holds is_right e) r in
         assign_so h.op h.owner d e p.0 o.0 u.0 u.1 x.0 x.1 y.0 y.1 (first_tests k wanted m (assign h d e) [] q)
-    stmt_so in_loop (print at es) i c q r = printed_so es i c r (first_tests k wanted m (print at es) [] q)
-    stmt_so in_loop (block ss) i c q r = stmts_so in_loop ss i c (behind k wanted m (block ss) (stmts_in_all ss) q) r
-    stmt_so in_loop (branch bs b) i c q r =
+    stmt_so in_loop (print at es) full i c q r = printed_so es i c r (first_tests k wanted m (print at es) [] q)
+    stmt_so in_loop (block ss) full i c q r = stmts_so in_loop ss full i c (behind k wanted m (block ss) (stmts_in_all ss) q) r
+    stmt_so in_loop (branch bs b) full i c q r =
+        let o = and_parts (branch_locals_full bs) (locals_full_in b) full in
         let inner = stmts_in_branches bs ++ stmts_in b in
         let p = and_parts (branches_ready body wanted in_loop bs) (stmt_ready body wanted in_loop b) i in
         let x = and_parts (branches_hold clear bs) (nodes_hold clear b) c in
         let y = and_parts (branch_exprs_hold (holds is_right) is_good bs) (exprs_hold (holds is_right) is_good b) r in
         let n = two_quiet k wanted m (stmts_in_branches bs) (stmts_in b) (behind k wanted m (branch bs b) inner q) in
-        and_from (branches_pass body in_loop bs) (stmt_passes body in_loop b) (branches_so in_loop bs p.0 x.0 n.0 y.0 (first_tests k wanted m (branch bs b) inner q)) (stmt_so in_loop b p.1 x.1 n.1 y.1)
-    stmt_so in_loop (while_loop e b) i c q r =
+        and_from (branches_pass body in_loop bs) (stmt_passes body in_loop b) (branches_so in_loop bs o.0 p.0 x.0 n.0 y.0 (first_tests k wanted m (branch bs b) inner q)) (stmt_so in_loop b o.1 p.1 x.1 n.1 y.1)
+    stmt_so in_loop (while_loop e b) full i c q r =
         let p = and_parts (holds ready e) (stmt_ready body wanted true b) i in
         let x = and_parts (holds clear e) (nodes_hold clear b) c in
         let y = and_parts (holds is_right e) (exprs_hold (holds is_right) is_good b) r in
         let f = first_tests k wanted m (while_loop e b) (stmts_in b) q in
-        and_from (test_passes body.around e) (stmt_passes body true b) (truth_so e p.0 x.0 y.0 f.0 f.1.0 f.1.1.0) (stmt_so true b p.1 x.1 (behind k wanted m (while_loop e b) (stmts_in b) q) y.1)
-    stmt_so in_loop (for_loop h e b) i c q r =
+        and_from (test_passes body.around e) (stmt_passes body true b) (truth_so e p.0 x.0 y.0 f.0 f.1.0 f.1.1.0) (stmt_so true b full p.1 x.1 (behind k wanted m (while_loop e b) (stmts_in b) q) y.1)
+    stmt_so in_loop (for_loop h e b) full i c q r =
         let p = and_parts (holds ready e) (same h.ty (element_type (seen e)) && (slot_is body.around h.slot h.ty && stmt_ready body wanted true b)) i in
         let o = and_parts (same h.ty (element_type (seen e))) (slot_is body.around h.slot h.ty && stmt_ready body wanted true b) p.1 in
         let u = and_parts (slot_is body.around h.slot h.ty) (stmt_ready body wanted true b) o.1 in
@@ -386,8 +382,9 @@ module _ (body : Body) (wanted : Option Ty) (k : Known) (m : ℕ) (asked : IsAsk
         let goes_over_it = goes_so (type_of e) h.ty sequence (full_type e first) (subst (λ t. same h.ty (element_type t) ≡ true) (seen_is e f.1.0) o.0) in
         and_from (pass e && goes_over (type_of e) h.ty && slot_is body.around h.slot h.ty) (stmt_passes body true b)
         (and_from (pass e && goes_over (type_of e) h.ty) (slot_is body.around h.slot h.ty) (and_from (pass e) (goes_over (type_of e) h.ty) (value_so e p.0 x.0 y.0 f.0 f.1.0) goes_over_it) u.0)
-        (stmt_so true b u.1 x.1 (behind k wanted m (for_loop h e b) (stmts_in b) q) y.1)
-    stmt_so in_loop (switch slot e cs b) i c q r =
+        (stmt_so true b full u.1 x.1 (behind k wanted m (for_loop h e b) (stmts_in b) q) y.1)
+    stmt_so in_loop (switch slot e cs b) full i c q r =
+        let l = and_parts (case_locals_full cs) (locals_full_in b) full in
         let node = switch slot e cs b in
         let inner = stmts_in_cases cs ++ stmts_in b in
         let p = and_parts (holds ready e) (slot_is body.around slot (seen e) && (cases_ready body wanted in_loop cs && stmt_ready body wanted in_loop b)) i in
@@ -405,21 +402,23 @@ module _ (body : Body) (wanted : Option Ty) (k : Known) (m : ℕ) (asked : IsAsk
         and_from (pass e && slot_is body.around slot (type_of e) && cases_pass body in_loop (type_of e) cs) (stmt_passes body in_loop b)
         (and_from (pass e && slot_is body.around slot (type_of e)) (cases_pass body in_loop (type_of e) cs)
         (and_from (pass e) (slot_is body.around slot (type_of e)) (value_so e p.0 x.0 y.0 f.0 past) (subst (λ t. slot_is body.around slot t ≡ true) (seen_is e past) o.0))
-        (cases_so in_loop e (is_asked e first past) stands cs u.0 v.0 n.0 w.0 f.1.1.1))
-        (stmt_so in_loop b u.1 v.1 n.1 w.1)
+        (cases_so in_loop e (is_asked e first past) stands cs l.0 u.0 v.0 n.0 w.0 f.1.1.1))
+        (stmt_so in_loop b l.1 u.1 v.1 n.1 w.1)
 
-    stmts_so : (in_loop : Bool) (ss : Stmts) → stmts_ready body wanted in_loop ss ≡ true → stmts_hold clear ss ≡ true → Still (stmts_in_all ss) → all_exprs_hold (holds is_right) is_good ss ≡ true → stmts_pass body in_loop ss ≡ true
-    stmts_so in_loop no_stmts i c q r = refl
-    stmts_so in_loop (more_stmts b ss) i c q r =
+    stmts_so : (in_loop : Bool) (ss : Stmts) → locals_full_among ss ≡ true → stmts_ready body wanted in_loop ss ≡ true → stmts_hold clear ss ≡ true → Still (stmts_in_all ss) → all_exprs_hold (holds is_right) is_good ss ≡ true → stmts_pass body in_loop ss ≡ true
+    stmts_so in_loop no_stmts full i c q r = refl
+    stmts_so in_loop (more_stmts b ss) full i c q r =
+        let l = and_parts (locals_full_in b) (locals_full_among ss) full in
         let p = and_parts (stmt_ready body wanted in_loop b) (stmts_ready body wanted in_loop ss) i in
         let x = and_parts (nodes_hold clear b) (stmts_hold clear ss) c in
         let y = and_parts (exprs_hold (holds is_right) is_good b) (all_exprs_hold (holds is_right) is_good ss) r in
         let n = two_quiet k wanted m (stmts_in b) (stmts_in_all ss) q in
-        and_from (stmt_passes body in_loop b) (stmts_pass body in_loop ss) (stmt_so in_loop b p.0 x.0 n.0 y.0) (stmts_so in_loop ss p.1 x.1 n.1 y.1)
+        and_from (stmt_passes body in_loop b) (stmts_pass body in_loop ss) (stmt_so in_loop b l.0 p.0 x.0 n.0 y.0) (stmts_so in_loop ss l.1 p.1 x.1 n.1 y.1)
 
-    branches_so : (in_loop : Bool) (bs : Branches) → branches_ready body wanted in_loop bs ≡ true → branches_hold clear bs ≡ true → Still (stmts_in_branches bs) → branch_exprs_hold (holds is_right) is_good bs ≡ true → Fine (branches_tests m bs) → branches_pass body in_loop bs ≡ true
-    branches_so in_loop no_branches i c q r f = refl
-    branches_so in_loop (more_branches e b bs) i c q r f =
+    branches_so : (in_loop : Bool) (bs : Branches) → branch_locals_full bs ≡ true → branches_ready body wanted in_loop bs ≡ true → branches_hold clear bs ≡ true → Still (stmts_in_branches bs) → branch_exprs_hold (holds is_right) is_good bs ≡ true → Fine (branches_tests m bs) → branches_pass body in_loop bs ≡ true
+    branches_so in_loop no_branches full i c q r f = refl
+    branches_so in_loop (more_branches e b bs) full i c q r f =
+        let l = and_parts (locals_full_in b) (branch_locals_full bs) full in
         let p = and_parts (holds ready e) (stmt_ready body wanted in_loop b && branches_ready body wanted in_loop bs) i in
         let o = and_parts (stmt_ready body wanted in_loop b) (branches_ready body wanted in_loop bs) p.1 in
         let x = and_parts (holds clear e) (nodes_hold clear b && branches_hold clear bs) c in
@@ -428,12 +427,13 @@ module _ (body : Body) (wanted : Option Ty) (k : Known) (m : ℕ) (asked : IsAsk
         let w = and_parts (exprs_hold (holds is_right) is_good b) (branch_exprs_hold (holds is_right) is_good bs) y.1 in
         let n = two_quiet k wanted m (stmts_in b) (stmts_in_branches bs) q in
         and_from (test_passes body.around e && stmt_passes body in_loop b) (branches_pass body in_loop bs)
-        (and_from (test_passes body.around e) (stmt_passes body in_loop b) (truth_so e p.0 x.0 y.0 f.0 f.1.0 f.1.1.0) (stmt_so in_loop b o.0 v.0 n.0 w.0)) (branches_so in_loop bs o.1 v.1 n.1 w.1 f.1.1.1)
+        (and_from (test_passes body.around e) (stmt_passes body in_loop b) (truth_so e p.0 x.0 y.0 f.0 f.1.0 f.1.1.0) (stmt_so in_loop b l.0 o.0 v.0 n.0 w.0)) (branches_so in_loop bs l.1 o.1 v.1 n.1 w.1 f.1.1.1)
 
-    cases_so : (in_loop : Bool) (x : Expr) → knows x ≡ true → stands_before sort_is.Alike (type_of x) ≡ true → (cs : Cases) → cases_ready body wanted in_loop cs ≡ true → cases_hold clear cs ≡ true → Still (stmts_in_cases cs) → case_exprs_hold (holds is_right) is_good cs ≡ true → Fine (cases_tests m x cs)
+    cases_so : (in_loop : Bool) (x : Expr) → knows x ≡ true → stands_before sort_is.Alike (type_of x) ≡ true → (cs : Cases) → case_locals_full cs ≡ true → cases_ready body wanted in_loop cs ≡ true → cases_hold clear cs ≡ true → Still (stmts_in_cases cs) → case_exprs_hold (holds is_right) is_good cs ≡ true → Fine (cases_tests m x cs)
         → cases_pass body in_loop (type_of x) cs ≡ true
-    cases_so in_loop x known stands no_cases i c q r f = refl
-    cases_so in_loop x known stands (more_cases es b cs) i c q r f =
+    cases_so in_loop x known stands no_cases full i c q r f = refl
+    cases_so in_loop x known stands (more_cases es b cs) full i c q r f =
+        let l = and_parts (locals_full_in b) (case_locals_full cs) full in
         let p = and_parts (all_hold ready es) (stmt_ready body wanted in_loop b && cases_ready body wanted in_loop cs) i in
         let o = and_parts (stmt_ready body wanted in_loop b) (cases_ready body wanted in_loop cs) p.1 in
         let d = and_parts (all_hold clear es) (nodes_hold clear b && cases_hold clear cs) c in
@@ -443,4 +443,4 @@ module _ (body : Body) (wanted : Option Ty) (k : Known) (m : ℕ) (asked : IsAsk
         let g = fine_parts (case_tests m x es) (cases_tests m x cs) f in
         let n = two_quiet k wanted m (stmts_in b) (stmts_in_cases cs) q in
         and_from (values_pass body.around (type_of x) es && stmt_passes body in_loop b) (cases_pass body in_loop (type_of x) cs)
-        (and_from (values_pass body.around (type_of x) es) (stmt_passes body in_loop b) (values_so x known stands es p.0 d.0 y.0 g.0) (stmt_so in_loop b o.0 v.0 n.0 w.0)) (cases_so in_loop x known stands cs o.1 v.1 n.1 w.1 g.1)
+        (and_from (values_pass body.around (type_of x) es) (stmt_passes body in_loop b) (values_so x known stands es p.0 d.0 y.0 g.0) (stmt_so in_loop b l.0 o.0 v.0 n.0 w.0)) (cases_so in_loop x known stands cs l.1 o.1 v.1 n.1 w.1 g.1)

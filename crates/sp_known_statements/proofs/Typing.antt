@@ -97,7 +97,7 @@ widen_widened : (t : Ty) (e : Expr) → widens (seen e) t ≡ true → widens_va
 widen_widened t e w = widen_within t (type_of e) (is_past e) w
 
 module _ (around : Around) where
-  owner_retyped : (w : Word) (e : Expr) → is_literal e ≡ true → can_take w ≡ true → holds (keeps_owner around) e ≡ true → holds (keeps_owner around) (retyped (word w) e) ≡ true
+  pub owner_retyped : (w : Word) (e : Expr) → is_literal e ≡ true → can_take w ≡ true → holds (keeps_owner around) e ≡ true → holds (keeps_owner around) (retyped (word w) e) ≡ true
   owner_retyped w (leaf h) l may i = i
   owner_retyped w (one h a) l may i = i
   owner_retyped w (two h a b) l may i = i
@@ -105,10 +105,10 @@ module _ (around : Around) where
   owner_retyped w (many h es) l may i = i
 
   -- what is known of an expression as typing makes it and the body keeps it
-  record Here (e : Expr) : Type 0 where
-    of_form : holds (is_made around) e ≡ true
-    wide : holds widens_value e ≡ true
-    owned : holds (keeps_owner around) e ≡ true
+  pub record Here (e : Expr) : Type 0 where
+    pub of_form : holds (is_made around) e ≡ true
+    pub wide : holds widens_value e ≡ true
+    pub owned : holds (keeps_owner around) e ≡ true
 
   here_taken : (t : Ty) (e : Expr) → Here e → Here (taken t e)
   here_taken t e x = record {
@@ -117,7 +117,7 @@ module _ (around : Around) where
     owned = taken_keeps (keeps_owner around) owner_retyped (λ u a w. refl) t e x.owned;
   }
 
-  here_target : (t : Ty) (e : Expr) → Here e → Here (to_target t e)
+  pub here_target : (t : Ty) (e : Expr) → Here e → Here (to_target t e)
   here_target t e x = record {
     of_form = target_keeps (is_made around) (literal_taken around) (λ u a w. w) t e x.of_form;
     wide = target_keeps widens_value widen_retyped widen_widened t e x.wide;

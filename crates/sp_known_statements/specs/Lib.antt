@@ -1,3 +1,4 @@
 pub mod Ready
 pub mod Built
 pub mod Rows
+pub mod Declared

@@ -1,4 +1,4 @@
--- Rows on which the definitions are run: a break in no loop, what isn't built, and what a body returns.
+-- Rows on which the definitions are run: a break in no loop, what isn't built, what a body returns, and locals of types that aren't full.
 use Rattle.std.specs.Prelude.{◌≡◌, true, false, Option, Some, None, refl}
 use Rattle.sp_base.specs.declared.places.Span.{Span}
 use Rattle.sp_numbers.specs.declared.width.Width.TheVariants.{W8, W16}
@@ -7,12 +7,15 @@ use Rattle.sp_types.specs.Types.{Ty, word}
 use Rattle.sp_typed.specs.declared.words.LeafOp.TheVariants as leaf_is
 use Rattle.sp_typed.specs.declared.words.Written.{Written}
 use Rattle.sp_typed.specs.declared.stmt_words.BareOp.TheVariants as bare_is
+use Rattle.sp_typed.specs.declared.stmt_words.Local.{Local}
+use Rattle.sp_typed.specs.declared.stmt_words.ValuedOp.TheVariants as valued_is
 use Rattle.sp_typed.specs.Exprs.{Expr}
 use Rattle.sp_typed.specs.Stmts.{Stmt, block, more_stmts, no_stmts, while_loop}
 use Rattle.sp_typing.specs.Typing.{leaf_at}
-use Rattle.sp_typing_stmts.specs.Statements.{bare_at}
+use Rattle.sp_typing_stmts.specs.Statements.{bare_at, valued_at}
 use Rattle.sp_fit_body.specs.declared.bodies.Returns.TheVariants as returns
 use Rattle.sp_fit_body.specs.declared.bodies.Body.{Body}
+use Rattle.sp_known_statements.specs.Declared.{locals_full_in}
 use Rattle.sp_known_statements.specs.Ready.{returns_so, local_ready, stmt_ready}
 
 abbrev here : Span
@@ -54,3 +57,19 @@ not_widened = refl
 -- what a hook returns isn't wanted
 hook_row : returns_so (returns.Hook false) (Some byte) ≡ false
 hook_row = refl
+
+-- a local of a type, in a loop without a value, and with one
+abbrev local : Ty → Local
+local t = record { slot = 0; name = here; ty = t; written = None; taken = false }
+
+abbrev looped : Ty → Stmt
+looped t = while_loop (leaf_at here (word word_is.Bool) leaf_is.True) (bare_at here (bare_is.Local (local t)))
+
+full_local : locals_full_in (looped byte) ≡ true
+full_local = refl
+
+unknown_local : locals_full_in (looped (word word_is.Unknown)) ≡ false
+unknown_local = refl
+
+unknown_value : locals_full_in (valued_at here (valued_is.Local (local (word word_is.Unknown))) five) ≡ false
+unknown_value = refl

@@ -3,6 +3,7 @@ ghost use Rattle.std.specs.Prelude.{ℕ, Bool, false, List, Option, IsTrue};
 ghost use Rattle.std.specs.List.{list_all};
 ghost use Rattle.sp_ast.specs.Trees.{Tree};
 ghost use Rattle.sp_types.specs.Types.{Ty};
+ghost use Rattle.sp_typed.specs.declared.words.OneOp.{OneOp};
 ghost use Rattle.sp_typed.specs.Nodes.{holds};
 ghost use Rattle.sp_typed.specs.Stmts.{Stmt};
 ghost use Rattle.sp_typed.specs.StmtNodes.{stmts_in, nodes_hold};
@@ -10,15 +11,20 @@ ghost use Rattle.sp_typing.specs.Contexts.{Around as Names};
 ghost use Rattle.sp_typing_stmts.specs.declared.body.Body.{Body as TypedBody};
 ghost use Rattle.sp_typing_stmts.specs.Statements.{typed_body};
 ghost use Rattle.sp_body_rules.specs.Known.{Known};
-ghost use Rattle.sp_known_types.specs.Full.{is_full, is_right};
+ghost use Rattle.sp_known_types.specs.Full.{is_right};
 ghost use Rattle.sp_known_types.specs.Clear.{is_clear, any_op};
+ghost use Rattle.sp_known_types.specs.Given.{IsKnown};
 ghost use Rattle.sp_known_types.specs.Stmts.{is_good, exprs_hold, is_quiet};
+ghost use Rattle.sp_known_bodies.specs.Slots.{IsBlind};
+ghost use Rattle.sp_known_bodies.specs.Decided.{DecidesUnder};
+ghost use Rattle.sp_known_bodies.specs.Trees.{is_body};
 ghost use Rattle.sp_known_literals.specs.Widened.{AreWidened};
 ghost use Rattle.sp_fit_body.specs.declared.bodies.Body.{Body};
 ghost use Rattle.sp_fit_body.specs.Test.{stmt_passes};
 ghost use Rattle.sp_known_kinds.specs.Made.{AreMade, IsAsked};
 ghost use Rattle.sp_known_kinds.specs.Kept.{OffsetKept, SlotsKept};
 ghost use Rattle.sp_known_statements.specs.Built.{stmt_built};
+ghost use Rattle.sp_known_statements.specs.Declared.{locals_full_in};
 ghost use Rattle.sp_known_statements.specs.Ready.{returns_so, IsReady};
 
 /// A typed body is as typing makes it, where what stands round it is kept so by the body, whose locals are those of its slots from a
@@ -32,13 +38,25 @@ pub fn typing_makes_statements()
 
 /// A statement passes the test before lowering, where it is as typing makes it, of what is built and with its slots, no rule is broken at
 /// its nodes and at the statements in it, each of its expressions is a value of a full type, but that `add` and `delete` may take the key
-/// of a set, and the locals of its body have full types. What is asked of the arguments of a call is what the list says of them, and the
-/// body returns a value of the type that is wanted, or nothing.
+/// of a set, and each local that it declares has a full type. What is asked of the arguments of a call is what the list says of them, and
+/// the body returns a value of the type that is wanted, or nothing.
 pub fn statements_pass()
     ensures { (body : Body) (wanted : Option Ty) (k : Known) (m : ℕ) (in_loop : Bool) (s : Stmt)
         → IsAsked body.around k → OffsetKept body.around → IsTrue (returns_so body.returns wanted)
-        → IsTrue (list_all is_full body.around.locals.now) → IsReady body wanted in_loop s
+        → IsTrue (locals_full_in s) → IsReady body wanted in_loop s
         → IsTrue (nodes_hold (is_clear any_op k m) s) → IsTrue (list_all (is_quiet k wanted m) (stmts_in s))
         → IsTrue (exprs_hold (holds is_right) is_good s)
         → IsTrue (stmt_passes body in_loop s) }
+{}
+
+/// Where all that can be named round a body is known, also whether indexes are constant behind locals of full types, and no rule is
+/// broken at its nodes and statements, each local that it declares has a full type.
+pub fn locals_are_full()
+    ensures { (g : Names) (only : OneOp → Bool) (k : Known) (m : ℕ) (is_type is_path : Tree → Bool)
+        (b : TypedBody) (wanted : Option Ty) (slots : List Ty) (t : Tree)
+        → IsKnown g only k m is_type is_path → IsBlind k → DecidesUnder g only k m is_type is_path
+        → IsTrue (is_body is_type is_path t)
+        → IsTrue (nodes_hold (is_clear only k m) (typed_body b g slots t).0)
+        → IsTrue (list_all (is_quiet k wanted m) (stmts_in (typed_body b g slots t).0))
+        → IsTrue (locals_full_in (typed_body b g slots t).0) }
 {}

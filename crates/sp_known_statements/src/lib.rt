@@ -3,4 +3,4 @@
 
 mod laws;
 
-pub use laws::{statements_pass, typing_makes_statements};
+pub use laws::{locals_are_full, statements_pass, typing_makes_statements};

@@ -33,16 +33,16 @@ member_told (types.more u us) (val v vs) (suc n) t p e = member_told us vs n t p
 abbrev There : Ty → Option (Val × Val) → Type 0
 There t o = fits t (or_error (option_map (λ (e : Val × Val). e.1) o)) ≡ true
 
-at_key : (t : Ty) (k : Val) (es : Entries) → all_in t es ≡ true → fits t (or_error (option_map (λ (e : Val × Val). e.1) (found entry_key k (pairs_of es)))) ≡ true
-at_key t k no_entries e = refl
-at_key t k (entry j v es) e =
-    let p = and_parts (is_of t v) (all_in t es) e in
-    by (val_cmp j k) p.0 (at_key t k es p.1)
+at_key : (s t : Ty) (k : Val) (es : Entries) → all_in s t es ≡ true → fits t (or_error (option_map (λ (e : Val × Val). e.1) (found entry_key k (pairs_of es)))) ≡ true
+at_key s t k no_entries e = refl
+at_key s t k (entry j v es) e =
+    let p = and_parts (is_of t v) (all_in s t es) (and_parts (is_of s j) (is_of t v && all_in s t es) e).1 in
+    by (val_cmp j k) p.0 (at_key s t k es p.1)
   where
     by : (o : Ordering) → is_of t v ≡ true → There t (found entry_key k (pairs_of es)) → There t (match_ordering o (found entry_key k (pairs_of es)) (Some (j, v)) (found entry_key k (pairs_of es)))
     by Less is more = more
     by Equal is more = is
     by Greater is more = more
 
-pub value_told : (t : Ty) (k : Val) (es : Entries) → all_in t es ≡ true → fits t (or_error (value_at (map es) k)) ≡ true
-value_told t k es e = at_key t k es e
+pub value_told : (s t : Ty) (k : Val) (es : Entries) → all_in s t es ≡ true → fits t (or_error (value_at (map es) k)) ≡ true
+value_told s t k es e = at_key s t k es e

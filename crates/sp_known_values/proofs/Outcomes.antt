@@ -188,14 +188,3 @@ Members ts vs = are_of (tys ts) (vals_of vs) ≡ true
 pub tuple_told : (ts : List Ty) (os : List Outcome) → FitAll ts os → fits (made maker_is.Tuple (tys ts)) (of_all (row_of many_is.Tuple) os) ≡ true
 tuple_told ts os f =
     all_told Members refl (λ t us v vs e h. and_from (is_of t v) (are_of (tys us) (vals_of vs)) e h) (made maker_is.Tuple (tys ts)) (row_of many_is.Tuple) ts os f (λ ws h. h)
-
--- a set of whatever
-grown : (ts : Tys) (vs : List Val) (xs : Vals) → is_of (made maker_is.Set ts) (with_members (set xs) vs) ≡ true
-grown ts [] xs = refl
-grown ts (v ∷ vs) xs = grown ts vs _
-
-abbrev Anything : List Ty → List Val → Type 0
-Anything ts vs = Unit {0}
-
-pub set_told : (us : Tys) (ts : List Ty) (os : List Outcome) → FitAll ts os → fits (made maker_is.Set us) (of_all (row_of many_is.Set) os) ≡ true
-set_told us ts os f = all_told Anything tt (λ t ts v vs e h. tt) (made maker_is.Set us) (row_of many_is.Set) ts os f (λ ws h. grown us ws no_vals)

@@ -65,7 +65,7 @@ vector_on (word (word_is.Uint x)) ts _ i u e f = never e
 vector_on _ ts a i u e f = never u
 
 map_on : (ts : Tys) (a i : Val) → is_of (made maker_is.Map ts) a ≡ true → fits (second_type ts) (indexed a i) ≡ true
-map_on ts (map es) i e = value_told (second_type ts) i es e
+map_on ts (map es) i e = value_told (first_type ts) (second_type ts) i es e
 map_on ts _ i e = never e
 
 member_on : (ts : Tys) (n : ℕ) (t : Ty) (a : Val) → part_at ts n ≡ Some t → is_of (made maker_is.Tuple ts) a ≡ true → fits t (member n a) ≡ true

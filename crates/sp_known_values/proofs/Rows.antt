@@ -6,10 +6,10 @@ use Rattle.std.specs.declared.cmp.Ordering.{Ordering}
 use Rattle.std.specs.declared.cmp.Ordering.TheVariants.{Less, Equal, Greater}
 use Rattle.std.specs.Ordering.{match_ordering}
 use Rattle.sp_base.specs.declared.places.Span.{Span}
-use Rattle.sp_value.specs.Val.{Val, Vals, Entries, no_vals, val, no_entries, entry, vals_of, entries_of, pairs_of}
+use Rattle.sp_value.specs.Val.{Val, Vals, Entries, no_vals, val, no_entries, entry, vals_of, list_of, entries_of, pairs_of}
 use Rattle.sp_value.specs.Val as value
 use Rattle.sp_value.specs.Order.{val_cmp}
-use Rattle.sp_value.specs.Ascending.{entry_key, with_key}
+use Rattle.sp_value.specs.Ascending.{own_key, entry_key, with_key}
 use Rattle.sp_types.specs.declared.words.Maker.TheVariants as maker_is
 use Rattle.sp_types.specs.Types.{Ty, Tys, made, tys, same}
 use Rattle.sp_types.specs.Types as types
@@ -38,7 +38,7 @@ use Rattle.sp_constants.specs.Known.{Known as Values}
 use Rattle.sp_constants.specs.declared.outcome.Outcome.{Outcome}
 use Rattle.sp_constants.specs.declared.outcome.Outcome.TheVariants as outcome_is
 use Rattle.sp_constants.specs.Outcomes.{of_all}
-use Rattle.sp_constants.specs.Operations.{row_of, with_entries}
+use Rattle.sp_constants.specs.Operations.{with_members, row_of, with_entries}
 use Rattle.sp_constants.specs.Values.{all_values, many_value, value_of as constant_of}
 use Rattle.sp_known_types.specs.Full.{is_full, is_right}
 use Rattle.sp_known_types.specs.Clear.{is_clear}
@@ -46,7 +46,7 @@ use Rattle.sp_known_types.specs.Given.{is_member_op, is_method_op}
 use Rattle.sp_known_types.proofs.Full.{never}
 use Rattle.sp_known_types.proofs.Tests.{Fine, Clear, first_fine, first_stands, seen_is}
 use Rattle.sp_known_values.specs.Values.{is_of, are_of, all_of, all_in, is_regex, fits}
-use Rattle.sp_known_values.proofs.Outcomes.{FitAll, all_told, tuple_told as members_told, set_told as anything_told}
+use Rattle.sp_known_values.proofs.Outcomes.{FitAll, all_told, tuple_told as members_told}
 use Rattle.sp_known_values.proofs.Nodes.{Told, Part, part, taken_told, Both}
 
 -- members, and what is called, are no constants
@@ -68,23 +68,28 @@ method_value (many_is.OfSink n) v t os i = refl
 method_value _ v t os i = never i
 
 -- a map with one more entry
-put_pairs : (t : Ty) (x y : Val) (ps : List (Val × Val)) → is_of t y ≡ true → all_in t (entries_of ps) ≡ true → all_in t (entries_of (with_key entry_key (x, y) ps)) ≡ true
-put_pairs t x y [] i e = and_from (is_of t y) true i refl
-put_pairs t x y (p ∷ ps) i e =
-    let q = and_parts (is_of t p.1) (all_in t (entries_of ps)) e in
-    by_order t x y p ps (val_cmp p.0 x) i q.0 q.1 (put_pairs t x y ps i q.1)
+put_pairs : (s t : Ty) (x y : Val) (ps : List (Val × Val)) → is_of s x ≡ true → is_of t y ≡ true → all_in s t (entries_of ps) ≡ true → all_in s t (entries_of (with_key entry_key (x, y) ps)) ≡ true
+put_pairs s t x y [] h i e = and_from (is_of s x) (is_of t y && true) h (and_from (is_of t y) true i refl)
+put_pairs s t x y (p ∷ ps) h i e =
+    let o = and_parts (is_of s p.0) (is_of t p.1 && all_in s t (entries_of ps)) e in
+    let q = and_parts (is_of t p.1) (all_in s t (entries_of ps)) o.1 in
+    by_order s t x y p ps (val_cmp p.0 x) h i o.0 q.0 q.1 (put_pairs s t x y ps h i q.1)
   where
-    by_order : (t : Ty) (x y : Val) (p : Val × Val) (ps : List (Val × Val)) (o : Ordering) → is_of t y ≡ true → is_of t p.1 ≡ true → all_in t (entries_of ps) ≡ true → all_in t (entries_of (with_key entry_key (x, y) ps)) ≡ true
-        → all_in t (entries_of (match_ordering o (p ∷ with_key entry_key (x, y) ps) ((x, y) ∷ ps) ((x, y) ∷ p ∷ ps))) ≡ true
-    by_order t x y p ps Less i is all more = and_from (is_of t p.1) (all_in t (entries_of (with_key entry_key (x, y) ps))) is more
-    by_order t x y p ps Equal i is all more = and_from (is_of t y) (all_in t (entries_of ps)) i all
-    by_order t x y p ps Greater i is all more = and_from (is_of t y) (is_of t p.1 && all_in t (entries_of ps)) i (and_from (is_of t p.1) (all_in t (entries_of ps)) is all)
+    one : (s t : Ty) (a b : Val) (es : Entries) → is_of s a ≡ true → is_of t b ≡ true → all_in s t es ≡ true → (is_of s a && (is_of t b && all_in s t es)) ≡ true
+    one s t a b es h i all = and_from (is_of s a) (is_of t b && all_in s t es) h (and_from (is_of t b) (all_in s t es) i all)
 
-same_entries : (t : Ty) (es : Entries) → all_in t es ≡ true → all_in t (entries_of (pairs_of es)) ≡ true
-same_entries t no_entries e = refl
-same_entries t (entry k v es) e =
-    let p = and_parts (is_of t v) (all_in t es) e in
-    and_from (is_of t v) (all_in t (entries_of (pairs_of es))) p.0 (same_entries t es p.1)
+    by_order : (s t : Ty) (x y : Val) (p : Val × Val) (ps : List (Val × Val)) (o : Ordering) → is_of s x ≡ true → is_of t y ≡ true → is_of s p.0 ≡ true → is_of t p.1 ≡ true → all_in s t (entries_of ps) ≡ true → all_in s t (entries_of (with_key entry_key (x, y) ps)) ≡ true
+        → all_in s t (entries_of (match_ordering o (p ∷ with_key entry_key (x, y) ps) ((x, y) ∷ ps) ((x, y) ∷ p ∷ ps))) ≡ true
+    by_order s t x y p ps Less h i key is all more = one s t p.0 p.1 (entries_of (with_key entry_key (x, y) ps)) key is more
+    by_order s t x y p ps Equal h i key is all more = one s t x y (entries_of ps) h i all
+    by_order s t x y p ps Greater h i key is all more = one s t x y (entry p.0 p.1 (entries_of ps)) h i (one s t p.0 p.1 (entries_of ps) key is all)
+
+same_entries : (s t : Ty) (es : Entries) → all_in s t es ≡ true → all_in s t (entries_of (pairs_of es)) ≡ true
+same_entries s t no_entries e = refl
+same_entries s t (entry k v es) e =
+    let o = and_parts (is_of s k) (is_of t v && all_in s t es) e in
+    let p = and_parts (is_of t v) (all_in s t es) o.1 in
+    and_from (is_of s k) (is_of t v && all_in s t (entries_of (pairs_of es))) o.0 (and_from (is_of t v) (all_in s t (entries_of (pairs_of es))) p.0 (same_entries s t es p.1))
 
 -- types in turn
 turns : Ty → Ty → List Expr → List Ty
@@ -92,7 +97,7 @@ turns k t [] = []
 turns k t (e ∷ []) = k ∷ []
 turns k t (e ∷ d ∷ es) = k ∷ t ∷ turns k t es
 
-entries_told : (k t : Ty) (es : List Expr) (vs : List Val) (xs : Entries) → are_of (tys (turns k t es)) (vals_of vs) ≡ true → all_in t xs ≡ true → is_of (made maker_is.Map (types.more k (types.more t types.none))) (with_entries (value.map xs) vs) ≡ true
+entries_told : (k t : Ty) (es : List Expr) (vs : List Val) (xs : Entries) → are_of (tys (turns k t es)) (vals_of vs) ≡ true → all_in k t xs ≡ true → is_of (made maker_is.Map (types.more k (types.more t types.none))) (with_entries (value.map xs) vs) ≡ true
 unfolding turns
 entries_told k t [] [] xs e i = i
 entries_told k t [] (v ∷ vs) xs e i = never e
@@ -102,9 +107,9 @@ entries_told k t (d ∷ []) (v ∷ w ∷ vs) xs e i = never (and_parts (is_of k 
 entries_told k t (d ∷ c ∷ es) [] xs e i = never e
 entries_told k t (d ∷ c ∷ es) (v ∷ []) xs e i = never (and_parts (is_of k v) false e).1
 entries_told k t (d ∷ c ∷ es) (v ∷ w ∷ vs) xs e i =
-    let p = (and_parts (is_of k v) (is_of t w && are_of (tys (turns k t es)) (vals_of vs)) e).1 in
-    let q = and_parts (is_of t w) (are_of (tys (turns k t es)) (vals_of vs)) p in
-    entries_told k t es vs (entries_of (with_key entry_key (v, w) (pairs_of xs))) q.1 (put_pairs t v w (pairs_of xs) q.0 (same_entries t xs i))
+    let p = and_parts (is_of k v) (is_of t w && are_of (tys (turns k t es)) (vals_of vs)) e in
+    let q = and_parts (is_of t w) (are_of (tys (turns k t es)) (vals_of vs)) p.1 in
+    entries_told k t es vs (entries_of (with_key entry_key (v, w) (pairs_of xs))) q.1 (put_pairs k t v w (pairs_of xs) p.0 q.0 (same_entries k t xs i))
 
 -- a row of one type
 EachIs : Ty → List Ty → Type 0
@@ -127,6 +132,35 @@ items_told : (t : Ty) (es : List Expr) (os : List Outcome) → FitAll (map (λ (
 unfolding Items
 items_told t es os f =
     all_told (Items t) (λ is. refl) (add_item t) (made maker_is.Vector (types.more t types.none)) (row_of many_is.Vector) (map (λ (e : Expr). t) es) os f (λ ws h. h (each_is t es))
+
+-- a set with one more item, and with more
+put_item : (t : Ty) (x : Val) (vs : List Val) → is_of t x ≡ true → all_of t (vals_of vs) ≡ true → all_of t (vals_of (with_key own_key x vs)) ≡ true
+put_item t x [] i e = and_from (is_of t x) true i refl
+put_item t x (v ∷ vs) i e =
+    let q = and_parts (is_of t v) (all_of t (vals_of vs)) e in
+    by_order (val_cmp v x) q.0 q.1 (put_item t x vs i q.1)
+  where
+    by_order : (o : Ordering) → is_of t v ≡ true → all_of t (vals_of vs) ≡ true → all_of t (vals_of (with_key own_key x vs)) ≡ true → all_of t (vals_of (match_ordering o (v ∷ with_key own_key x vs) (x ∷ vs) (x ∷ v ∷ vs))) ≡ true
+    by_order Less is all more = and_from (is_of t v) (all_of t (vals_of (with_key own_key x vs))) is more
+    by_order Equal is all more = and_from (is_of t x) (all_of t (vals_of vs)) i all
+    by_order Greater is all more = and_from (is_of t x) (is_of t v && all_of t (vals_of vs)) i (and_from (is_of t v) (all_of t (vals_of vs)) is all)
+
+same_items : (t : Ty) (vs : Vals) → all_of t vs ≡ true → all_of t (vals_of (list_of vs)) ≡ true
+same_items t no_vals e = refl
+same_items t (val v vs) e =
+    let p = and_parts (is_of t v) (all_of t vs) e in
+    and_from (is_of t v) (all_of t (vals_of (list_of vs))) p.0 (same_items t vs p.1)
+
+grown : (t : Ty) (vs : List Val) (xs : Vals) → all_of t (vals_of vs) ≡ true → all_of t xs ≡ true → is_of (made maker_is.Set (types.more t types.none)) (with_members (value.set xs) vs) ≡ true
+grown t [] xs e i = i
+grown t (v ∷ vs) xs e i =
+    let p = and_parts (is_of t v) (all_of t (vals_of vs)) e in
+    grown t vs (vals_of (with_key own_key v (list_of xs))) p.1 (put_item t v (list_of xs) p.0 (same_items t xs i))
+
+keys_told : (t : Ty) (es : List Expr) (os : List Outcome) → FitAll (map (λ (e : Expr). t) es) os → fits (made maker_is.Set (types.more t types.none)) (of_all (row_of many_is.Set) os) ≡ true
+unfolding Items
+keys_told t es os f =
+    all_told (Items t) (λ is. refl) (add_item t) (made maker_is.Set (types.more t types.none)) (row_of many_is.Set) (map (λ (e : Expr). t) es) os f (λ ws h. grown t ws no_vals (h (each_is t es)) refl)
 
 pairs_told : (k t : Ty) (es : List Expr) (os : List Outcome) → FitAll (turns k t es) os → fits (made maker_is.Map (types.more k (types.more t types.none))) (of_all (row_of many_is.Map) os) ≡ true
 pairs_told k t es os f =
@@ -217,7 +251,7 @@ module _ (only : OneOp → Bool) (k : Known) (m : ℕ) (v : Values) where
       let os = all_values v (exprs es) in
       let all = row_fits true first span es h (clear_parts span t many_is.Set es c) right.1 (first_fine only k m (row_at span maker_is.Set many_is.Set es) c) (and_parts (may_hold true first) (whole_of first es) whole).1 in
       ap (λ b. fits (if b then made maker_is.Set (types.more first types.none) else unknown) (many_value many_is.Set os)) whole
-      ∙ anything_told (types.more first types.none) (map (λ (e : Expr). first) es) os all
+      ∙ keys_told first es os all
 
   -- maps
   turn_fits : (x y : Ty) (e : Expr) (t : Ty) → Part only k m v e → wholes.is_of t e ≡ true → (fits t (constant_of v e) ≡ true) × (is_regex t ≡ false)

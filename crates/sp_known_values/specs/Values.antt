@@ -1,6 +1,5 @@
--- What a constant of a type may be. Widths, the numbers of enums and the keys of sets and maps are left open: they are asked by
--- nothing that takes a value apart.
-use Rattle.std.specs.Prelude.{Bool, true, false, ◌&&◌}
+-- What a constant of a type may be. Widths are left open: they are asked by nothing that takes a value apart.
+use Rattle.std.specs.Prelude.{◌==◌, Bool, true, false, ◌&&◌}
 use Rattle.sp_value.specs.Val.{Val, Vals, Entries, bool, uint, int, bytes, str, enum, tuple, vector, set, map, no_vals, val, no_entries, entry}
 use Rattle.sp_types.specs.declared.words.Word.TheVariants as word_is
 use Rattle.sp_types.specs.declared.words.Maker.TheVariants as maker_is
@@ -18,11 +17,11 @@ abbrev mutual
   is_of (word (word_is.Int x)) (int w n) = true
   is_of (word word_is.Bytes) (bytes b) = true
   is_of (word word_is.String) (str b) = true
-  is_of (word (word_is.Enum x)) (enum k n) = true
+  is_of (word (word_is.Enum x)) (enum k n) = k == x
   is_of (made maker_is.Tuple ts) (tuple vs) = are_of ts vs
   is_of (made maker_is.Vector ts) (vector vs) = all_of (first_type ts) vs
-  is_of (made maker_is.Set ts) (set vs) = true
-  is_of (made maker_is.Map ts) (map es) = all_in (second_type ts) es
+  is_of (made maker_is.Set ts) (set vs) = all_of (first_type ts) vs
+  is_of (made maker_is.Map ts) (map es) = all_in (first_type ts) (second_type ts) es
   is_of _ _ = false
 
   -- members of a tuple
@@ -36,10 +35,10 @@ abbrev mutual
   all_of t no_vals = true
   all_of t (val v vs) = is_of t v && all_of t vs
 
-  -- values of a map
-  pub all_in : Ty → Entries → Bool
-  all_in t no_entries = true
-  all_in t (entry k v es) = is_of t v && all_in t es
+  -- keys and values of a map
+  pub all_in : Ty → Ty → Entries → Bool
+  all_in s t no_entries = true
+  all_in s t (entry k v es) = is_of s k && (is_of t v && all_in s t es)
 
 abbrev pub is_regex : Ty → Bool
 is_regex (word word_is.Regex) = true
