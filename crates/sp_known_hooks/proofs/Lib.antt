@@ -9,5 +9,4 @@ pub mod Seen
 pub mod Contexts
 pub mod Bodies
 pub mod Rows
-pub mod Built
 pub mod Lists

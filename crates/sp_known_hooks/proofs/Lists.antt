@@ -107,7 +107,7 @@ hook_on_container : (g : Around) (worth : Expr → Option ℤ) (s : Site) (units
 hook_on_container g worth s units (node form_is.Hook span (more (row own) (more body none))) e elements = body_on g worth s units _ body e elements
 hook_on_container g worth s units _ e elements = on_container s.of false s.container [] e elements
 
-written_on : (g : Around) (worth : Expr → Option ℤ) (s : Site) (units : List Parameter) (hook : Option Tree) (body : Tree) → (written_hook g worth s units hook body).fits ≡ true → is_of_elements s.of ≡ true → s.container ≡ true
+pub written_on : (g : Around) (worth : Expr → Option ℤ) (s : Site) (units : List Parameter) (hook : Option Tree) (body : Tree) → (written_hook g worth s units hook body).fits ≡ true → is_of_elements s.of ≡ true → s.container ≡ true
 written_on g worth s units (Some hook) body e elements = hook_on_container g worth s units hook e elements
 written_on g worth s units None body e elements = body_on g worth s units [] body e elements
 

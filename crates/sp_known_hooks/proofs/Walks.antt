@@ -1,5 +1,5 @@
 -- What holds of a tree and passes to its parts holds of what stands at the places of hooks in it.
-use Rattle.std.proofs.Common.{ℕ, ◌≡◌, ◌+◌, suc, ap, ◌∙◌, arith, List, [], ◌∷◌, ◌++◌, Some, slice_get}
+use Rattle.std.proofs.Common.{ℕ, ◌≡◌, ◌+◌, suc, ap, ◌∙◌, arith, List, [], ◌∷◌, Some, slice_get}
 use Rattle.sp_base.specs.declared.places.Span.{Span}
 use Rattle.sp_ast.specs.Trees.{Tree, Trees, absent, row, node, none, more}
 use Rattle.sp_ast.specs.declared.forms.Form.{Form}
@@ -10,7 +10,7 @@ use Rattle.sp_ast.specs.declared.forms.ItemForm.TheVariants as item_is
 use Rattle.sp_ast.specs.declared.forms.PartForm.TheVariants as part_is
 use Rattle.sp_ast.specs.declared.forms.BodyForm.TheVariants as body_is
 use Rattle.sp_names.specs.declared.rows.Declaration.{Declaration}
-use Rattle.sp_names.specs.Declarations.{list_of, module_declarations, rows_of, rows_from, rows, type_tree_of, declaration_at, number_at}
+use Rattle.sp_names.specs.Declarations.{rows, type_tree_of, declaration_at, number_at}
 use Rattle.sp_around.specs.Members.{unit_in, unit_items}
 use Rattle.sp_hook_rows.specs.declared.sites.Holder.{Holder}
 use Rattle.sp_hook_rows.specs.declared.sites.Holder.TheVariants as holder_is
@@ -32,30 +32,6 @@ pub record Passes (P : Tree → Type 0) (All : Trees → Type 0) : Type 0 where
   pub rest : (t : Tree) (ts : Trees) → All (more t ts) → All ts
   pub left_out : P absent
   pub nothing : All none
-
--- what holds of the trees of modules holds of their declarations
-module _ (P : Tree → Type 0) (All : Trees → Type 0) (passes : Passes P All) where
-  abbrev pub Declares : Declaration → Type 0
-  Declares d = P d.tree
-
-  row_passes : (m : ℕ) (ts : Trees) → All ts → AllOf Declares (rows_of m (list_of ts))
-  row_passes m none h = tt
-  row_passes m (more t ts) h = (passes.first t ts h, row_passes m ts (passes.rest t ts h))
-
-  module_passes : (m : ℕ) (t : Tree) → P t → AllOf Declares (rows_of m (module_declarations t))
-  module_passes m absent h = tt
-  module_passes m (row ts) h = tt
-  module_passes m (node form_is.Module span none) h = tt
-  module_passes m (node form_is.Module span (more name none)) h = tt
-  module_passes m (node form_is.Module span (more name (more absent ts))) h = tt
-  module_passes m (node form_is.Module span (more name (more (node form at us) ts))) h = tt
-  module_passes m (node form_is.Module span (more name (more (row ds) ts))) h =
-      row_passes m ds (passes.in_row ds (passes.first (row ds) ts (passes.rest name (more (row ds) ts) (passes.parts form_is.Module span (more name (more (row ds) ts)) h))))
-  module_passes m (node _ span ts) h = tt
-
-  pub modules_pass : (m : ℕ) (ts : List Tree) → AllOf P ts → AllOf Declares (rows_from m ts)
-  modules_pass m [] h = tt
-  modules_pass m (t ∷ ts) h = both_of Declares (rows_of m (module_declarations t)) (rows_from (suc m) ts) (module_passes m t h.0) (modules_pass (suc m) ts h.1)
 
 module _ (m n : ℕ) where
   -- those of a declaration: what holds of the items of the unit that it declares, and of itself, if it is a hook

@@ -1,15 +1,13 @@
 -- A body passes where it keeps what is named round it, and no rule is broken in it.
-use Rattle.std.specs.Prelude.{Bool, true, false, ◌&&◌, ◌||◌, ◌++◌, ◌-◌, if◌then◌else◌, nat_lt, length}
+use Rattle.std.specs.Prelude.{Bool, true, false, ◌&&◌, ◌++◌, ◌-◌, if◌then◌else◌, nat_lt, length}
 use Rattle.std.specs.List.{list_all}
-use Rattle.std.proofs.Common.{ℕ, ◌≡◌, ◌+◌, ◌<◌, zero, suc, refl, sym, ap, subst, ◌∙◌, arith, List, [], ◌∷◌, Option, Some, None, slice_get}
-use Rattle.std.proofs.lemmas.Bool.{and_parts, and_from}
+use Rattle.std.proofs.Common.{ℕ, ◌≡◌, ◌+◌, zero, suc, refl, sym, ap, subst, ◌∙◌, arith, List, [], ◌∷◌, Option, Some, None, slice_get}
+use Rattle.std.proofs.lemmas.Bool.{and_parts}
 use Rattle.std.proofs.lemmas.Bool.Decides.{nat_tests}
 use Rattle.sp_ast.specs.Trees.{Tree}
-use Rattle.sp_types.specs.Types.{Ty, same}
+use Rattle.sp_types.specs.Types.{Ty}
 use Rattle.sp_types.proofs.Same.{same_itself}
-use Rattle.sp_typed.specs.Nodes.{holds}
-use Rattle.sp_typed.specs.Stmts.{Stmt}
-use Rattle.sp_typed.specs.StmtNodes.{stmts_in, stmt_nodes, nodes_hold}
+use Rattle.sp_typed.specs.StmtNodes.{stmts_in, stmt_nodes}
 use Rattle.sp_typed_units.specs.declared.declarations.Function.{Function}
 use Rattle.sp_typed_units.specs.declared.declarations.Parameter.{Parameter}
 use Rattle.sp_typed_units.specs.declared.declarations.Typed.{Typed}
@@ -22,14 +20,12 @@ use Rattle.sp_body_rules.specs.ExprTests.{expr_tests}
 use Rattle.sp_body_rules.specs.StmtTests.{stmt_tests}
 use Rattle.sp_list_rules.specs.Lists.{all_tests}
 use Rattle.sp_list_rules.specs.Names.{stmt_names}
-use Rattle.sp_list_rules.specs.Told.{known_in, target_of, function_takes, parameter_type}
+use Rattle.sp_list_rules.specs.Told.{known_in, function_takes, parameter_type}
 use Rattle.sp_list_rules.specs.Bodies.{body_tests}
 use Rattle.sp_emit_expr.specs.declared.around.Places.{Places}
-use Rattle.sp_known_types.specs.Full.{is_full, is_right}
+use Rattle.sp_known_types.specs.Full.{is_full}
 use Rattle.sp_known_types.specs.Clear.{none_hold, any_op}
 use Rattle.sp_known_types.specs.Given.{IsKnown}
-use Rattle.sp_known_types.specs.Stmts.{is_good, exprs_hold}
-use Rattle.sp_known_types.proofs.Full.{never}
 use Rattle.sp_known_literals.specs.Widened.{AreWidened}
 use Rattle.sp_known_bodies.specs.Slots.{IsBlind}
 use Rattle.sp_known_bodies.specs.Decided.{DecidesUnder}

@@ -1,34 +1,31 @@
 -- The units of a list in which no rule is broken and all is built are built of what has a meaning.
-use Rattle.std.specs.Prelude.{Bool, true, false, not, ◌&&◌, ◌||◌, ◌++◌, if◌then◌else◌, length}
+use Rattle.std.specs.Prelude.{Bool, true, false, ◌&&◌, length}
 use Rattle.std.specs.List.{list_all}
-use Rattle.std.proofs.Common.{ℕ, ◌≡◌, ◌+◌, ◌<◌, zero, suc, refl, sym, ap, subst, ◌∙◌, arith, List, [], ◌∷◌, Option, Some, None, slice_get}
+use Rattle.std.proofs.Common.{ℕ, ◌≡◌, zero, suc, refl, sym, ap, subst, ◌∙◌, List, [], ◌∷◌, Option, Some, None, slice_get}
 use Rattle.std.proofs.lemmas.Bool.{and_parts, and_from}
-use Rattle.sp_ast.specs.Trees.{Tree, Trees, row, node, none, more}
+use Rattle.sp_ast.specs.Trees.{Tree, Trees}
 use Rattle.sp_ast.specs.Slots.{is_formed}
-use Rattle.sp_ast.specs.declared.forms.Form.TheVariants as form_is
 use Rattle.sp_rules.specs.declared.fault.Fault.{Fault}
 use Rattle.sp_types.specs.declared.words.Word.TheVariants as word_is
 use Rattle.sp_types.specs.Types.{Ty, word}
 use Rattle.sp_types.proofs.Same.{same_itself}
 use Rattle.sp_typed.specs.declared.words.Standing.TheVariants as standing_is
-use Rattle.sp_typed.specs.Exprs.{Expr}
+use Rattle.sp_typed.specs.Exprs.{Expr, type_of}
 use Rattle.sp_typed_units.specs.declared.declarations.Hook.{Hook}
+use Rattle.sp_typed_units.specs.declared.declarations.Member.{Member}
 use Rattle.sp_typed_units.specs.declared.declarations.Parameter.{Parameter}
 use Rattle.sp_typed_units.specs.declared.declarations.Sink.{Sink}
 use Rattle.sp_typed_units.specs.declared.declarations.Typed.{Typed}
 use Rattle.sp_typed_units.specs.declared.declarations.Unit.{Unit as TypedUnit}
 use Rattle.sp_typed_units.specs.declared.declarations.Variable.{Variable}
-use Rattle.sp_typed_units.specs.declared.items.Field.{Field}
-use Rattle.sp_typed_units.specs.Parts.{Part, Parts, field, choice, no_parts, more_parts, parts}
+use Rattle.sp_typed_units.specs.Parts.{Parts, field, choice, no_parts, more_parts, parts}
 use Rattle.sp_solver.specs.Told.{told}
 use Rattle.sp_names.specs.declared.rows.Declaration.{Declaration}
 use Rattle.sp_names.specs.declared.sort.DeclSort.TheVariants as sort_is
 use Rattle.sp_names.specs.Declarations.{rows, all_of, sort_of, type_tree_of, declaration_at}
 use Rattle.sp_typing.specs.Contexts.{Around as Names}
-use Rattle.sp_typing_units.specs.Decorators.{with_self}
 use Rattle.sp_typing_units.specs.Parts.{Fields, field_place}
 use Rattle.sp_typing_heads.specs.Parameters.{with_parameters}
-use Rattle.sp_around.specs.Members.{unit_in, unit_items}
 use Rattle.sp_list_rules.specs.Lists.{all_tests}
 use Rattle.sp_list_rules.specs.Names.{order_names, variable_names}
 use Rattle.sp_list_rules.specs.Bodies.{parameter_tests, order_tests, variable_tests}
@@ -43,46 +40,44 @@ use Rattle.sp_unbuilt.specs.Fields.{kinds_in_unit, kinds_in_units}
 use Rattle.sp_typed_list.specs.Settled.{Answers}
 use Rattle.sp_typed_list.specs.Lists.{typed_of, hooks_in, units_from}
 use Rattle.sp_check_unit.specs.Rules.{Breaks}
-use Rattle.sp_bodies.specs.Globals.{globals_of}
-use Rattle.sp_bodies.specs.Calls.{is_foreach}
-use Rattle.sp_bodies.specs.Units.{is_plain, last_order, module_order, integer_field, is_of_unit}
-use Rattle.sp_bodies_end.specs.Built.{IsThere, StmtIsBuilt}
+use Rattle.sp_bodies.specs.Units.{is_plain, last_order, module_order, integer_field}
+use Rattle.sp_bodies_end.specs.Built.{IsThere}
 use Rattle.sp_units_end.specs.Built as built
 use Rattle.sp_emit_unit.specs.Values as literals
 use Rattle.sp_emit_expr.specs.declared.around.Places.{Places}
-use Rattle.sp_known_types.specs.Clear.{none_hold}
-use Rattle.sp_known_types.proofs.Full.{never}
 use Rattle.sp_whole_list.specs.Whole.{is_known_parameter, is_known_member, is_known_variable, is_known_unit, is_known_function}
 use Rattle.sp_whole_list.proofs.Modules.{none_found, some_found}
 use Rattle.sp_whole_list.proofs.None.{none_parts}
 use Rattle.sp_known_constants.specs.Given.{asked}
 use Rattle.sp_known_constants.proofs.Declarations.{AllOf, at_all}
-use Rattle.sp_known_constants.proofs.Enums.{test_at}
 use Rattle.sp_known_members.proofs.Built.{nothing, two_parts}
 use Rattle.sp_known_members.proofs.Contexts.{home}
 use Rattle.sp_known_members.proofs.Shapes.{is_unit_sort, unit_tree}
-use Rattle.sp_known_members.proofs.Units.{IsDeclared, all_declared, found_at, fine, pts, items, ps, fields, row_here, row_is, suits, items_are_fine, tests, names, unit_at}
-use Rattle.sp_known_hooks.proofs.Built.{IsBuilt, AreBuilt, built_passes}
+use Rattle.sp_known_members.proofs.Units.{IsDeclared, all_declared, found_at, fine, items, ps, fields, row_here, row_is, suits, items_are_fine, tests, names}
+use Rattle.sp_passing_list.proofs.BuiltTrees.{IsBuilt, AreBuilt, built_passes}
 use Rattle.sp_known_hooks.proofs.Walks.{unit_passes, type_passes, declared_passes}
 use Rattle.sp_fit_expr.specs.declared.around.Around.{Around}
 use Rattle.sp_fit_expr.specs.Lists.{is_type}
-use Rattle.sp_fit_expr.specs.Test.{parameter_type, parameter_is}
+use Rattle.sp_fit_expr.specs.Test.{parameter_type, parameter_is, expr_passes}
 use Rattle.sp_fit_expr.proofs.Sound.{expr_sound}
 use Rattle.sp_fit_list.specs.inside.Bodies.{HookPasses}
 use Rattle.sp_fit_list.specs.inside.Locals.{unit_types}
+use Rattle.sp_fit_list.specs.inside.Units.{has_member, UnitPasses}
+use Rattle.sp_fit_list.specs.inside.Units as fit
 use Rattle.sp_known_kinds.specs.Made.{AreMade}
 use Rattle.sp_known_kinds.proofs.Names.{parameters_made, self_made}
 use Rattle.sp_known_literals.specs.Widened.{AreWidened}
 use Rattle.sp_passing_list.specs.Built.{unit_built}
+use Rattle.sp_passing_list.specs.Stored.{value_stored, variables_stored, UnitStores}
 use Rattle.sp_passing_list.proofs.Members.{round_of, unit_get}
 use Rattle.sp_passing_list.proofs.Names.{home_made, home_widens, parameters_widen, self_widens}
-use Rattle.sp_passing_list.proofs.Bodies.{type_is, calls_asked}
+use Rattle.sp_passing_list.proofs.Bodies.{calls_asked}
 use Rattle.sp_passing_list.proofs.FunctionBodies.{each_at}
 use Rattle.sp_passing_list.proofs.Seen.{equal_itself, seen_behind}
 use Rattle.sp_passing_list.proofs.Hung.{AllBelow, hooks_below}
 use Rattle.sp_passing_list.proofs.Plain.{no_sinks, no_filters}
 use Rattle.sp_passing_list.proofs.Owned.{AreOwned, module_owned, parameters_owned, self_owned}
-use Rattle.sp_passing_list.proofs.Fields.{IsIntegerField, AllFields, items_so}
+use Rattle.sp_passing_list.proofs.Fields.{AllFields, items_so}
 use Rattle.sp_passing_list.proofs.Units.{ValuePasses, VariablePasses, variables_are, each_passes}
 
 -- where the expressions of a unit have what they see
@@ -216,6 +211,29 @@ module _ (list : List Tree) (a : Answers list) (formed_list : list_all is_formed
         by None h = (tt, tt)
         by (Some e) h = (let sound = expr_sound around e h in (sound.built, sound.literals))
 
+    -- variables that have their members pass
+    variables_so : (members : List Member) (vs : List Variable) → AllOf (VariablePasses around) vs → variables_stored members vs ≡ true → fit.variables_pass around members vs ≡ true
+    variables_so members [] all stored = refl
+    variables_so members (v ∷ vs) all stored =
+        let member = slice_get members v.member in
+        let p = and_parts (has_member member) (value_stored member v.value && variables_stored members vs) stored in
+        let q = and_parts (value_stored member v.value) (variables_stored members vs) p.1 in
+        and_from (has_member member && fit.value_passes around members v.member v.value) (fit.variables_pass around members vs)
+        (and_from (has_member member) (fit.value_passes around members v.member v.value) p.0 (by v.value all.0 q.0)) (variables_so members vs all.1 q.1)
+      where
+        by : (o : Option Expr) → ValuePasses around o → value_stored (slice_get members v.member) o ≡ true → fit.value_passes around members v.member o ≡ true
+        by None h is = refl
+        by (Some e) h is = and_from (expr_passes around e) (fit.member_is_of (slice_get members v.member) (type_of e)) h is
+
+    row_passes : (types : List (Option Ty)) → UnitStores t types n the_row → UnitPasses t types n the_row
+    row_passes types stores = record {
+      plain = plain_so the_row.filter the_row.sinks (no_filters here items_built) (no_sinks known_fields here items_built);
+      around = around;
+      is_around = record { same_list = refl; own = refl; current = refl; offset = refl; first = refl; locals = refl; unit = refl };
+      variables = variables_so the_row.members the_row.variables variables_pass stores.variables;
+      parts = stores.parts;
+    }
+
     row_built : built.UnitIsBuilt t n the_row
     row_built = record {
       plain = plain_so the_row.filter the_row.sinks (no_filters here items_built) (no_sinks known_fields here items_built);
@@ -256,3 +274,9 @@ module _ (list : List Tree) (a : Answers list) (formed_list : list_all is_formed
 
   pub units_fit : (n : ℕ) (x : TypedUnit) → slice_get t.units n ≡ Some x → literals.ValuesFit x.variables
   units_fit n x listed = (let r = of_row n x listed in subst (λ (y : TypedUnit). literals.ValuesFit y.variables) r.same (row_fits n r.g r.d r.at r.is r.sort))
+
+  -- Units pass where their variables and fields store what their rows have.
+  pub units_pass : (types : List (Option Ty)) (n : ℕ) (x : TypedUnit) → slice_get t.units n ≡ Some x → UnitStores t types n x → UnitPasses t types n x
+  units_pass types n x listed =
+      let r = of_row n x listed in
+      subst (λ (y : TypedUnit). UnitStores t types n y → UnitPasses t types n y) r.same (row_passes n r.g r.d r.at r.is r.sort types)

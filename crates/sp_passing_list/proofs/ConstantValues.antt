@@ -1,7 +1,7 @@
 -- The constants of a list in which no rule is broken have values of their types.
-use Rattle.std.specs.Prelude.{Bool, true, false, ◌&&◌, ◌++◌, length}
+use Rattle.std.specs.Prelude.{true, ◌&&◌}
 use Rattle.std.specs.List.{list_all}
-use Rattle.std.proofs.Common.{ℕ, ◌≡◌, ◌+◌, ◌<◌, zero, suc, refl, sym, ap, subst, ◌∙◌, arith, List, [], ◌∷◌, Option, Some, None, slice_get}
+use Rattle.std.proofs.Common.{ℕ, ◌≡◌, suc, refl, sym, subst, ◌∙◌, List, [], ◌∷◌, Option, Some, slice_get}
 use Rattle.std.proofs.lemmas.Bool.{and_parts, and_from}
 use Rattle.sp_value.specs.Val.{Val, Vals, Entries, bool, uint, int, bytes, str, enum, tuple, vector, set, map, no_vals, val, no_entries, entry}
 use Rattle.sp_ast.specs.Trees.{Tree}
@@ -13,30 +13,26 @@ use Rattle.sp_types.specs.Types.{Ty, Tys, word, made}
 use Rattle.sp_types.specs.Types as types
 use Rattle.sp_typed_units.specs.declared.declarations.Constant.{Constant}
 use Rattle.sp_typed_units.specs.declared.declarations.Typed.{Typed}
-use Rattle.sp_operands.specs.Operands.{first_type}
-use Rattle.sp_typing.specs.Typing.{second_type}
 use Rattle.sp_solver.specs.Told.{told}
 use Rattle.sp_constants.specs.declared.outcome.Outcome.{Outcome}
 use Rattle.sp_constants.specs.declared.outcome.Outcome.TheVariants as outcome_is
-use Rattle.sp_declared_values.specs.Valued.{constants}
 use Rattle.sp_declared_values.specs.Answers.{constant_type, constant_value}
 use Rattle.sp_declared_values.specs.TypedRows.{shown_value}
 use Rattle.sp_typed_list.specs.Settled.{Answers}
 use Rattle.sp_typed_list.specs.Lists.{typed_of}
 use Rattle.sp_check_unit.specs.Rules.{Breaks}
 use Rattle.sp_bodies.specs.Globals.{globals_of}
-use Rattle.sp_known_types.specs.Full.{has_parts, is_full, are_full}
+use Rattle.sp_known_types.specs.Full.{is_full, are_full}
 use Rattle.sp_known_types.proofs.Full.{never}
 use Rattle.sp_known_values.specs.Values.{is_of, are_of, all_of, all_in, fits}
-use Rattle.sp_known_constants.specs.Given.{AreUnbroken}
 use Rattle.sp_known_constants.proofs.Places.{constant_typed, constant_fits}
 use Rattle.sp_known_constants.proofs.Rounds.{constant_answered}
 use Rattle.sp_unbroken_list.proofs.Lists.{are_unbroken}
-use Rattle.sp_whole_list.proofs.Modules.{none_found, some_found}
-use Rattle.sp_fit_expr.specs.Constants.{nth_has, value_has, members_have, items_have, entries_have, constant_passes, constants_pass}
+use Rattle.sp_whole_list.proofs.Modules.{some_found}
+use Rattle.sp_fit_expr.specs.Constants.{value_has, members_have, items_have, entries_have, constant_passes, constants_pass}
 use Rattle.sp_fit_expr.specs.Passes.{ConstantsFit}
 use Rattle.sp_fit_expr.proofs.OfValues.{constants_fit}
-use Rattle.sp_passing_list.proofs.Constants.{Shown, constant_shown, constant_listed}
+use Rattle.sp_passing_list.proofs.Constants.{constant_shown, constant_listed}
 
 -- what is of a type as a constant is so in the test
 mutual

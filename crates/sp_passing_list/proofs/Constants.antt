@@ -1,7 +1,7 @@
 -- The constants of a typed list: each has the type that its paths have, and a value, unless it is a regular expression.
-use Rattle.std.specs.Prelude.{Bool, true, false, not, ◌&&◌, ◌||◌, ◌++◌, length}
+use Rattle.std.specs.Prelude.{Bool, true, false, not, ◌||◌, ◌++◌, length}
 use Rattle.std.specs.List.{list_all}
-use Rattle.std.proofs.Common.{ℕ, ◌≡◌, ◌+◌, ◌<◌, zero, suc, refl, sym, ap, subst, ◌∙◌, arith, List, [], ◌∷◌, Option, Some, None, slice_get}
+use Rattle.std.proofs.Common.{ℕ, ◌≡◌, ◌+◌, ◌<◌, zero, suc, refl, sym, ap, subst, ◌∙◌, arith, List, [], ◌∷◌, Option, Some, slice_get}
 use Rattle.std.proofs.lemmas.Bool.{and_parts, and_from, not-true}
 use Rattle.sp_ast.specs.Trees.{Tree}
 use Rattle.sp_ast.specs.Slots.{is_formed}
@@ -9,16 +9,13 @@ use Rattle.sp_rules.specs.declared.fault.Fault.{Fault}
 use Rattle.sp_types.specs.declared.words.Word.TheVariants as word_is
 use Rattle.sp_types.specs.Types.{Ty, word, made, same}
 use Rattle.sp_types.proofs.Same.{same_itself}
-use Rattle.sp_typed.specs.declared.words.LeafOp.TheVariants as leaf_is
 use Rattle.sp_typed_units.specs.declared.declarations.Constant.{Constant}
-use Rattle.sp_typed_units.specs.declared.declarations.ConstantValue.{ConstantValue}
-use Rattle.sp_typed_units.specs.declared.declarations.ConstantValue.TheVariants as constant_is
 use Rattle.sp_typed_units.specs.declared.declarations.Typed.{Typed}
 use Rattle.sp_solver.specs.Told.{told}
 use Rattle.sp_names.specs.declared.rows.Declaration.{Declaration}
 use Rattle.sp_names.specs.declared.sort.DeclSort.{DeclSort}
 use Rattle.sp_names.specs.declared.sort.DeclSort.TheVariants as sort_is
-use Rattle.sp_names.specs.Declarations.{rows, sort_of, sort_at, number_at}
+use Rattle.sp_names.specs.Declarations.{rows, sort_of, number_at}
 use Rattle.sp_constants.specs.declared.outcome.Outcome.{Outcome}
 use Rattle.sp_constants.specs.declared.outcome.Outcome.TheVariants as outcome_is
 use Rattle.sp_list_rules.specs.Bodies.{declared_tests, lacks_value, inside_const, const_tests}
@@ -43,7 +40,6 @@ use Rattle.sp_unbroken_list.proofs.Lists.{are_unbroken}
 use Rattle.sp_fit_expr.specs.declared.around.Around.{Around}
 use Rattle.sp_fit_expr.specs.Test.{has_value, constant_is_of}
 use Rattle.sp_emit_expr.specs.declared.around.Places.{Places}
-use Rattle.sp_known_kinds.specs.Made.{leaf_made}
 use Rattle.sp_known_kinds.specs.Kept.{ConstantsKept}
 use Rattle.sp_passing_list.proofs.Members.{round_of, found_below}
 

@@ -1,11 +1,10 @@
 -- The fields of a unit where all is built: each reads an integer, and nothing else may stand in the unit.
-use Rattle.std.specs.Prelude.{Bool, true, false, not, ◌&&◌, ◌||◌, ◌++◌}
+use Rattle.std.specs.Prelude.{Bool, true, false, not, ◌&&◌, ◌++◌}
 use Rattle.std.proofs.Common.{ℕ, ◌≡◌, refl, sym, ap, subst, ◌∙◌, List, [], ◌∷◌, Option, Some, None}
-use Rattle.std.proofs.lemmas.Bool.{and_parts, not-true}
-use Rattle.sp_base.specs.declared.places.Diag.{Diag}
+use Rattle.std.proofs.lemmas.Bool.{and_parts}
 use Rattle.sp_base.specs.declared.places.Span.{Span}
 use Rattle.sp_ast.specs.Trees.{Tree, Trees, absent, row, node, none, more}
-use Rattle.sp_ast.specs.Slots.{fill, slots, is_formed, are_formed}
+use Rattle.sp_ast.specs.Slots.{fill, slots, are_formed}
 use Rattle.sp_ast.specs.Groups.{is_of, are_of, fits as stands_as}
 use Rattle.sp_ast.specs.declared.groups.Group.TheVariants as group_is
 use Rattle.sp_ast.specs.declared.groups.Sort.TheVariants as stands
@@ -16,9 +15,8 @@ use Rattle.sp_types.specs.Types.{Ty}
 use Rattle.sp_typed_units.specs.declared.items.Field.{Field}
 use Rattle.sp_typed_units.specs.Parts.{Part, Parts, field, choice, no_parts, more_parts, parts}
 use Rattle.sp_typing.specs.Contexts.{Around}
-use Rattle.sp_typing_units.specs.declared.readings.Read.{Read}
 use Rattle.sp_typing_units.specs.Values.{Values}
-use Rattle.sp_typing_units.specs.Attributes.{present, maybe_typed, attributes, conversion, converted}
+use Rattle.sp_typing_units.specs.Attributes.{present, maybe_typed, converted}
 use Rattle.sp_typing_units.specs.Readings.{counted_read}
 use Rattle.sp_typing_units.specs.Parts.{Fields, field_place, member_number, field_of, field_in, part_of}
 use Rattle.sp_unit_rows.specs.Items.{parts_in}
@@ -30,9 +28,9 @@ use Rattle.sp_known_constants.specs.Fine.{IsFine, AreFine}
 use Rattle.sp_known_constants.proofs.Fine.{formed, inside, first, rest}
 use Rattle.sp_known_members.proofs.Built.{nothing, two_parts}
 use Rattle.sp_known_members.proofs.Shapes.{no_first, field_parts, field_whole}
-use Rattle.sp_known_hooks.proofs.Built.{IsBuilt, AreBuilt, built_passes, at_tree}
+use Rattle.sp_passing_list.proofs.BuiltTrees.{IsBuilt, AreBuilt, built_passes, at_tree}
 use Rattle.sp_fit_list.specs.inside.Units.{is_read}
-use Rattle.sp_passing_list.proofs.Readings.{first_built, rest_built, row_built, Ordered, orders_alone, no_conversion, counted_reads}
+use Rattle.sp_passing_list.proofs.Readings.{first_built, rest_built, row_built, orders_alone, no_conversion, counted_reads}
 
 no_word : (text : List ℕ) (m n : ℕ) (o : Option Tree) → nothing (word_tests text m n o) ≡ true → o ≡ None
 no_word text m n None e = refl

@@ -13,26 +13,23 @@ use Rattle.sp_rules.specs.declared.fault.Fault.{Fault}
 use Rattle.sp_types.specs.Types.{Ty, same}
 use Rattle.sp_types.proofs.Same.{same_itself}
 use Rattle.sp_typed_units.specs.declared.declarations.Function.{Function}
-use Rattle.sp_typed_units.specs.declared.declarations.Parameter.{Parameter}
 use Rattle.sp_typed_units.specs.declared.declarations.Typed.{Typed}
 use Rattle.sp_solver.specs.Told.{told}
 use Rattle.sp_names.specs.declared.rows.Declaration.{Declaration}
 use Rattle.sp_names.specs.declared.sort.DeclSort.TheVariants as sort_is
-use Rattle.sp_names.specs.Declarations.{all_of, rows, sort_of, declaration_at, module_name, module_at}
+use Rattle.sp_names.specs.Declarations.{all_of, sort_of, declaration_at, module_name, module_at}
 use Rattle.sp_names.specs.Names.{declaration_of}
 use Rattle.sp_typing.specs.declared.context.Member.{Member}
 use Rattle.sp_typing.specs.Contexts.{Around as Names}
-use Rattle.sp_typing_stmts.specs.declared.body.Body.{Body as Typing}
 use Rattle.sp_typing_stmts.specs.Statements.{written_type, written_of}
 use Rattle.sp_typing_heads.specs.Functions.{or_void, body_giving, function_of}
 use Rattle.sp_typing_heads.specs.Parameters.{parameters_in, with_parameters}
 use Rattle.sp_around.specs.Arounds.{stored_by, member_of}
 use Rattle.sp_list_rules.specs.Lists.{all_tests, option_tests}
-use Rattle.sp_list_rules.specs.Names.{function_names, stmt_names}
+use Rattle.sp_list_rules.specs.Names.{function_names}
 use Rattle.sp_list_rules.specs.Slots.{for_slots}
 use Rattle.sp_list_rules.specs.Told.{known_in, values_of}
 use Rattle.sp_list_rules.specs.Bodies.{body_tests, parameter_tests, plain_tests, wanted_of, given_tests, function_tests}
-use Rattle.sp_body_rules.specs.Known.{Known}
 use Rattle.sp_body_rules.specs.Sweeps.{end_tests}
 use Rattle.sp_typed_list.specs.Settled.{Answers}
 use Rattle.sp_typed_list.specs.Lists.{typed_of}
@@ -43,7 +40,6 @@ use Rattle.sp_running.specs.Types.{kind_of_type}
 use Rattle.sp_code.specs.Shapes.{OfFunction}
 use Rattle.sp_known_types.specs.Full.{is_full}
 use Rattle.sp_known_types.specs.Clear.{none_hold, any_op}
-use Rattle.sp_known_types.proofs.Full.{never}
 use Rattle.sp_known_bodies.specs.Trees.{is_body}
 use Rattle.sp_known_bodies.proofs.Formed.{formed_body}
 use Rattle.sp_whole_list.specs.Types.{is_type}
@@ -56,7 +52,7 @@ use Rattle.sp_whole_list.proofs.None.{none_parts}
 use Rattle.sp_known_constants.specs.Good.{is_told}
 use Rattle.sp_known_constants.specs.Fine.{IsFine}
 use Rattle.sp_known_constants.proofs.Fine.{inside, first, rest, written}
-use Rattle.sp_known_constants.proofs.Declarations.{AllOf, at_all, declaration_fine}
+use Rattle.sp_known_constants.proofs.Declarations.{at_all, declaration_fine}
 use Rattle.sp_known_constants.proofs.Enums.{test_at}
 use Rattle.sp_known_constants.proofs.Named.{tree_told}
 use Rattle.sp_unbroken_list.proofs.Split.{declared_names, are_named, are_asked}
@@ -64,17 +60,12 @@ use Rattle.sp_unbroken_list.proofs.Functions.{is_function_sort, whole, IsWhole, 
 use Rattle.sp_unbroken_list.proofs.Bodies.{module_told, module_is_known}
 use Rattle.sp_unbroken_list.proofs.Lists.{are_unbroken}
 use Rattle.sp_fit_body.specs.declared.bodies.Body.{Body}
-use Rattle.sp_fit_body.specs.declared.bodies.Returns.{Returns}
 use Rattle.sp_fit_body.specs.declared.bodies.Returns.TheVariants as returns
 use Rattle.sp_fit_body.specs.Passes.{StmtPasses}
-use Rattle.sp_fit_body.specs.Test.{stmt_passes}
 use Rattle.sp_fit_body.proofs.Sound.{stmt_sound}
-use Rattle.sp_fit_list.specs.inside.Locals.{parameter_types}
 use Rattle.sp_fit_list.specs.inside.Bodies.{FunctionPasses}
 use Rattle.sp_fit_list.proofs.Handed.{locals_listed}
-use Rattle.sp_program.specs.Routines.{parameter_kinds, slot_kinds}
 use Rattle.sp_known_kinds.proofs.Names.{parameters_made}
-use Rattle.sp_known_statements.specs.Built.{stmt_built}
 use Rattle.sp_known_statements.specs.Ready.{returns_so}
 use Rattle.sp_passing_list.specs.Built.{function_built}
 use Rattle.sp_passing_list.proofs.Functions.{IsDeclared, all_declared, function_is, the_function, function_maybe, function_number}

@@ -1,14 +1,13 @@
 -- The functions of a typed list, by their numbers: what they give and take is what is known of them where expressions are typed.
-use Rattle.std.specs.Prelude.{Bool, true, false, ◌==◌, ◌&&◌, if◌then◌else◌, ◌++◌}
+use Rattle.std.specs.Prelude.{Bool, true, false, ◌==◌, if◌then◌else◌, ◌++◌}
 use Rattle.std.specs.List.{list_all}
 use Rattle.std.proofs.Common.{ℕ, ◌≡◌, ◌+◌, zero, suc, refl, sym, ap, subst, ◌∙◌, arith, List, [], ◌∷◌, Option, Some, None, slice_get}
-use Rattle.std.proofs.lemmas.Bool.{and_parts, and_from}
+use Rattle.std.proofs.lemmas.Bool.{and_parts}
 use Rattle.sp_base.specs.declared.places.Span.{Span}
 use Rattle.sp_ast.specs.Trees.{Tree, Trees, absent, row, node, none, more}
 use Rattle.sp_ast.specs.Slots.{fill, slots, is_formed, are_formed}
-use Rattle.sp_ast.specs.Groups.{is_of, are_of, fits}
+use Rattle.sp_ast.specs.Groups.{is_of, are_of}
 use Rattle.sp_ast.specs.declared.groups.Group.TheVariants as group_is
-use Rattle.sp_ast.specs.declared.groups.Sort.TheVariants as slot_is
 use Rattle.sp_ast.specs.declared.forms.Form.TheVariants as form_is
 use Rattle.sp_ast.specs.declared.forms.DeclForm.TheVariants as decl_is
 use Rattle.sp_rules.specs.declared.fault.Fault.{Fault}
@@ -28,7 +27,7 @@ use Rattle.sp_typing.specs.Contexts.{Around}
 use Rattle.sp_typing_stmts.specs.Statements.{written_type}
 use Rattle.sp_typing_heads.specs.Functions.{or_void, function_of}
 use Rattle.sp_typing_heads.specs.Parameters.{parameters_in}
-use Rattle.sp_around.specs.Heads.{parameter_tree, parameter_types, function_parameters, types_of_function, result_type, result_of, type_or_void, function_takes as takes_of, function_gives, function_declaration}
+use Rattle.sp_around.specs.Heads.{parameter_types, function_parameters, types_of_function, result_type, result_of, type_or_void, function_takes as takes_of, function_gives, function_declaration}
 use Rattle.sp_list_rules.specs.Told.{function_takes, parameter_type}
 use Rattle.sp_list_context.specs.Contexts.{in_module}
 use Rattle.sp_typed_list.specs.Settled.{Answers}

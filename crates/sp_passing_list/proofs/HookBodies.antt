@@ -1,45 +1,37 @@
 -- The hooks of a list in which no rule is broken pass, where `$$` is what the field stores on which a hook hangs.
 use Rattle.std.specs.Prelude.{pos, Bool, true, false, not, ◌&&◌, ◌||◌, ◌++◌, if◌then◌else◌, length}
 use Rattle.std.specs.List.{list_all}
-use Rattle.std.proofs.Common.{ℕ, ℤ, ◌≡◌, ◌+◌, zero, suc, refl, sym, ap, subst, ◌∙◌, arith, List, [], ◌∷◌, Option, Some, None, slice_get}
-use Rattle.std.proofs.lemmas.Bool.{and_parts, not-true}
-use Rattle.sp_numbers.specs.declared.width.Width.TheVariants.{W64}
+use Rattle.std.proofs.Common.{ℕ, ℤ, ◌≡◌, ◌+◌, refl, sym, subst, ◌∙◌, List, [], ◌∷◌, Option, Some, None, slice_get}
+use Rattle.std.proofs.lemmas.Bool.{and_parts}
 use Rattle.sp_methods.specs.Kinds.{Kind, Unsigned}
-use Rattle.sp_ast.specs.Trees.{Tree, Trees, absent, row, node, none, more}
-use Rattle.sp_ast.specs.Slots.{is_formed}
+use Rattle.sp_ast.specs.Trees.{Tree, row, node, none, more}
 use Rattle.sp_ast.specs.declared.forms.Form.TheVariants as form_is
-use Rattle.sp_rules.specs.declared.fault.Fault.{Fault}
-use Rattle.sp_types.specs.declared.words.Word.TheVariants as word_is
-use Rattle.sp_types.specs.Types.{Ty, word, same}
+use Rattle.sp_types.specs.Types.{Ty, same}
 use Rattle.sp_types.proofs.Same.{same_itself}
 use Rattle.sp_typed.specs.Exprs.{Expr}
 use Rattle.sp_typed.specs.Stmts.{Stmt, block, no_stmts}
 use Rattle.sp_typed_units.specs.declared.declarations.Hook.{Hook}
-use Rattle.sp_typed_units.specs.declared.declarations.HookOf.{HookOf}
-use Rattle.sp_typed_units.specs.declared.declarations.HookOf.TheVariants as of_is
 use Rattle.sp_typed_units.specs.declared.declarations.Parameter.{Parameter}
 use Rattle.sp_typed_units.specs.declared.declarations.Typed.{Typed}
-use Rattle.sp_solver.specs.Told.{told}
 use Rattle.sp_typing.specs.Contexts.{Around as Names}
 use Rattle.sp_typing_stmts.specs.Statements.{typed_body}
 use Rattle.sp_typing_units.specs.Decorators.{with_current, with_self}
 use Rattle.sp_typing_heads.specs.declared.site.Site.{Site}
 use Rattle.sp_typing_heads.specs.Parameters.{parameters_in, with_parameters}
 use Rattle.sp_typing_heads.specs.Events.{fits, is_of_sink, is_of_elements}
-use Rattle.sp_typing_heads.specs.Hooks.{self_type, self_standing, current_type, current_standing, hook_around, hook_body, priority_around, priority_in, rank_of, hook_with, no_hook, hook_of_body, hook_on, hook_behind}
+use Rattle.sp_typing_heads.specs.Hooks.{self_type, self_standing, current_type, current_standing, hook_around, hook_body, hook_with, no_hook, hook_of_body, hook_on, hook_behind}
 use Rattle.sp_around.specs.Methods.{number}
 use Rattle.sp_list_rules.specs.Lists.{all_tests, option_tests}
 use Rattle.sp_list_rules.specs.Names.{is_of_nothing, expr_names, hook_names, stmt_names}
 use Rattle.sp_list_rules.specs.Slots.{for_slots}
 use Rattle.sp_list_rules.specs.Told.{known_in, values_of}
-use Rattle.sp_list_rules.specs.Bodies.{parameter_tests, priority_tests, body_tests, own_hook_tests, hook_tests}
+use Rattle.sp_list_rules.specs.Bodies.{parameter_tests, priority_tests, body_tests, own_hook_tests}
 use Rattle.sp_body_rules.specs.ExprTests.{is_unmeant}
 use Rattle.sp_running.specs.Types.{kind_of_type}
 use Rattle.sp_bodies.specs.Globals.{globals_of}
-use Rattle.sp_bodies.specs.Calls.{has_current, is_foreach, hook_layout}
+use Rattle.sp_bodies.specs.Calls.{has_current, is_foreach}
 use Rattle.sp_code.specs.Shapes.{OfHook}
-use Rattle.sp_program.specs.Routines.{hook_unit, parameter_kinds, slot_kinds, handed_kinds}
-use Rattle.sp_constants.specs.Known.{Known as Values}
+use Rattle.sp_program.specs.Routines.{hook_unit, parameter_kinds, slot_kinds}
 use Rattle.sp_emit_expr.specs.declared.around.Places.{Places}
 use Rattle.sp_known_types.specs.Full.{is_full}
 use Rattle.sp_known_types.specs.Clear.{none_hold, any_op}
@@ -49,16 +41,14 @@ use Rattle.sp_known_values.specs.Given.{AreTold}
 use Rattle.sp_known_literals.specs.Widened.{AreWidened}
 use Rattle.sp_known_bodies.specs.Trees.{is_maybe_expr, is_body}
 use Rattle.sp_whole_list.specs.Trees.{are_parameters}
-use Rattle.sp_whole_list.specs.Whole.{is_known_if, is_known_body, is_known_parameter, is_known_function, is_known_hook}
+use Rattle.sp_whole_list.specs.Whole.{is_known_if, is_known_body, is_known_function, is_known_hook}
 use Rattle.sp_whole_list.proofs.Blind.{known_blind}
 use Rattle.sp_whole_list.proofs.Modules.{none_found}
 use Rattle.sp_whole_list.proofs.Heads.{parameters_full}
 use Rattle.sp_whole_list.proofs.None.{none_parts}
 use Rattle.sp_known_hooks.proofs.Hooks.{is_hook_body, is_hook, inside_known, inside_decides}
 use Rattle.sp_fit_expr.specs.declared.around.Around.{Around}
-use Rattle.sp_fit_expr.specs.Lists.{is_type}
 use Rattle.sp_fit_expr.specs.Test.{local_is, unit_parameter}
-use Rattle.sp_fit_body.specs.declared.bodies.Body.{Body}
 use Rattle.sp_fit_body.specs.declared.bodies.Returns.TheVariants as returns
 use Rattle.sp_fit_body.specs.Passes.{StmtPasses}
 use Rattle.sp_fit_body.specs.Test.{stmt_passes}

@@ -1,8 +1,7 @@
 -- The hooks of a list in which no rule is broken pass.
-use Rattle.std.specs.Prelude.{Bool, true, false, not, ◌&&◌, ◌||◌, ◌++◌}
+use Rattle.std.specs.Prelude.{true, false, is_some}
 use Rattle.std.specs.List.{list_all}
 use Rattle.std.proofs.Common.{ℕ, ℤ, ◌≡◌, ◌+◌, zero, suc, refl, sym, ap, subst, ◌∙◌, arith, List, [], ◌∷◌, Option, Some, None, slice_get}
-use Rattle.std.proofs.lemmas.Bool.{and_parts}
 use Rattle.sp_ast.specs.Trees.{Tree}
 use Rattle.sp_ast.specs.Slots.{is_formed}
 use Rattle.sp_rules.specs.declared.fault.Fault.{Fault}
@@ -20,14 +19,14 @@ use Rattle.sp_typing_heads.specs.declared.site.Site.{Site}
 use Rattle.sp_typing_heads.specs.Events.{is_of_elements}
 use Rattle.sp_typing_heads.specs.Hooks.{current_type, no_hook}
 use Rattle.sp_typing_hooks.specs.Fields.{seen_of}
-use Rattle.sp_typing_hooks.specs.Hooks.{seen_by, current_of as typed_current, site_of, unit_of, or_none, parameters_of, written_hook, seen_hook, hook_in, typed_hooks}
+use Rattle.sp_typing_hooks.specs.Hooks.{current_of as typed_current, site_of, unit_of, parameters_of, written_hook, hook_in, typed_hooks}
 use Rattle.sp_hook_rows.specs.declared.rows.HookRow.{HookRow}
 use Rattle.sp_hook_rows.specs.Sites.{sites}
 use Rattle.sp_hook_rows.specs.HookRows.{hook_rows}
 use Rattle.sp_declared_values.specs.Answers.{values}
 use Rattle.sp_list_context.specs.Contexts.{in_module, in_modules, in_units, all_parameters}
 use Rattle.sp_list_rules.specs.Names.{is_of_nothing, hook_names}
-use Rattle.sp_list_rules.specs.Told.{known_in, values_of}
+use Rattle.sp_list_rules.specs.Told.{values_of}
 use Rattle.sp_list_rules.specs.Bodies.{own_hook_tests, hook_tests}
 use Rattle.sp_typed_list.specs.Rows.{ranks}
 use Rattle.sp_typed_list.specs.Settled.{Answers}
@@ -35,7 +34,6 @@ use Rattle.sp_typed_list.specs.Lists.{typed_of}
 use Rattle.sp_check_unit.specs.Rules.{Breaks}
 use Rattle.sp_bodies.specs.Calls.{has_current}
 use Rattle.sp_program.specs.Routines.{hook_unit}
-use Rattle.sp_known_types.specs.Full.{is_full}
 use Rattle.sp_known_types.specs.Clear.{none_hold}
 use Rattle.sp_known_types.proofs.Full.{never}
 use Rattle.sp_whole_list.specs.Whole.{is_known_function, is_known_hook}
@@ -132,6 +130,9 @@ module _ (list : List Tree) (a : Answers list) (formed_list : list_all is_formed
     keeps : (places : Places) (kinds : List Ty) (n : ℕ) (p : Parameter) → slice_get own_units n ≡ Some p → unit_parameter (round_of t places kinds (hook_unit r.of)) (hook_unit r.of) n p.ty ≡ true
     keeps places kinds n p e = unit_keeps list a places kinds (hook_unit r.of) n p (sym (ap (λ u. slice_get (parameters_of all_units u) n) (same_unit r.of)) ∙ e)
 
+    whole : is_of_elements r.of ≡ false → is_of_elements r.of ≡ true → is_some (seen r).1 ≡ true
+    whole w e = never (sym w ∙ e)
+
     agrees : has_current r.of ≡ true → current_of r.of o ≡ current_type r.of (typed_current r.of (seen r).0 (seen r).1)
     agrees h = agree h ∙ sym (stored_current r.of (seen r).0 (seen r).1 h once)
 
@@ -146,10 +147,10 @@ module _ (list : List Tree) (a : Answers list) (formed_list : list_all is_formed
             → is_known_hook (written_hook env rank place own_units hook body) ≡ true → hook_built (written_hook env rank place own_units hook body) ≡ true → HookPasses t o (written_hook env rank place own_units hook body)
         by something (Some hook) body written names tests right built_here =
             on_passes t functions env (home_widens list a formed_list unbroken r.«module») (λ places kinds unit. home_made list a formed_list unbroken places kinds unit r.«module») place (types list a formed_list unbroken r.«module») (paths list a formed_list unbroken r.«module»)
-            (env_known list a formed_list unbroken reads passed r fine) (env_told list a formed_list unbroken reads passed r fine) own_units something (unit_parameters list a formed_list unbroken reads passed (unit_of r.of)) (current_full list a formed_list unbroken reads passed r.of r.field something fine.1 (λ e. never (sym once ∙ e))) keeps once o agrees rank hook written names tests right built_here
+            (env_known list a formed_list unbroken reads passed r fine) (env_told list a formed_list unbroken reads passed r fine) own_units something (unit_parameters list a formed_list unbroken reads passed (unit_of r.of)) (current_full list a formed_list unbroken reads passed r.of r.field something fine.1 (whole once)) keeps once o agrees rank hook written names tests right built_here
         by something None body written names tests right built_here =
             behind_passes t functions env (home_widens list a formed_list unbroken r.«module») (λ places kinds unit. home_made list a formed_list unbroken places kinds unit r.«module») place (types list a formed_list unbroken r.«module») (paths list a formed_list unbroken r.«module»)
-            (env_known list a formed_list unbroken reads passed r fine) (env_told list a formed_list unbroken reads passed r fine) own_units something (unit_parameters list a formed_list unbroken reads passed (unit_of r.of)) (current_full list a formed_list unbroken reads passed r.of r.field something fine.1 (λ e. never (sym once ∙ e))) keeps once o agrees rank body written names tests right built_here
+            (env_known list a formed_list unbroken reads passed r fine) (env_told list a formed_list unbroken reads passed r fine) own_units something (unit_parameters list a formed_list unbroken reads passed (unit_of r.of)) (current_full list a formed_list unbroken reads passed r.of r.field something fine.1 (whole once)) keeps once o agrees rank body written names tests right built_here
 
     -- in the context of its module, if it has one
     hook_passes : (c : Option Names) → slice_get contexts r.«module» ≡ c → none_hold (hook_names (hook_in c rank all_units r (seen r))) ≡ true → none_hold (hook_tests t (values_of t) (hook_in c rank all_units r (seen r))) ≡ true → is_known_hook (hook_in c rank all_units r (seen r)) ≡ true
@@ -157,7 +158,7 @@ module _ (list : List Tree) (a : Answers list) (formed_list : list_all is_formed
     hook_passes None at names tests right built_here =
         let something : is_of_nothing r.of ≡ false = (own_tests t (values_of t) (no_hook place) names tests).0 in
         nothing_passes t functions env (home_widens list a formed_list unbroken r.«module») (λ places kinds unit. home_made list a formed_list unbroken places kinds unit r.«module») place (types list a formed_list unbroken r.«module») (paths list a formed_list unbroken r.«module»)
-        (env_known list a formed_list unbroken reads passed r fine) (env_told list a formed_list unbroken reads passed r fine) own_units something (unit_parameters list a formed_list unbroken reads passed (unit_of r.of)) (current_full list a formed_list unbroken reads passed r.of r.field something fine.1 (λ e. never (sym once ∙ e))) keeps once o names
+        (env_known list a formed_list unbroken reads passed r fine) (env_told list a formed_list unbroken reads passed r fine) own_units something (unit_parameters list a formed_list unbroken reads passed (unit_of r.of)) (current_full list a formed_list unbroken reads passed r.of r.field something fine.1 (whole once)) keeps once o names
     hook_passes (Some g) at names tests right built_here =
         let z : 0 + r.«module» ≡ r.«module» = omega arith in
         let same : env ≡ g = ap (in_module list f (told a.values) (told a.stored)) (sym z) ∙ module_is list f (told a.values) (told a.stored) 0 list r.«module» g at in

@@ -1,15 +1,12 @@
 -- The hooks that hang on something are hooks of the list.
 use Rattle.std.specs.Prelude.{Bool, true, false, if◌then◌else◌, filter, map, length}
-use Rattle.std.proofs.Common.{ℕ, ℤ, ◌≡◌, ◌+◌, ◌<◌, zero, suc, refl, sym, ap, subst, ◌∙◌, arith, List, [], ◌∷◌, Option, Some, None, slice_get}
-use Rattle.sp_base.specs.declared.places.Span.{Span}
-use Rattle.sp_ast.specs.Trees.{Tree}
+use Rattle.std.proofs.Common.{ℕ, ℤ, ◌≡◌, ◌+◌, ◌<◌, suc, refl, ap, subst, arith, List, [], ◌∷◌, Option, Some, None}
 use Rattle.sp_typed_units.specs.declared.declarations.Hook.{Hook}
 use Rattle.sp_hook_order.specs.declared.keys.HookKey.{HookKey}
-use Rattle.sp_hook_order.specs.Order.{numbers, first_that, turn, run_order, rank_of, how_many_before}
+use Rattle.sp_hook_order.specs.Order.{numbers, first_that, turn, run_order, rank_of}
 use Rattle.sp_hook_order.specs.Keys.{hangs_on, key_at as key_of_hook, hooks_of, parts_of}
-use Rattle.sp_hook_rows.specs.declared.sites.Site.{Site}
 use Rattle.sp_typing_hooks.specs.Hooks.{ranks_of}
-use Rattle.sp_unit_rows.specs.Fields.{hooks_by, field_hooks}
+use Rattle.sp_unit_rows.specs.Fields.{hooks_by}
 
 -- numbers below a bound
 abbrev pub AllBelow : ℕ → List ℕ → Type 0

@@ -16,3 +16,4 @@ pub mod Plain
 pub mod Owned
 pub mod Units
 pub mod BuiltUnits
+pub mod BuiltTrees

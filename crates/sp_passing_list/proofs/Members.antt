@@ -1,18 +1,16 @@
 -- The members of the units and of the bitfields of a typed list: each has the type that it has where expressions are typed.
-use Rattle.std.specs.Prelude.{Bool, true, false, ◌&&◌, ◌||◌, ◌==◌, if◌then◌else◌, nat_lt, map, length}
-use Rattle.std.specs.List.{list_all}
+use Rattle.std.specs.Prelude.{Bool, true, false, ◌||◌, ◌==◌, if◌then◌else◌, nat_lt, map, length}
 use Rattle.std.proofs.Common.{ℕ, ◌≡◌, ◌+◌, ◌<◌, zero, suc, refl, sym, ap, subst, ◌∙◌, arith, List, [], ◌∷◌, Option, Some, None, slice_get}
 use Rattle.std.proofs.lemmas.Bool.{and_from}
 use Rattle.std.proofs.lemmas.Bool.Decides.{nat_tests}
 use Rattle.sp_ast.specs.Trees.{Tree}
 use Rattle.sp_numbers.specs.declared.width.Width.TheVariants.{W8, W16, W32, W64}
 use Rattle.sp_types.specs.declared.words.Word.TheVariants as word_is
-use Rattle.sp_types.specs.Types.{Ty, word, made, same}
+use Rattle.sp_types.specs.Types.{Ty, word}
 use Rattle.sp_types.proofs.Same.{same_itself}
 use Rattle.sp_solver.specs.Told.{told}
 use Rattle.sp_operands.specs.Operands.{unknown}
 use Rattle.sp_typed.specs.declared.words.OneOp.TheVariants as one_is
-use Rattle.sp_typed_units.specs.declared.declarations.Bitfield.{Bitfield}
 use Rattle.sp_typed_units.specs.declared.declarations.MemberKind.{MemberKind}
 use Rattle.sp_typed_units.specs.declared.declarations.MemberKind.TheVariants as kind_is
 use Rattle.sp_typed_units.specs.declared.declarations.Typed.{Typed}
@@ -27,10 +25,10 @@ use Rattle.sp_typing.specs.declared.context.Member.{Member}
 use Rattle.sp_typing.specs.Contexts.{Around as Names}
 use Rattle.sp_running.specs.Types.{ranges_of}
 use Rattle.sp_bodies.specs.Globals.{range_counts}
-use Rattle.sp_around.specs.Members.{UnitMember, members_of, unit_members, unit_declaration, declared_unit, numbered, kinds_of, range_name, range_number, bitfield_width, bitfield_ranges, bitfield_tree, tree_of}
+use Rattle.sp_around.specs.Members.{UnitMember, members_of, unit_members, declared_unit, numbered, kinds_of, range_name, range_number, bitfield_width, bitfield_ranges, bitfield_tree, tree_of}
 use Rattle.sp_around.specs.Arounds.{stored_by, kind_type, kind_member, some_member, unit_member, width_type, bit_member, member_of}
 use Rattle.sp_list_context.specs.Contexts.{in_module, homes_of, at_home}
-use Rattle.sp_list_rows.specs.Bitfields.{bit_range, typed_bitfield, typed_bitfields}
+use Rattle.sp_list_rows.specs.Bitfields.{bit_range, typed_bitfield}
 use Rattle.sp_declared_values.specs.declared.answer.Answer.{Answer}
 use Rattle.sp_hook_rows.specs.declared.rows.HookRow.{HookRow}
 use Rattle.sp_hook_rows.specs.declared.sites.Site.{Site}

@@ -9,10 +9,7 @@ use Rattle.sp_words.specs.declared.methods.Method.TheVariants as method_is
 use Rattle.sp_ast.specs.Trees.{Tree}
 use Rattle.sp_ast.specs.Slots.{is_formed}
 use Rattle.sp_rules.specs.declared.fault.Fault.{Fault}
-use Rattle.sp_types.specs.declared.words.Word.{Word}
-use Rattle.sp_types.specs.declared.words.Word.TheVariants as word_is
-use Rattle.sp_types.specs.Types.{Ty, word, made}
-use Rattle.sp_typed.specs.declared.words.LeafOp.{LeafOp}
+use Rattle.sp_types.specs.Types.{Ty}
 use Rattle.sp_typed.specs.declared.words.OneOp.{OneOp}
 use Rattle.sp_typed.specs.declared.words.OneOp.TheVariants as one_is
 use Rattle.sp_typed.specs.declared.words.ManyOp.{ManyOp}
@@ -29,24 +26,21 @@ use Rattle.sp_names.specs.declared.sort.Meaning.{Meaning}
 use Rattle.sp_names.specs.declared.sort.Meaning.TheVariants as meaning_is
 use Rattle.sp_names.specs.Declarations.{sort_at}
 use Rattle.sp_names.specs.Names.{path_means}
-use Rattle.sp_typing.specs.declared.context.Member.{Member}
 use Rattle.sp_typing.specs.Contexts.{Around as Names}
 use Rattle.sp_typing_units.specs.Decorators.{with_current, with_self}
 use Rattle.sp_typing_stmts.specs.Visible.{single_name}
 use Rattle.sp_typing_heads.specs.Parameters.{numbered_maybe, parameter_at, parameter_leaf, or_outside, with_parameters}
 use Rattle.std.specs.Prelude.{slice_get}
 use Rattle.sp_around.specs.Methods.{base_ten, utf8, replace, left_out_of}
-use Rattle.sp_around.specs.Arounds.{Facts, declared_at, meaning_at, left_out_by, member_of, around as module_names, stored_by}
-use Rattle.sp_declared_values.specs.Answers.{constant_type}
+use Rattle.sp_around.specs.Arounds.{Facts, declared_at, meaning_at, left_out_by, around as module_names}
 use Rattle.sp_list_context.specs.Contexts.{facts, in_module}
 use Rattle.sp_typed_list.specs.Settled.{Answers}
 use Rattle.sp_typed_list.specs.Lists.{typed_of}
 use Rattle.sp_check_unit.specs.Rules.{Breaks}
 use Rattle.sp_known_types.specs.Given.{is_member_op}
 use Rattle.sp_known_types.proofs.Full.{never}
-use Rattle.sp_known_literals.specs.Widened.{is_widen, widens_value, IsWidened, AreWidened}
+use Rattle.sp_known_literals.specs.Widened.{is_widen, widens_value, AreWidened}
 use Rattle.sp_whole_list.proofs.Modules.{member_op}
-use Rattle.sp_fit_expr.specs.declared.around.Around.{Around}
 use Rattle.sp_emit_expr.specs.declared.around.Places.{Places}
 use Rattle.sp_known_kinds.specs.Made.{AreMade}
 use Rattle.sp_known_kinds.proofs.Names.{module_made}

@@ -1,5 +1,5 @@
 -- What is typed outside of bodies keeps no owner in a slot.
-use Rattle.std.specs.Prelude.{Bool, true, false, not, ◌&&◌, ◌==◌, if◌then◌else◌, map, length, ◌++◌, slice_get}
+use Rattle.std.specs.Prelude.{Bool, true, false, not, ◌&&◌, ◌==◌, if◌then◌else◌, map, slice_get}
 use Rattle.std.proofs.Common.{ℕ, ◌≡◌, refl, List, [], ◌∷◌, Option, Some, None}
 use Rattle.std.proofs.lemmas.Bool.{and_parts}
 use Rattle.sp_base.specs.declared.places.Span.{Span}
@@ -15,7 +15,7 @@ use Rattle.sp_typed.specs.declared.words.LeafOp.TheVariants as leaf_is
 use Rattle.sp_typed.specs.declared.words.ManyOp.{ManyOp}
 use Rattle.sp_typed.specs.declared.words.ManyOp.TheVariants as many_is
 use Rattle.sp_typed.specs.declared.words.Standing.{Standing}
-use Rattle.sp_typed.specs.Exprs.{Expr, Exprs, leaf, one, two, three, many, exprs}
+use Rattle.sp_typed.specs.Exprs.{Expr, leaf, one, two, three, many, exprs}
 use Rattle.sp_typed.specs.Nodes.{holds, all_hold}
 use Rattle.sp_typed_units.specs.declared.declarations.Parameter.{Parameter}
 use Rattle.sp_operands.specs.Literals.{seen}
@@ -27,10 +27,8 @@ use Rattle.sp_names.specs.Declarations.{sort_at}
 use Rattle.sp_names.specs.Names.{path_means}
 use Rattle.sp_typing.specs.Contexts.{Around as Names}
 use Rattle.sp_typing.specs.declared.context.Member.{Member}
-use Rattle.sp_typing.specs.declared.context.Callable.{Callable}
 use Rattle.sp_typed.specs.declared.words.LeafOp.{LeafOp}
 use Rattle.sp_typed.specs.declared.words.NewOf.{NewOf}
-use Rattle.sp_typed.specs.declared.words.OneOp.{OneOp}
 use Rattle.sp_typing.specs.Typing.{typed, name_of, member_at, set_member_at, part_at, item_of, item_at, index_at, callee_op, call_by, call_at, started, new_by}
 use Rattle.sp_typing_units.specs.Decorators.{with_self}
 use Rattle.sp_typing_stmts.specs.Visible.{single_name}

@@ -1,14 +1,13 @@
 -- A unit in which all is built has no sinks and is no filter.
-use Rattle.std.specs.Prelude.{Bool, true, false, ◌&&◌, ◌||◌, ◌++◌}
-use Rattle.std.proofs.Common.{ℕ, ◌≡◌, refl, ap, ◌∙◌, List, []}
-use Rattle.sp_base.specs.declared.places.Span.{Span}
+use Rattle.std.specs.Prelude.{false, ◌||◌, ◌++◌}
+use Rattle.std.proofs.Common.{◌≡◌, refl, ap, ◌∙◌, []}
 use Rattle.sp_ast.specs.Trees.{Tree, Trees, absent, row, node, none, more}
 use Rattle.sp_ast.specs.declared.forms.Form.TheVariants as form_is
 use Rattle.sp_ast.specs.declared.forms.ItemForm.TheVariants as item_is
 use Rattle.sp_typing_units.specs.Parts.{Fields}
 use Rattle.sp_unit_rows.specs.Items.{sink_in, sinks_in, is_filter, has_filter}
 use Rattle.sp_known_types.proofs.Full.{never}
-use Rattle.sp_known_hooks.proofs.Built.{IsBuilt, AreBuilt, at_tree}
+use Rattle.sp_passing_list.proofs.BuiltTrees.{IsBuilt, AreBuilt, at_tree}
 use Rattle.sp_passing_list.proofs.Readings.{first_built, rest_built}
 
 no_sink : (fields : Fields) (x : Tree) → IsBuilt x → sink_in fields x ≡ []

@@ -1,5 +1,5 @@
 -- What is read where all is built: integers, in a byte order.
-use Rattle.std.specs.Prelude.{Bool, true, false, not, ◌&&◌, ◌++◌}
+use Rattle.std.specs.Prelude.{true, false, not}
 use Rattle.std.proofs.Common.{ℕ, ◌≡◌, refl, sym, ap, subst, ◌∙◌, List, [], ◌∷◌, Option, Some, None}
 use Rattle.std.proofs.lemmas.Bool.{and_parts, not-true}
 use Rattle.sp_base.specs.declared.places.Span.{Span}
@@ -9,7 +9,6 @@ use Rattle.sp_ast.specs.Trees.{Tree, Trees, absent, row, node, none, more}
 use Rattle.sp_ast.specs.Trees as trees
 use Rattle.sp_ast.specs.declared.forms.Form.{Form}
 use Rattle.sp_ast.specs.declared.forms.Form.TheVariants as form_is
-use Rattle.sp_ast.specs.declared.forms.BaseForm.{BaseForm}
 use Rattle.sp_ast.specs.declared.forms.BaseForm.TheVariants as base_is
 use Rattle.sp_ast.specs.declared.forms.TypeForm.TheVariants as type_is
 use Rattle.sp_types.specs.declared.words.Word.{Word}
@@ -17,23 +16,22 @@ use Rattle.sp_types.specs.declared.words.Word.TheVariants as word_is
 use Rattle.sp_types.specs.Types.{Ty, word, made}
 use Rattle.sp_typed.specs.declared.words.LeafOp.{LeafOp}
 use Rattle.sp_typed.specs.declared.words.LeafOp.TheVariants as leaf_is
-use Rattle.sp_typed.specs.Exprs.{Expr, leaf, one, two, three, many}
+use Rattle.sp_typed.specs.Exprs.{Expr, leaf}
 use Rattle.sp_typed_units.specs.declared.attributes.Attribute.{Attribute}
 use Rattle.sp_typing.specs.Contexts.{Around}
 use Rattle.sp_typing_units.specs.declared.attributes.Site.{Site}
 use Rattle.sp_typing_units.specs.declared.readings.Read.{Read}
 use Rattle.sp_typing_units.specs.Values.{Values}
-use Rattle.sp_typing_units.specs.Roles.{role_of, grouped}
+use Rattle.sp_typing_units.specs.Roles.{role_of}
 use Rattle.sp_typing.specs.Typing.{typed_all}
 use Rattle.sp_typing_units.specs.Attributes.{present, attribute_by, attributes, if_convert, conversion_of, or_next, conversion, converted}
-use Rattle.sp_typing_units.specs.Readings.{word_read, constant_read, constant_of_type, named_op, named_read, unknown_read, type_read, called_word, called_op, called, container, contained, group_of, base_read, counted_read}
+use Rattle.sp_typing_units.specs.Readings.{word_read, constant_read, constant_of_type, named_op, named_read, unknown_read, type_read, called_word, called_op, called, container, contained, base_read, counted_read}
 use Rattle.sp_unbuilt.specs.Fields.{reads_integer}
 use Rattle.sp_unbuilt.specs.Constructs.{is_late_attribute}
-use Rattle.sp_unbuilt.specs.Unbuilt.{tests_among}
 use Rattle.sp_bodies.specs.Units.{IntegerForm, only_orders, unless_other, integer_spec, where_known}
 use Rattle.sp_known_types.proofs.Full.{never}
-use Rattle.sp_known_members.proofs.Built.{nothing, two_parts}
-use Rattle.sp_known_hooks.proofs.Built.{IsBuilt, AreBuilt, built_passes, at_tree}
+use Rattle.sp_known_members.proofs.Built.{nothing}
+use Rattle.sp_passing_list.proofs.BuiltTrees.{IsBuilt, AreBuilt, built_passes, at_tree}
 use Rattle.sp_fit_list.specs.inside.Units.{is_read}
 
 -- parts of what is built

@@ -1,27 +1,21 @@
 -- What hooks are and see: their unit, its parameters, and those of their own.
-use Rattle.std.specs.Prelude.{Bool, true, false, not, ◌&&◌, ◌||◌, ◌++◌, ◌-◌, ◌≤◌, ◌==◌, if◌then◌else◌, nat_lt, length}
-use Rattle.std.specs.List.{list_all}
-use Rattle.std.proofs.Common.{ℕ, ℤ, ◌≡◌, ◌+◌, zero, suc, refl, sym, ap, subst, ◌∙◌, arith, List, [], ◌∷◌, Option, Some, None, slice_get}
-use Rattle.std.proofs.lemmas.Bool.{and_parts, and_from}
+use Rattle.std.specs.Prelude.{Bool, true, false, not, ◌||◌, ◌-◌, ◌≤◌, ◌==◌, if◌then◌else◌, nat_lt}
+use Rattle.std.proofs.Common.{ℕ, ◌≡◌, ◌+◌, zero, suc, refl, sym, ap, subst, ◌∙◌, arith, List, [], ◌∷◌, Option, Some, None, slice_get}
+use Rattle.std.proofs.lemmas.Bool.{and_parts}
 use Rattle.std.proofs.lemmas.Bool.Decides.{nat_tests}
-use Rattle.sp_methods.specs.Kinds.{Kind, Unsigned}
 use Rattle.sp_words.specs.declared.words.HookName.{HookName}
 use Rattle.sp_words.specs.declared.words.HookName.TheVariants as event_is
-use Rattle.sp_ast.specs.Trees.{Tree, Trees, absent, row, node, none, more}
+use Rattle.sp_ast.specs.Trees.{Tree, absent, row, node, none, more}
 use Rattle.sp_ast.specs.declared.forms.Form.TheVariants as form_is
-use Rattle.sp_types.specs.Types.{Ty, same}
+use Rattle.sp_types.specs.Types.{Ty}
 use Rattle.sp_types.proofs.Same.{same_itself}
-use Rattle.sp_typed.specs.declared.words.LeafOp.TheVariants as leaf_is
 use Rattle.sp_typed.specs.declared.words.Standing.TheVariants as standing_is
-use Rattle.sp_typed.specs.Stmts.{Stmt}
-use Rattle.sp_typed_units.specs.declared.declarations.Hook.{Hook}
 use Rattle.sp_typed_units.specs.declared.declarations.HookOf.{HookOf}
 use Rattle.sp_typed_units.specs.declared.declarations.HookOf.TheVariants as of_is
 use Rattle.sp_typed_units.specs.declared.declarations.Parameter.{Parameter}
 use Rattle.sp_typed_units.specs.declared.declarations.Typed.{Typed}
 use Rattle.sp_typing_heads.specs.Events.{event_tells, are_told, fits, is_of_sink, is_of_elements}
-use Rattle.sp_typing_heads.specs.Hooks.{self_type, self_standing, current_type, current_standing}
-use Rattle.sp_around.specs.Methods.{number}
+use Rattle.sp_typing_heads.specs.Hooks.{self_type, self_standing, current_standing}
 use Rattle.sp_list_rules.specs.Names.{is_of_nothing}
 use Rattle.sp_body_rules.specs.ExprTests.{is_unmeant}
 use Rattle.sp_emit_expr.specs.declared.around.Places.{Places}
@@ -31,7 +25,6 @@ use Rattle.sp_known_types.proofs.Full.{never}
 use Rattle.sp_fit_expr.specs.declared.around.Around.{Around}
 use Rattle.sp_fit_expr.specs.Test.{is_unit, local_is, unit_parameter, seen_parameter}
 use Rattle.sp_fit_list.specs.inside.Bodies.{is_each_unit, is_empty, takes_nothing}
-use Rattle.sp_known_kinds.specs.Made.{leaf_made}
 use Rattle.sp_solver.specs.Told.{told}
 use Rattle.sp_names.specs.declared.rows.Declaration.{Declaration}
 use Rattle.sp_names.specs.declared.sort.DeclSort.TheVariants as sort_is

@@ -1,49 +1,32 @@
 -- The units of a list in which no rule is broken and all is built: their variables pass, and their fields read integers.
-use Rattle.std.specs.Prelude.{Bool, true, false, not, ◌&&◌, ◌||◌, ◌++◌, length}
+use Rattle.std.specs.Prelude.{true, not, ◌++◌}
 use Rattle.std.specs.List.{list_all}
-use Rattle.std.proofs.Common.{ℕ, ◌≡◌, ◌+◌, ◌<◌, zero, suc, refl, sym, ap, subst, ◌∙◌, arith, List, [], ◌∷◌, Option, Some, None, slice_get}
-use Rattle.std.proofs.lemmas.Bool.{and_parts, and_from}
-use Rattle.sp_base.specs.declared.places.Diag.{Diag}
-use Rattle.sp_base.specs.declared.places.Span.{Span}
+use Rattle.std.proofs.Common.{ℕ, ◌≡◌, refl, sym, subst, List, [], ◌∷◌, Option, Some, None, slice_get}
+use Rattle.std.proofs.lemmas.Bool.{and_parts}
 use Rattle.sp_ast.specs.Trees.{Tree, Trees, absent, row, node, none, more}
-use Rattle.sp_ast.specs.Slots.{is_formed}
 use Rattle.sp_ast.specs.declared.forms.Form.TheVariants as form_is
 use Rattle.sp_ast.specs.declared.forms.ItemForm.TheVariants as item_is
-use Rattle.sp_rules.specs.declared.fault.Fault.{Fault}
-use Rattle.sp_types.specs.declared.words.Word.TheVariants as word_is
-use Rattle.sp_types.specs.Types.{Ty, word, same}
-use Rattle.sp_types.proofs.Same.{same_itself}
-use Rattle.sp_typed.specs.declared.words.Standing.TheVariants as standing_is
+use Rattle.sp_types.specs.Types.{Ty}
 use Rattle.sp_typed.specs.Exprs.{Expr, type_of}
 use Rattle.sp_typed.specs.Nodes.{holds, nodes}
-use Rattle.sp_typed_units.specs.declared.declarations.Function.{Function}
-use Rattle.sp_typed_units.specs.declared.declarations.Hook.{Hook}
 use Rattle.sp_typed_units.specs.declared.declarations.Member.{Member}
-use Rattle.sp_typed_units.specs.declared.declarations.Parameter.{Parameter}
-use Rattle.sp_typed_units.specs.declared.declarations.Typed.{Typed}
-use Rattle.sp_typed_units.specs.declared.declarations.Unit.{Unit as TypedUnit}
 use Rattle.sp_typed_units.specs.declared.declarations.Variable.{Variable}
 use Rattle.sp_typing.specs.Contexts.{Around as Names}
 use Rattle.sp_typing.specs.Typing.{typed, to_target}
 use Rattle.sp_typing_units.specs.Attributes.{present, maybe_typed}
-use Rattle.sp_typing_units.specs.Decorators.{with_self}
 use Rattle.sp_typing_units.specs.Parts.{Fields}
-use Rattle.sp_typing_heads.specs.Parameters.{with_parameters}
 use Rattle.sp_unit_rows.specs.Items.{brought, variable_in, variables_in}
 use Rattle.sp_list_rules.specs.Lists.{all_tests, option_tests}
 use Rattle.sp_list_rules.specs.Names.{expr_names, variable_names}
 use Rattle.sp_list_rules.specs.Bodies.{member_type, plain_tests, inside_tests, first_value_tests, variable_tests}
-use Rattle.sp_list_rules.specs.Told.{known_in, values_of}
 use Rattle.sp_body_rules.specs.Known.{Known}
 use Rattle.sp_body_rules.specs.Values.{target_tests}
 use Rattle.sp_body_rules.specs.ExprTests.{expr_tests}
-use Rattle.sp_emit_expr.specs.declared.around.Places.{Places}
-use Rattle.sp_known_types.specs.Full.{is_full, is_right}
+use Rattle.sp_known_types.specs.Full.{is_right}
 use Rattle.sp_known_types.specs.Clear.{none_hold}
-use Rattle.sp_known_types.proofs.Full.{never}
 use Rattle.sp_known_literals.specs.Widened.{AreWidened}
 use Rattle.sp_known_literals.proofs.Widening.{typed_is}
-use Rattle.sp_whole_list.specs.Whole.{is_known_if, is_known_variable, is_known_function}
+use Rattle.sp_whole_list.specs.Whole.{is_known_if, is_known_variable}
 use Rattle.sp_whole_list.proofs.None.{none_parts, none_all, expr_clear}
 use Rattle.sp_known_constants.proofs.Declarations.{AllOf, both_of}
 use Rattle.sp_known_units.proofs.Values.{target_value}

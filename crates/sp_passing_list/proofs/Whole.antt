@@ -1,7 +1,7 @@
 -- The bodies of a list in which no rule is broken and all is built pass; and the list does, where its units pass, too.
-use Rattle.std.specs.Prelude.{Bool, true, false, ◌&&◌, length}
+use Rattle.std.specs.Prelude.{true, false, ◌&&◌, length}
 use Rattle.std.specs.List.{list_all}
-use Rattle.std.proofs.Common.{ℕ, ◌≡◌, ◌+◌, ◌<◌, zero, suc, refl, sym, ap, subst, ◌∙◌, arith, List, [], ◌∷◌, Option, Some, None, slice_get}
+use Rattle.std.proofs.Common.{ℕ, ◌≡◌, ◌+◌, ◌<◌, zero, suc, ap, ◌∙◌, arith, List, [], ◌∷◌, Option, Some, None, slice_get}
 use Rattle.std.proofs.lemmas.Bool.{and_parts}
 use Rattle.sp_ast.specs.Trees.{Tree}
 use Rattle.sp_ast.specs.Slots.{is_formed}
@@ -15,30 +15,26 @@ use Rattle.sp_solver.specs.Told.{told}
 use Rattle.sp_names.specs.Types.{or_unknown}
 use Rattle.sp_hook_rows.specs.declared.rows.HookRow.{HookRow}
 use Rattle.sp_hook_rows.specs.HookRows.{hook_rows}
-use Rattle.sp_typing.specs.declared.context.Member.{Member}
 use Rattle.sp_typing_heads.specs.Events.{is_of_elements}
-use Rattle.sp_around.specs.Arounds.{stored_by, member_of}
 use Rattle.sp_typed_list.specs.Settled.{Answers}
 use Rattle.sp_typed_list.specs.Lists.{typed_of}
 use Rattle.sp_check_unit.specs.Rules.{Breaks}
 use Rattle.sp_unbuilt.specs.Fields.{kinds_in_units}
 use Rattle.sp_unbuilt.specs.Unbuilt.{Texts, tests_from, unbuilt_tests, first_unbuilt}
 use Rattle.sp_bodies.specs.Globals.{globals_of}
-use Rattle.sp_bodies.specs.Calls.{has_current}
 use Rattle.sp_program.specs.Currents.{hooked_field}
 use Rattle.sp_bodies_end.specs.Built.{StmtIsBuilt}
 use Rattle.sp_units_end.specs.Built.{UnitIsBuilt}
 use Rattle.sp_emit_unit.specs.Values.{ValuesFit}
 use Rattle.sp_emit_stmt.specs.Literals.{StmtLiteralsFit}
 use Rattle.sp_whole_program.specs.Laws.{MembersAreListed, FunctionsAreEntered, CurrentsAreListed}
-use Rattle.sp_known_types.specs.Full.{is_full}
 use Rattle.sp_whole_list.specs.Whole.{is_known_order, is_known_enum, is_known_constant, is_known_unit, is_known_function, is_known_hook, is_known_list}
 use Rattle.sp_known_constants.proofs.Declarations.{AllOf, at_all}
 use Rattle.sp_known_members.specs.Given.{unit_reads}
 use Rattle.sp_known_members.proofs.CanRead.{units_read}
 use Rattle.sp_known_members.proofs.Rounds.{NoneIsPassed, members_known}
 use Rattle.sp_known_members.proofs.Built.{nothing, two_parts, none_noted}
-use Rattle.sp_known_hooks.proofs.Built.{declarations_built, rows_whole}
+use Rattle.sp_passing_list.proofs.BuiltTrees.{declarations_built, rows_whole}
 use Rattle.sp_known_hooks.proofs.Lists.{list_known}
 use Rattle.sp_fit_list.specs.Passes.{Bodies, ListPasses}
 use Rattle.sp_fit_list.specs.inside.Stored.{stored_type, type_for, AreStored}
@@ -47,9 +43,10 @@ use Rattle.sp_fit_list.specs.inside.Units.{UnitPasses}
 use Rattle.sp_fit_list.proofs.Whole.{list_passes}
 use Rattle.sp_passing_list.specs.Built.{function_built, hook_built, unit_built, list_built}
 use Rattle.sp_passing_list.specs.Hooked.{seen_in, AreHooked, types_from, body_types}
+use Rattle.sp_passing_list.specs.Stored.{UnitStores}
 use Rattle.sp_passing_list.proofs.Members.{found_below}
 use Rattle.sp_passing_list.proofs.ConstantValues.{constants_so}
-use Rattle.sp_passing_list.proofs.BuiltUnits.{units_built, units_fit}
+use Rattle.sp_passing_list.proofs.BuiltUnits.{units_built, units_fit, units_pass}
 use Rattle.sp_passing_list.proofs.FunctionBodies.{functions_pass}
 use Rattle.sp_passing_list.proofs.Hooks.{told_current, passes_over, passes_so}
 
@@ -123,6 +120,9 @@ module _ (texts : Texts) (list : List Tree) (a : Answers list) (formed : list_al
   pub each_values : (n : ℕ) (x : TypedUnit) → slice_get t.units n ≡ Some x → ValuesFit x.variables
   each_values = units_fit list a formed unbroken all_known.functions all_known.units are_built.units (declarations_built texts list t all_built) kinds each_hook
 
+  each_passing : (n : ℕ) (x : TypedUnit) → slice_get t.units n ≡ Some x → UnitStores t (body_types t) n x → UnitPasses t (body_types t) n x
+  each_passing = units_pass list a formed unbroken all_known.functions all_known.units are_built.units (declarations_built texts list t all_built) kinds each_hook (body_types t)
+
   pub bodies_built : Bodies t (StmtIsBuilt (globals_of t) t.functions)
   bodies_built = record { functions = λ n x at. (each_function n x at).built; hooks = λ n x at. (each_hook n x at).1.body.built }
 
@@ -140,6 +140,6 @@ module _ (texts : Texts) (list : List Tree) (a : Answers list) (formed : list_al
       ))
 
   -- the list
-  pub whole_passes : MembersAreListed → FunctionsAreEntered → CurrentsAreListed → AreHooked list a → ((u : ℕ) (x : TypedUnit) → slice_get t.units u ≡ Some x → UnitPasses t (body_types t) u x) → ListPasses t
+  pub whole_passes : MembersAreListed → FunctionsAreEntered → CurrentsAreListed → AreHooked list a → ((u : ℕ) (x : TypedUnit) → slice_get t.units u ≡ Some x → UnitStores t (body_types t) u x) → ListPasses t
   whole_passes members entered currents hooked units =
-      list_passes members entered currents t (constants_so list a formed unbroken) each_function (body_types t) (types_stored t) (hook_over hooked (body_types t) (types_stored t)) units
+      list_passes members entered currents t (constants_so list a formed unbroken) each_function (body_types t) (types_stored t) (hook_over hooked (body_types t) (types_stored t)) (λ u x at. each_passing u x at (units u x at))

@@ -8,9 +8,9 @@ use Rattle.sp_typed_units.specs.declared.declarations.Unit.{Unit}
 use Rattle.sp_solver.specs.Told.{told}
 use Rattle.sp_names.specs.Types.{or_unknown}
 use Rattle.sp_declared_values.specs.Answers.{values}
+use Rattle.sp_hook_rows.specs.Sites.{sites}
 use Rattle.sp_list_context.specs.Contexts.{in_units}
 use Rattle.sp_hook_rows.specs.declared.rows.HookRow.{HookRow}
-use Rattle.sp_hook_rows.specs.Sites.{sites}
 use Rattle.sp_hook_rows.specs.HookRows.{hook_rows}
 use Rattle.sp_typing_hooks.specs.Fields.{seen_of}
 use Rattle.sp_typing_hooks.specs.Hooks.{seen_by}
@@ -20,7 +20,7 @@ use Rattle.sp_bodies.specs.Calls.{has_current}
 use Rattle.sp_program.specs.Currents.{hooked_field}
 use Rattle.sp_fit_list.specs.inside.Stored.{stored_type}
 
--- what a hook sees of its field
+-- what a hook sees of its field: what it stores, and what an element is
 abbrev pub seen_in : (list : List Tree) → Answers list → HookRow → Option Ty × Option Ty
 seen_in list a r =
     seen_by (seen_of list (in_units list (told a.types) (told a.values) (told a.stored)) (values list (told a.types) (told a.values)) (sites list)) r

@@ -1,3 +1,4 @@
 pub mod Built
 pub mod Hooked
 pub mod Rows
+pub mod Stored

@@ -1,6 +1,6 @@
--- Rows on which the definitions are run: a variable without a value, one with one that isn't built, a body that confirms, and types of
--- bodies where no field has one.
-use Rattle.std.specs.Prelude.{ℕ, ◌≡◌, true, false, List, [], ◌∷◌, Option, Some, None, refl}
+-- Rows on which the definitions are run: a variable without a value, one with one that isn't built, a body that confirms, types of
+-- bodies where no field has one, and variables with members of the types of their values and of others.
+use Rattle.std.specs.Prelude.{ℕ, ◌≡◌, true, false, [], ◌∷◌, Option, Some, None, refl}
 use Rattle.sp_base.specs.declared.places.Span.{Span}
 use Rattle.sp_types.specs.declared.words.Word.TheVariants as word_is
 use Rattle.sp_types.specs.Types.{Ty, word}
@@ -9,10 +9,14 @@ use Rattle.sp_typed.specs.declared.words.LeafOp.TheVariants as leaf_is
 use Rattle.sp_typed.specs.Exprs.{Expr}
 use Rattle.sp_typed_units.specs.declared.declarations.Hook.{Hook}
 use Rattle.sp_typed_units.specs.declared.declarations.HookOf.TheVariants as hook_of
+use Rattle.sp_typed_units.specs.declared.declarations.Member.{Member}
+use Rattle.sp_typed_units.specs.declared.declarations.MemberKind.TheVariants as kind_is
+use Rattle.sp_typed_units.specs.declared.declarations.Variable.{Variable}
 use Rattle.sp_typing.specs.Typing.{leaf_at, no_call}
 use Rattle.sp_typing_stmts.specs.Statements.{bare_at}
 use Rattle.sp_passing_list.specs.Built.{value_built, hook_built}
 use Rattle.sp_passing_list.specs.Hooked.{types_from}
+use Rattle.sp_passing_list.specs.Stored.{variables_stored}
 
 abbrev here : Span
 here = record { from = 0; to = 0 }
@@ -40,3 +44,19 @@ not_built = refl
 -- two bodies of hooks in a list without units
 no_fields : types_from [] 0 (confirming ∷ confirming ∷ []) ≡ None ∷ None ∷ []
 no_fields = refl
+
+-- `var x: T = True;`, where T is the type of its member, and where it has no value
+abbrev member : Ty → Member
+member t = record { name = []; kind = kind_is.Variable; ty = t }
+
+abbrev variable : ℕ → Option Expr → Variable
+variable m value = record { member = m; span = here; written = record { span = here; unnamed = None; misplaced = None }; taken = false; value = value }
+
+own_type : variables_stored (member (word word_is.Bool) ∷ []) (variable 0 (Some truth) ∷ []) ≡ true
+own_type = refl
+
+other_type : variables_stored (member (word word_is.Bytes) ∷ []) (variable 0 (Some truth) ∷ []) ≡ false
+other_type = refl
+
+no_member : variables_stored (member (word word_is.Bool) ∷ []) (variable 1 None ∷ []) ≡ false
+no_member = refl

@@ -17,9 +17,9 @@ ghost use Rattle.sp_unbroken_list.specs.Given.{AreFormed, IsUnbroken};
 ghost use Rattle.sp_fit_expr.specs.Passes.{ConstantsFit};
 ghost use Rattle.sp_fit_list.specs.Passes.{Bodies, ListPasses};
 ghost use Rattle.sp_fit_list.specs.inside.Bodies.{FunctionPasses, HookPasses};
-ghost use Rattle.sp_fit_list.specs.inside.Units.{UnitPasses};
 ghost use Rattle.sp_passing_list.specs.Built.{IsBuilt};
 ghost use Rattle.sp_passing_list.specs.Hooked.{AreHooked, body_types};
+ghost use Rattle.sp_passing_list.specs.Stored.{UnitStores};
 
 use sp_stored_types::none_is_passed_over;
 
@@ -76,13 +76,14 @@ pub fn constants_fit()
         → ConstantsFit (typed_of list a) }
 {}
 
-/// Such a list passes, where each body of a hook hangs on a field that stores what the body sees as `$$`, and its units pass.
+/// Such a list passes, where each body of a hook hangs on a field that stores what the body sees as `$$`, and the variables and fields of
+/// its units store what their rows have.
 pub fn lists_pass()
     ensures { (texts : Texts) (list : List Tree) (a : Answers list) → AreFormed list
         → IsUnbroken list → first_unbuilt texts list (typed_of list a) ≡ None
         → IsBuilt (typed_of list a) → AreHooked list a
         → ((u : ℕ) (x : TypedUnit) → slice_get (typed_of list a).units u ≡ Some x
-        → UnitPasses (typed_of list a) (body_types (typed_of list a)) u x)
+        → UnitStores (typed_of list a) (body_types (typed_of list a)) u x)
         → ListPasses (typed_of list a) }
 {
     none_is_passed_over();

@@ -1,14 +1,14 @@
--- Where nothing is found in a list that isn't built, no hook is one of elements.
+-- Where nothing is found in a list that isn't built, nothing is found in its declarations, and no hook is one of elements.
 use Rattle.std.specs.Prelude.{◌&&◌, ◌||◌, not, if◌then◌else◌}
 use Rattle.std.specs.List.{list_all}
-use Rattle.std.proofs.Common.{ℕ, ◌≡◌, ◌+◌, suc, Bool, true, false, refl, sym, ap, subst, ◌∙◌, arith, List, [], ◌∷◌, ◌++◌, Option, Some, None, slice_get}
+use Rattle.std.proofs.Common.{ℕ, ◌≡◌, ◌+◌, suc, Bool, true, false, refl, sym, subst, List, [], ◌∷◌, Option, Some, None}
 use Rattle.std.proofs.lemmas.Bool.{and_parts, not-true}
 use Rattle.sp_base.specs.declared.places.Diag.{Diag}
 use Rattle.sp_base.specs.declared.places.Span.{Span}
 use Rattle.sp_words.specs.declared.words.HookName.{HookName}
-use Rattle.sp_ast.specs.Trees.{Tree, Trees, absent, row, node, none, more, span_of}
+use Rattle.sp_ast.specs.Trees.{Tree, Trees, absent, row, node, none, more}
 use Rattle.sp_ast.specs.Slots.{is_formed, are_formed}
-use Rattle.sp_ast.specs.Groups.{is_of, are_of, fits as stands_as}
+use Rattle.sp_ast.specs.Groups.{is_of, fits as stands_as}
 use Rattle.sp_ast.specs.declared.groups.Group.TheVariants as group_is
 use Rattle.sp_ast.specs.declared.groups.Sort.TheVariants as stands
 use Rattle.sp_ast.specs.declared.forms.Form.{Form}
@@ -23,13 +23,13 @@ use Rattle.sp_typed_units.specs.declared.declarations.HookOf.TheVariants as of_i
 use Rattle.sp_typed_units.specs.declared.declarations.Typed.{Typed}
 use Rattle.sp_solver.specs.Told.{told}
 use Rattle.sp_names.specs.declared.rows.Declaration.{Declaration}
-use Rattle.sp_names.specs.Declarations.{rows, number_at}
+use Rattle.sp_names.specs.Declarations.{list_of, module_declarations, rows_of as declared_rows, rows_from, rows, number_at}
 use Rattle.sp_names.specs.Names.{path_names}
 use Rattle.sp_hook_rows.specs.declared.sites.Holder.{Holder}
 use Rattle.sp_hook_rows.specs.declared.sites.Holder.TheVariants as holder_is
 use Rattle.sp_hook_rows.specs.declared.sites.Site.{Site}
 use Rattle.sp_hook_rows.specs.declared.rows.HookRow.{HookRow}
-use Rattle.sp_hook_rows.specs.Sites.{sites_of, sites}
+use Rattle.sp_hook_rows.specs.Sites.{sites}
 use Rattle.sp_hook_rows.specs.HookRows.{hook_body, is_each, field_number, plain_of, each_of, field_of, unit_of, target_of, named_unit, unit_hook, member_hook, last_of, before_last, declared_of, body_rows, is_some_tree, named_rows, field_rows, item_row, declared_row, holder_rows, rows_of, hook_rows}
 use Rattle.sp_typing_heads.specs.Events.{is_of_elements}
 use Rattle.sp_unbuilt.specs.Constructs.{is_for_each, is_late_target, is_late_name, tail_tests, read_end, present, each_tests, tests_at}
@@ -44,9 +44,33 @@ use Rattle.sp_known_constants.specs.Fine.{IsFine, AreFine}
 use Rattle.sp_known_constants.proofs.Fine.{formed, inside, first, rest}
 use Rattle.sp_known_constants.proofs.Declarations.{AllOf, both_of, at_all, declaration_fine}
 use Rattle.sp_known_members.proofs.Built.{nothing, none_noted, two_parts}
-use Rattle.sp_known_members.proofs.Shapes.{no_first, no_second, no_third, field_parts, field_whole}
-use Rattle.sp_known_hooks.proofs.Walks.{Passes, tree_at, modules_pass, places_pass, all_places}
+use Rattle.sp_known_members.proofs.Shapes.{no_second, no_third, field_parts, field_whole}
+use Rattle.sp_known_hooks.proofs.Walks.{Passes, tree_at, places_pass, all_places}
 use Rattle.sp_unbroken_list.proofs.Split.{declared_names}
+
+-- what holds of the trees of modules holds of their declarations
+module _ (P : Tree → Type 0) (All : Trees → Type 0) (passes : Passes P All) where
+  abbrev pub Declares : Declaration → Type 0
+  Declares d = P d.tree
+
+  row_passes : (m : ℕ) (ts : Trees) → All ts → AllOf Declares (declared_rows m (list_of ts))
+  row_passes m none h = tt
+  row_passes m (more t ts) h = (passes.first t ts h, row_passes m ts (passes.rest t ts h))
+
+  module_passes : (m : ℕ) (t : Tree) → P t → AllOf Declares (declared_rows m (module_declarations t))
+  module_passes m absent h = tt
+  module_passes m (row ts) h = tt
+  module_passes m (node form_is.Module span none) h = tt
+  module_passes m (node form_is.Module span (more name none)) h = tt
+  module_passes m (node form_is.Module span (more name (more absent ts))) h = tt
+  module_passes m (node form_is.Module span (more name (more (node form at us) ts))) h = tt
+  module_passes m (node form_is.Module span (more name (more (row ds) ts))) h =
+      row_passes m ds (passes.in_row ds (passes.first (row ds) ts (passes.rest name (more (row ds) ts) (passes.parts form_is.Module span (more name (more (row ds) ts)) h))))
+  module_passes m (node _ span ts) h = tt
+
+  pub modules_pass : (m : ℕ) (ts : List Tree) → AllOf P ts → AllOf Declares (rows_from m ts)
+  modules_pass m [] h = tt
+  modules_pass m (t ∷ ts) h = both_of Declares (declared_rows m (module_declarations t)) (rows_from (suc m) ts) (module_passes m t h.0) (modules_pass (suc m) ts h.1)
 
 -- nothing in a tree, or in some, isn't built
 pub record IsBuilt (x : Tree) : Type 0 where
