@@ -1,16 +1,15 @@
 -- Hooks in which no test holds: all is known of them.
 use Rattle.std.specs.Prelude.{ℤ, Bool, true, false, not, ◌&&◌, ◌||◌, if◌then◌else◌, List, [], ◌∷◌, ◌++◌, length, Option, Some, None}
 use Rattle.std.specs.List.{list_all}
-use Rattle.std.proofs.Common.{ℕ, ◌≡◌, refl, ap, ◌∙◌, subst, sym}
-use Rattle.std.proofs.lemmas.Bool.{and_parts, and_from, not-true}
+use Rattle.std.proofs.Common.{ℕ, ◌≡◌, refl, ◌∙◌, sym}
+use Rattle.std.proofs.lemmas.Bool.{and_parts, and_from}
 use Rattle.sp_base.specs.declared.places.Span.{Span}
 use Rattle.sp_numbers.specs.declared.width.Width.TheVariants.{W64}
 use Rattle.sp_ast.specs.Trees.{Tree, Trees, absent, row, node, none, more}
-use Rattle.sp_ast.specs.Groups.{is_of, are_of, fits as stands_as}
 use Rattle.sp_ast.specs.declared.groups.Group.TheVariants as group_is
 use Rattle.sp_ast.specs.declared.groups.Sort.TheVariants as stands
 use Rattle.sp_ast.specs.declared.forms.Form.TheVariants as form_is
-use Rattle.sp_types.specs.Types.{Ty, word}
+use Rattle.sp_types.specs.Types.{word}
 use Rattle.sp_types.specs.declared.words.Word.TheVariants as word_is
 use Rattle.sp_typed.specs.declared.words.Standing.TheVariants as standing_is
 use Rattle.sp_typed.specs.Exprs.{Expr, type_of}
@@ -30,7 +29,7 @@ use Rattle.sp_typing_stmts.specs.Statements.{typed_body}
 use Rattle.sp_typing_heads.specs.declared.site.Site.{Site}
 use Rattle.sp_typing_heads.specs.Events.{is_of_sink}
 use Rattle.sp_typing_heads.specs.Parameters.{parameters_in, with_parameters}
-use Rattle.sp_typing_heads.specs.Hooks.{self_type, self_standing, current_type, current_standing, hook_around, hook_body, priority_around, priority_in, no_hook, hook_of_body, hook_behind, hook_on}
+use Rattle.sp_typing_heads.specs.Hooks.{self_type, self_standing, current_type, current_standing, hook_around, hook_body, priority_around, priority_in, hook_of_body, hook_behind, hook_on}
 use Rattle.sp_constants.specs.Known.{Known as Values}
 use Rattle.sp_body_rules.specs.Known.{Known}
 use Rattle.sp_body_rules.specs.ExprTests.{is_unmeant}
@@ -38,7 +37,7 @@ use Rattle.sp_list_rules.specs.Lists.{all_tests, option_tests}
 use Rattle.sp_list_rules.specs.Names.{is_of_nothing, expr_names, stmt_names, hook_names}
 use Rattle.sp_list_rules.specs.Slots.{for_slots}
 use Rattle.sp_list_rules.specs.Told.{known_in}
-use Rattle.sp_list_rules.specs.Bodies.{body_tests, parameter_tests, is_rank, priority_tests, own_hook_tests, hook_tests}
+use Rattle.sp_list_rules.specs.Bodies.{body_tests, parameter_tests, is_rank, priority_tests, own_hook_tests}
 use Rattle.sp_known_types.specs.Full.{is_full}
 use Rattle.sp_known_types.specs.Clear.{none_hold, any_op}
 use Rattle.sp_known_types.specs.Trees.{is_expr}

@@ -34,7 +34,7 @@ use Rattle.sp_names.specs.declared.sort.DeclSort.{DeclSort}
 use Rattle.sp_names.specs.declared.sort.DeclSort.TheVariants as sort_is
 use Rattle.sp_names.specs.declared.sort.Meaning.{Meaning}
 use Rattle.sp_names.specs.declared.sort.Meaning.TheVariants as meaning_is
-use Rattle.sp_names.specs.Declarations.{sort_at, number_at}
+use Rattle.sp_names.specs.Declarations.{sort_at}
 use Rattle.sp_names.specs.Names.{path_means}
 use Rattle.sp_around.specs.Heads.{function_takes as takes_of, function_gives}
 use Rattle.sp_around.specs.Methods.{told, begins_with_order, by_order, bytes_methods, text_methods, vector_methods, are_two, get_method, map_methods, method_gives, method_takes, unit_methods, unit_method_gives, sink_methods, library_call, unit_call, sink_call, method_of, base_ten, utf8, replace, left_out_of}
@@ -44,7 +44,7 @@ use Rattle.sp_whole_list.proofs.Modules.{none_found, some_found}
 use Rattle.sp_known_types.proofs.Full.{never}
 use Rattle.sp_fit_expr.specs.declared.around.Around.{Around}
 use Rattle.sp_fit_expr.specs.declared.sorts.Sort.{Sort}
-use Rattle.sp_fit_expr.specs.declared.sorts.Sort.TheVariants.{Bytes, Text, Vectors, Maps, Units}
+use Rattle.sp_fit_expr.specs.declared.sorts.Sort.TheVariants.{Bytes, Text, Vectors, Maps}
 use Rattle.sp_fit_expr.specs.Sorts.{same_sort}
 use Rattle.sp_fit_expr.specs.Test.{is_sort}
 use Rattle.sp_known_kinds.specs.Made.{are_targeted, given_by, receiver_sort, has_slot, callable_made, takes_arguments, member_made, leaf_made, is_made, IsMade, AreMade}

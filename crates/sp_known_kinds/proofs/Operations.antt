@@ -9,7 +9,7 @@ use Rattle.sp_words.specs.Methods.{changes}
 use Rattle.sp_types.specs.declared.words.Word.TheVariants as word_is
 use Rattle.sp_types.specs.declared.words.Maker.{Maker}
 use Rattle.sp_types.specs.declared.words.Maker.TheVariants as maker_is
-use Rattle.sp_types.specs.Types.{Ty, Tys, word, made, tys, same, is_known, widens, goes}
+use Rattle.sp_types.specs.Types.{Ty, word, made, tys, same, is_known, widens, goes}
 use Rattle.sp_types.specs.Types as types
 use Rattle.sp_types.proofs.Same.{same_is, same_itself}
 use Rattle.sp_typed.specs.declared.heads.Leaf.{Leaf}
@@ -53,7 +53,7 @@ use Rattle.sp_fit_expr.specs.Sorts.{sort_of, takes, is_sized, is_integer as is_i
 use Rattle.sp_fit_expr.specs.Test.{is_sort, local_is, two_is_of, three_is, leaf_is_of, one_is_of, one_or_literal, is_enum, has_member, has_range, item_is, tuple_has, tuple_of, vector_with, set_with, map_with, converts, offset_is, call_is, method_is, change_is, member_place, local_place, owner_is, is_index, many_is_of, row_is_of, expr_passes, exprs_pass, change_passes, place_passes}
 use Rattle.sp_known_kinds.specs.Made.{is_targeted, element_made, is_even, are_targeted, given_by, receiver_sort, method_made, unit_method_made, many_made, one_made, two_made, leaf_made, is_made, IsAsked, owner_kept, receiver_kept, keeps_owner, is_operator, has_place, is_row, is_built}
 use Rattle.sp_known_kinds.specs.Kept.{offset_kept}
-use Rattle.sp_known_kinds.proofs.Types.{boolean_sort, unsigned_sort, signed_sort, bytes_sort, text_sort, sized_sort, sort_itself, either, operators_take}
+use Rattle.sp_known_kinds.proofs.Types.{boolean_sort, unsigned_sort, signed_sort, bytes_sort, text_sort, sized_sort, either, operators_take}
 use Rattle.sp_known_kinds.proofs.Values.{sorted, number_in, minus_in, or_false, has_type, seen_is, full_type, is_asked, asked_so, not_unknown, cast_sorts, widen_sorts, widened_valued, turned, first_part, key_same, integer_sort, no_number, not_true, no_regex, and_false, Valued}
 use Rattle.sp_known_kinds.proofs.Calls.{arguments_of, of_list, call_so, row_full, takes_full, method_so, change_so}
 

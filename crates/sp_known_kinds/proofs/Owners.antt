@@ -1,6 +1,6 @@
 -- What is kept in slots is made as it was, and each slot that it has is of the type of its owner.
 use Rattle.std.specs.Prelude.{ℕ, ◌+◌, zero, suc, Bool, true, false, not, ◌&&◌, if◌then◌else◌, List, [], ◌∷◌, ◌++◌, map, length, Option, Some, None, slice_get}
-use Rattle.std.proofs.Common.{◌≡◌, refl, sym, ap, ◌∙◌, subst}
+use Rattle.std.proofs.Common.{◌≡◌, refl, sym, ap, ◌∙◌}
 use Rattle.std.proofs.lemmas.Bool.{and_from}
 use Rattle.sp_words.specs.declared.methods.Method.{Method}
 use Rattle.sp_words.specs.declared.operators.UnaryOp.TheVariants as unary_is
@@ -22,7 +22,7 @@ use Rattle.sp_operands.specs.Operands.{unknown, is_integer, is_boolean, first_ty
 use Rattle.sp_operands.specs.Literals.{is_over, is_past, seen}
 use Rattle.sp_operands.specs.Wholes.{may_hold, is_of, all_of, first_seen, second_seen, has_keys_alone, row_type, all_in_turn, map_type}
 use Rattle.sp_typing.specs.Typing.{second_type}
-use Rattle.sp_typing_stmts.specs.Scopes.{Scope, with_slot}
+use Rattle.sp_typing_stmts.specs.Scopes.{Scope}
 use Rattle.sp_typing_stmts.specs.Owners.{is_at_hand, is_changeable, is_index, owner, owner_slot, with_owner, receiver_owner, changed_owner, with_slot_of, kept, all_kept}
 use Rattle.sp_around.specs.Methods.{method_gives, method_takes, unit_method_gives}
 use Rattle.sp_list_rules.specs.Told.{function_takes}
@@ -36,7 +36,7 @@ use Rattle.sp_known_literals.specs.Widened.{is_widen, widens_value}
 use Rattle.sp_fit_expr.specs.declared.around.Around.{Around}
 use Rattle.sp_fit_expr.specs.declared.sorts.Sort.TheVariants.{Units}
 use Rattle.sp_fit_expr.specs.Around.{layout_in}
-use Rattle.sp_fit_expr.specs.Test.{is_sort, tuple_has, local_is, owner_is}
+use Rattle.sp_fit_expr.specs.Test.{is_sort, tuple_has}
 use Rattle.sp_known_kinds.specs.Made.{is_targeted, element_made, is_even, maybe_targeted, are_targeted, given_by, receiver_sort, member_made, one_made, two_made, many_made, is_made, owner_kept, receiver_kept, keeps_owner}
 use Rattle.sp_known_kinds.specs.Kept.{SlotsKept}
 

@@ -1,5 +1,5 @@
 -- Each local that a body declares has a full type, where no rule is broken in the body.
-use Rattle.std.specs.Prelude.{ℕ, Bool, true, false, ◌&&◌, List, [], ◌∷◌, ◌++◌, map, length, Option, Some, None}
+use Rattle.std.specs.Prelude.{ℕ, Bool, true, false, ◌&&◌, List, [], ◌∷◌, ◌++◌, map, length, Option}
 use Rattle.std.proofs.Common.{◌≡◌, refl, ap, ◌∙◌}
 use Rattle.std.proofs.lemmas.Bool.{and_parts, and_from}
 use Rattle.sp_ast.specs.Trees.{Tree, Trees, absent, row, node, none, more}
@@ -35,7 +35,7 @@ use Rattle.sp_known_types.proofs.Typed.{typed_holds}
 use Rattle.sp_known_types.proofs.Bodies.{Quiet, two_quiet, at_first, behind}
 use Rattle.sp_known_bodies.specs.Slots.{IsBlind}
 use Rattle.sp_known_bodies.specs.Decided.{locals_full, DecidesUnder}
-use Rattle.sp_known_bodies.specs.Trees.{is_maybe_expr, is_local, is_stmt, are_stmts, are_branches, are_cases, is_body}
+use Rattle.sp_known_bodies.specs.Trees.{is_stmt, are_stmts, are_branches, are_cases, is_body}
 use Rattle.sp_known_bodies.proofs.Kept.{kept_holds}
 use Rattle.sp_known_bodies.proofs.Contexts.{Full, locals_known, kept_full}
 use Rattle.sp_known_bodies.proofs.Stmts.{stmt_known}

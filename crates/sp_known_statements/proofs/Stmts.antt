@@ -1,14 +1,13 @@
 -- A statement in which no rule is broken passes the test before lowering.
-use Rattle.std.specs.Prelude.{ℕ, ◌+◌, zero, suc, Bool, true, false, not, ◌&&◌, ◌||◌, if◌then◌else◌, List, [], ◌∷◌, ◌++◌, Option, Some, None, is_none, slice_get}
-use Rattle.std.specs.List.{list_all}
-use Rattle.std.proofs.Common.{◌≡◌, refl, sym, ap, ◌∙◌, subst}
+use Rattle.std.specs.Prelude.{ℕ, ◌+◌, Bool, true, false, not, ◌&&◌, ◌||◌, if◌then◌else◌, List, [], ◌∷◌, ◌++◌, Option, Some, None, is_none}
+use Rattle.std.proofs.Common.{◌≡◌, refl, sym, ◌∙◌, subst}
 use Rattle.std.proofs.lemmas.Bool.{and_parts, and_from}
 use Rattle.sp_base.specs.declared.places.Span.{Span}
 use Rattle.sp_words.specs.declared.operators.AssignOp.{AssignOp}
 use Rattle.sp_words.specs.declared.operators.AssignOp.TheVariants as assign_is
 use Rattle.sp_types.specs.declared.words.Word.TheVariants as word_is
 use Rattle.sp_types.specs.declared.words.Maker.TheVariants as maker_is
-use Rattle.sp_types.specs.Types.{Ty, Tys, word, made, same, is_known, widens, goes}
+use Rattle.sp_types.specs.Types.{Ty, word, made, same, is_known, widens, goes}
 use Rattle.sp_types.specs.Types as types
 use Rattle.sp_types.proofs.Same.{same_is, same_itself}
 use Rattle.sp_typed.specs.declared.words.LeafOp.{LeafOp}
@@ -28,15 +27,15 @@ use Rattle.sp_typed.specs.Nodes.{holds, all_hold}
 use Rattle.sp_typed.specs.Stmts.{Stmt, Stmts, Branches, Cases, bare, valued, assign, print, block, branch, while_loop, for_loop, switch, no_stmts, more_stmts, no_branches, more_branches, no_cases, more_cases}
 use Rattle.sp_typed.specs.StmtNodes.{stmts_in, stmts_in_all, stmts_in_branches, stmts_in_cases, nodes_hold, stmts_hold, branches_hold, cases_hold}
 use Rattle.sp_operands.specs.declared.operators.OperatorSort.TheVariants as sort_is
-use Rattle.sp_operands.specs.Operands.{is_valueless, is_integer, is_bytes, is_text, is_boolean, first_type, stands_before, agree}
+use Rattle.sp_operands.specs.Operands.{is_integer, is_bytes, is_text, is_boolean, stands_before, agree}
 use Rattle.sp_operands.specs.Literals.{is_over, is_past, seen}
 use Rattle.sp_typing_stmts.specs.Statements.{element_type}
 use Rattle.sp_body_rules.specs.Known.{Known}
-use Rattle.sp_body_rules.specs.Values.{is_void, is_set, is_no_value, is_regex, knows, value_goes, target_tests, written_tests}
+use Rattle.sp_body_rules.specs.Values.{is_void, is_no_value, is_regex, knows, value_goes, target_tests, written_tests}
 use Rattle.sp_body_rules.specs.ExprTests.{index_tests, two_op_tests, changes_leaf, changes_one, may_change}
-use Rattle.sp_body_rules.specs.StmtTests.{is_sink, is_map, is_printable, is_sequence, differs, takes_target, assign_tests, has_changed_keys, key_change_tests, local_tests, return_tests, change_tests, alone_tests, bare_op_tests, valued_op_tests, print_tests, branches_tests, case_tests, cases_tests}
+use Rattle.sp_body_rules.specs.StmtTests.{is_sequence, differs, takes_target, assign_tests, has_changed_keys, key_change_tests, local_tests, return_tests, change_tests, bare_op_tests, valued_op_tests, print_tests, branches_tests, case_tests, cases_tests}
 use Rattle.sp_bodies.specs.Exprs.{slot_local}
-use Rattle.sp_known_types.specs.Full.{is_full, is_right, is_bare, is_unknown, holds_inside}
+use Rattle.sp_known_types.specs.Full.{is_full, is_right, is_bare, is_unknown}
 use Rattle.sp_known_types.specs.Clear.{is_clear, any_op}
 use Rattle.sp_known_types.specs.Stmts.{is_good, takes_key, each_holds, exprs_hold, all_exprs_hold, branch_exprs_hold, case_exprs_hold}
 use Rattle.sp_known_types.proofs.Full.{never, full_is_known}
@@ -47,19 +46,19 @@ use Rattle.sp_whole_list.proofs.None.{holds_both}
 use Rattle.sp_fit_expr.specs.declared.sorts.Sort.TheVariants.{Void, Bools, Unsigned, Text}
 use Rattle.sp_fit_expr.specs.Around.{layout_in}
 use Rattle.sp_fit_expr.specs.Sorts.{sort_of, added, integers}
-use Rattle.sp_fit_expr.specs.Lists.{is_type, part_is}
-use Rattle.sp_fit_expr.specs.Test.{is_sort, local_is, expr_passes, exprs_pass, place_passes}
+use Rattle.sp_fit_expr.specs.Lists.{part_is}
+use Rattle.sp_fit_expr.specs.Test.{is_sort, expr_passes, exprs_pass, place_passes}
 use Rattle.sp_fit_body.specs.declared.bodies.Returns.{Returns}
 use Rattle.sp_fit_body.specs.declared.bodies.Returns.TheVariants as returns
 use Rattle.sp_fit_body.specs.declared.bodies.Body.{Body}
 use Rattle.sp_fit_body.specs.Test.{is_index, is_pair, goes_over, is_key, equals, assigns, returns_nothing, returns_value, slot_is, test_passes, key_passes, values_pass, bare_passes, valued_passes, stmt_passes, stmts_pass, branches_pass, cases_pass}
-use Rattle.sp_known_kinds.specs.Made.{is_targeted, element_made, maybe_targeted, two_made, is_made, IsAsked, owner_kept, keeps_owner, is_built}
+use Rattle.sp_known_kinds.specs.Made.{is_targeted, element_made, maybe_targeted, two_made, is_made, IsAsked, keeps_owner, is_built}
 use Rattle.sp_known_kinds.specs.Kept.{offset_kept}
-use Rattle.sp_known_kinds.proofs.Types.{boolean_sort, text_sort, either, alike_take}
+use Rattle.sp_known_kinds.proofs.Types.{boolean_sort, text_sort, alike_take}
 use Rattle.sp_known_kinds.proofs.Values.{sorted, has_type, seen_is, full_type, is_asked, asked_so, turned, key_same, not_true, no_regex, and_false}
 use Rattle.sp_known_kinds.proofs.Operations.{all_so, passes, place_so}
 use Rattle.sp_known_statements.specs.Declared.{valued_full, locals_full_in, locals_full_among, branch_locals_full, case_locals_full}
-use Rattle.sp_known_statements.specs.Ready.{returns_so, local_ready, node_ready, expr_ready, all_ready, owner_ready, bare_ready, valued_ready, stmt_ready, stmts_ready, branches_ready, cases_ready}
+use Rattle.sp_known_statements.specs.Ready.{returns_so, local_ready, node_ready, expr_ready, owner_ready, bare_ready, valued_ready, stmt_ready, stmts_ready, branches_ready, cases_ready}
 
 -- a literal can't be changed
 leaf_within : (k : Known) (op : LeafOp) (over : Bool) → changes_leaf k op ≡ true → (number_leaf op && over) ≡ false

@@ -1,7 +1,7 @@
 -- Typing makes statements ready where the body keeps their slots, and all in them is built.
 use Rattle.std.specs.Prelude.{ℕ, ◌+◌, Bool, true, false, not, ◌&&◌, ◌||◌, cond, if◌then◌else◌, List, [], ◌∷◌, ◌++◌, map, length, Option, Some, None, slice_get}
 use Rattle.std.specs.List.{list_all}
-use Rattle.std.proofs.Common.{◌≡◌, refl, sym, ap, ◌∙◌, subst}
+use Rattle.std.proofs.Common.{◌≡◌, refl, sym, ◌∙◌, subst}
 use Rattle.std.proofs.lemmas.Bool.{and_parts, and_from}
 use Rattle.sp_base.specs.declared.places.Span.{Span}
 use Rattle.sp_ast.specs.Trees.{Tree, Trees, absent, row, node, none, more}
@@ -21,7 +21,7 @@ use Rattle.sp_typed.specs.declared.stmt_words.ValuedOp.TheVariants as valued_is
 use Rattle.sp_typed.specs.Exprs as row_of
 use Rattle.sp_typed.specs.Exprs.{Expr, Exprs, leaf, one, two, three, many, exprs, type_of, span_of, is_literal, retyped, settled}
 use Rattle.sp_typed.specs.Nodes.{holds, all_hold}
-use Rattle.sp_typed.specs.Stmts.{Stmt, block, branch, while_loop, for_loop, switch, stmts, branch_row}
+use Rattle.sp_typed.specs.Stmts.{Stmt, stmts, branch_row}
 use Rattle.sp_operands.specs.Literals.{can_take, taken, seen, is_past}
 use Rattle.sp_typing.specs.Contexts.{Around as Names}
 use Rattle.sp_typing.specs.Typing.{typed, one_at, widened, to_target, to_maybe}
@@ -30,13 +30,12 @@ use Rattle.sp_typing_stmts.specs.Scopes.{Local, Scope, with_slot, closed}
 use Rattle.sp_typing_stmts.specs.Visible.{single_name, found_maybe, local_or, with_locals}
 use Rattle.sp_typing_stmts.specs.Owners.{owner, owner_slot, with_owner, changed_owner, kept, all_kept}
 use Rattle.sp_typing_stmts.specs.Values.{value_in, values_in}
-use Rattle.sp_typing_stmts.specs.Statements.{after_local, declared, loop_head, written_type, written_of, type_or, local_with, local_without, local_in, element_type, return_in, assigned, cases_of, typed_stmt, typed_stmts, typed_branches, typed_branch, typed_cases, typed_case, typed_body}
+use Rattle.sp_typing_stmts.specs.Statements.{after_local, declared, written_type, written_of, type_or, local_with, local_in, element_type, return_in, cases_of, typed_stmt, typed_stmts, typed_branches, typed_branch, typed_cases, typed_case, typed_body}
 use Rattle.sp_known_types.proofs.Full.{never}
-use Rattle.sp_known_literals.specs.Widened.{is_widen, widens_value, AreWidened}
+use Rattle.sp_known_literals.specs.Widened.{widens_value, AreWidened}
 use Rattle.sp_known_literals.proofs.Widening.{typed_is}
 use Rattle.sp_whole_list.proofs.None.{holds_both}
 use Rattle.sp_fit_expr.specs.declared.around.Around.{Around}
-use Rattle.sp_fit_expr.specs.Test.{local_is}
 use Rattle.sp_fit_body.specs.declared.bodies.Body.{Body}
 use Rattle.sp_fit_body.specs.Test.{slot_is}
 use Rattle.sp_known_kinds.specs.Made.{is_targeted, maybe_targeted, is_made, AreMade, keeps_owner, is_built}
@@ -44,7 +43,7 @@ use Rattle.sp_known_kinds.specs.Kept.{is_kept, SlotsKept}
 use Rattle.sp_known_kinds.proofs.Making.{literal_taken, targeted_made, maybe_made, typed_made}
 use Rattle.sp_known_kinds.proofs.Names.{locals_made}
 use Rattle.sp_known_kinds.proofs.Owners.{Grows, added_last, stays_behind, owner_grows, kept_grows, made_kept, widened_kept, owner_so, owner_keeps}
-use Rattle.sp_known_statements.specs.Ready.{local_ready, node_ready, expr_ready, all_ready, owner_ready, bare_ready, valued_ready, stmt_ready, stmts_ready, branches_ready, cases_ready}
+use Rattle.sp_known_statements.specs.Ready.{node_ready, owner_ready, stmt_ready, stmts_ready, branches_ready, cases_ready}
 use Rattle.sp_known_statements.specs.Built.{stmt_built, stmts_built, branches_built, cases_built}
 
 -- what takes the type of its place, and what is widened, where a test holds of both

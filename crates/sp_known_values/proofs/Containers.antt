@@ -1,14 +1,14 @@
 -- What stands in vectors, tuples and maps.
-use Rattle.std.specs.Prelude.{ℕ, zero, suc, Bool, true, false, ◌&&◌, List, [], ◌∷◌, Option, Some, None, slice_get, option_map}
+use Rattle.std.specs.Prelude.{ℕ, zero, suc, Bool, true, ◌&&◌, [], ◌∷◌, Option, Some, None, slice_get, option_map}
 use Rattle.std.proofs.Common.{◌≡◌, refl, sym, ap, ◌∙◌}
-use Rattle.std.proofs.lemmas.Bool.{and_parts, and_from}
+use Rattle.std.proofs.lemmas.Bool.{and_parts}
 use Rattle.std.specs.declared.cmp.Ordering.{Ordering}
 use Rattle.std.specs.declared.cmp.Ordering.TheVariants.{Less, Equal, Greater}
 use Rattle.std.specs.Ordering.{match_ordering}
-use Rattle.sp_value.specs.Val.{Val, Vals, Entries, no_vals, val, no_entries, entry, list_of, entries_of, pairs_of, map}
+use Rattle.sp_value.specs.Val.{Val, Vals, Entries, no_vals, val, no_entries, entry, list_of, pairs_of, map}
 use Rattle.sp_value.specs.Order.{val_cmp}
-use Rattle.sp_value.specs.Ascending.{entry_key, found, with_key}
-use Rattle.sp_value.specs.Changes.{value_at, with_entry}
+use Rattle.sp_value.specs.Ascending.{entry_key, found}
+use Rattle.sp_value.specs.Changes.{value_at}
 use Rattle.sp_types.specs.Types.{Ty, Tys}
 use Rattle.sp_types.specs.Types as types
 use Rattle.sp_typing.specs.Typing.{part_at}

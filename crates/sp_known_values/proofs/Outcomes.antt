@@ -1,21 +1,21 @@
 -- What is made of outcomes that fit the types of their expressions.
-use Rattle.std.specs.Prelude.{ℕ, zero, suc, Bool, true, false, ◌&&◌, List, [], ◌∷◌, ◌++◌, Option, Some, None, slice_get}
+use Rattle.std.specs.Prelude.{ℕ, Bool, true, false, ◌&&◌, List, [], ◌∷◌, ◌++◌}
 use Rattle.std.proofs.Common.{◌≡◌, refl, sym, ap, ◌∙◌}
-use Rattle.std.proofs.lemmas.Bool.{and_parts, and_from}
+use Rattle.std.proofs.lemmas.Bool.{and_from}
 use Rattle.sp_words.specs.declared.operators.BinaryOp.TheVariants as op_is
-use Rattle.sp_value.specs.Val.{Val, Vals, Entries, void, bool, tuple, vector, set, map, no_vals, val, no_entries, entry, vals_of, list_of, entries_of, pairs_of}
+use Rattle.sp_value.specs.Val.{Val, void, bool, tuple, vals_of}
 use Rattle.sp_types.specs.declared.words.Maker.TheVariants as maker_is
-use Rattle.sp_types.specs.Types.{Ty, Tys, made, tys}
+use Rattle.sp_types.specs.Types.{Ty, made, tys}
 use Rattle.sp_types.specs.Types as types
-use Rattle.sp_operands.specs.Operands.{boolean, first_type}
+use Rattle.sp_operands.specs.Operands.{boolean}
 use Rattle.sp_typed.specs.declared.words.ManyOp.TheVariants as many_is
 use Rattle.sp_constants.specs.declared.outcome.Outcome.{Outcome}
 use Rattle.sp_constants.specs.declared.outcome.Outcome.TheVariants.{Value, Error, Regex, NotConstant, Unknown}
-use Rattle.sp_constants.specs.Outcomes.{of_one, of_two, of_all, made as made_of, lack_of, lacking, worse, worst, kept, values, if_constant, truth, both_hold, either_holds, chosen}
-use Rattle.sp_constants.specs.Operations.{row_of, with_members}
+use Rattle.sp_constants.specs.Outcomes.{of_one, of_two, of_all, made as made_of, lack_of, lacking, worse, worst, values, if_constant, truth, both_hold, either_holds, chosen}
+use Rattle.sp_constants.specs.Operations.{row_of}
 use Rattle.sp_constants.specs.Values.{binary_value, three_value}
 use Rattle.sp_known_types.proofs.Full.{never}
-use Rattle.sp_known_values.specs.Values.{is_of, are_of, all_of, is_regex, fits}
+use Rattle.sp_known_values.specs.Values.{is_of, are_of, is_regex, fits}
 
 -- that of one part
 pub one_told : (s u : Ty) (f : Val → Outcome) (o : Outcome) → fits s o ≡ true → is_regex s ≡ false → ((a : Val) → is_of s a ≡ true → fits u (f a) ≡ true) → fits u (of_one f o) ≡ true

@@ -1,5 +1,5 @@
 -- Nodes with two parts or three: what they are as constants fits their types.
-use Rattle.std.specs.Prelude.{ℕ, Bool, true, false, not, ◌&&◌, ◌||◌, if◌then◌else◌, List, ◌++◌, Option, Some, None}
+use Rattle.std.specs.Prelude.{ℕ, Bool, true, false, not, ◌&&◌, ◌||◌, if◌then◌else◌, ◌++◌, Option, Some, None}
 use Rattle.std.proofs.Common.{◌≡◌, ◌⊎◌, refl, sym, ap, ◌∙◌, subst}
 use Rattle.std.proofs.lemmas.Bool.{and_parts, and_from}
 use Rattle.sp_base.specs.declared.places.Span.{Span}
@@ -21,16 +21,16 @@ use Rattle.sp_operands.specs.declared.operators.OperatorSort.{OperatorSort}
 use Rattle.sp_operands.specs.Operands.{unknown, boolean, is_boolean, is_unsigned, sort_of, stands_before, stands_behind, agree, result_type, key_of, first_type}
 use Rattle.sp_operands.specs.Literals.{seen}
 use Rattle.sp_typing.specs.Contexts.{Around}
-use Rattle.sp_typing.specs.Typing.{two_at, three_at, to_target, agreeing, joined, is_membership, binary_at, chosen, choice_at, choice_type, second_type, part_at, item_of, item_at, index_at}
+use Rattle.sp_typing.specs.Typing.{two_at, to_target, agreeing, joined, is_membership, binary_at, chosen, choice_at, second_type, part_at, item_of, item_at, index_at}
 use Rattle.sp_body_rules.specs.Known.{Known}
-use Rattle.sp_body_rules.specs.Values.{knows, value_tests}
+use Rattle.sp_body_rules.specs.Values.{knows}
 use Rattle.sp_body_rules.specs.ExprTests.{is_past_key, disagree, index_tests}
 use Rattle.sp_constants.specs.Known.{Known as Values}
 use Rattle.sp_constants.specs.declared.outcome.Outcome.{Outcome}
 use Rattle.sp_constants.specs.Outcomes.{of_one, of_two}
 use Rattle.sp_constants.specs.Operations.{operated, indexed, member}
 use Rattle.sp_constants.specs.Values.{binary_value, value_of as constant_of}
-use Rattle.sp_known_types.specs.Full.{is_full, is_right}
+use Rattle.sp_known_types.specs.Full.{is_right}
 use Rattle.sp_known_types.specs.Clear.{is_clear}
 use Rattle.sp_known_types.proofs.Full.{never}
 use Rattle.sp_known_types.proofs.Tests.{Fine, Clear, Value, first_fine, seen_is, knows_it, right_when, both_false, not_so}
@@ -39,7 +39,7 @@ use Rattle.sp_known_values.specs.Operators.{is_evaluated}
 use Rattle.sp_known_values.proofs.Operators.{told}
 use Rattle.sp_known_values.proofs.Outcomes.{one_told, two_told, if_told, and_told, or_told, three_told}
 use Rattle.sp_known_values.proofs.Containers.{item_told, member_told, value_told}
-use Rattle.sp_known_values.proofs.Nodes.{Told, Part, part, target_told, agreeing_told}
+use Rattle.sp_known_values.proofs.Nodes.{Told, part, target_told, agreeing_told}
 
 boolean_is : (t : Ty) → is_boolean t ≡ true → t ≡ boolean
 boolean_is (word word_is.Bool) b = refl

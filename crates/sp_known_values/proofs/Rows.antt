@@ -1,6 +1,6 @@
 -- Rows, members and calls: what they are as constants fits their types.
 use Rattle.std.specs.Prelude.{ℕ, Bool, true, false, not, ◌&&◌, ◌||◌, if◌then◌else◌, List, [], ◌∷◌, ◌++◌, length, map, Option, Some, None}
-use Rattle.std.proofs.Common.{◌≡◌, refl, sym, ap, ◌∙◌, subst}
+use Rattle.std.proofs.Common.{◌≡◌, refl, sym, ap, ◌∙◌}
 use Rattle.std.proofs.lemmas.Bool.{and_parts, and_from}
 use Rattle.std.specs.declared.cmp.Ordering.{Ordering}
 use Rattle.std.specs.declared.cmp.Ordering.TheVariants.{Less, Equal, Greater}
@@ -11,7 +11,7 @@ use Rattle.sp_value.specs.Val as value
 use Rattle.sp_value.specs.Order.{val_cmp}
 use Rattle.sp_value.specs.Ascending.{own_key, entry_key, with_key}
 use Rattle.sp_types.specs.declared.words.Maker.TheVariants as maker_is
-use Rattle.sp_types.specs.Types.{Ty, Tys, made, tys, same}
+use Rattle.sp_types.specs.Types.{Ty, made, tys, same}
 use Rattle.sp_types.specs.Types as types
 use Rattle.sp_types.proofs.Same.{same_is}
 use Rattle.sp_typed.specs.declared.words.OneOp.{OneOp}
@@ -29,9 +29,9 @@ use Rattle.sp_typing.specs.declared.context.Member.{Member}
 use Rattle.sp_typing.specs.declared.context.Callable.{Callable}
 use Rattle.sp_operands.specs.Operands.{unknown, boolean}
 use Rattle.sp_operands.specs.Literals.{seen, is_past}
-use Rattle.sp_operands.specs.Wholes.{may_hold, all_of as whole_of, all_in_turn, first_seen, second_seen, row_type, map_type, are_entries, has_keys_alone}
+use Rattle.sp_operands.specs.Wholes.{may_hold, all_of as whole_of, all_in_turn, first_seen, second_seen, row_type, map_type, are_entries}
 use Rattle.sp_operands.specs.Wholes as wholes
-use Rattle.sp_typing.specs.Typing.{one_at, many_at, tuple_at, row_at, map_of, map_at, in_turn, lead_half, led, lead, maybe_taken, member_at, set_op, set_member_at, call_by, callee_op, call_at, each_to, method_found, method_of, new_by, new_at, started}
+use Rattle.sp_typing.specs.Typing.{one_at, many_at, tuple_at, row_at, map_of, map_at, in_turn, lead_half, led, lead, maybe_taken, member_at, set_op, set_member_at, call_by, callee_op, call_at, each_to, method_of, new_by, new_at, started}
 use Rattle.sp_body_rules.specs.Known.{Known}
 use Rattle.sp_body_rules.specs.ExprTests.{all_value_tests, elements_tests, entries_tests, row_tests, map_tests}
 use Rattle.sp_constants.specs.Known.{Known as Values}
