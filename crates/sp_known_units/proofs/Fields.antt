@@ -315,19 +315,19 @@ module _ (list : List Tree) (a : Answers list) (formed_list : list_all is_formed
       let p = none_parts (call_tests k m op at unknown (exprs xs)) (exprs_inside k m (exprs xs)) good.0 in
       let q = and_parts (not (not (arguments_fit (k.target op unknown) 0 (exprs xs)))) (none_hold (argument_tests m false (exprs xs))) p.0 in
       arguments_known k m (k.target op unknown) 0 xs (each_holds any_op k m target 0 es h) good.1 (not_not (arguments_fit (k.target op unknown) 0 (exprs xs)) q.0) q.1 p.1
-  word_called at path word_is.Unknown es h good = refl
-  word_called at path word_is.Decoder es h good = refl
-  word_called at path _ es h good = refl
+  word_called at path word_is.Unknown es h good = never good.2
+  word_called at path word_is.Decoder es h good = never good.2
+  word_called at path _ es h good = never good.2
 
   op_called : (at path : Span) (op : LeafOp) (es : List Expr) → HoldsAll any_op k m es → Good (called_op g at path op es).spec → Known_ (called_op g at path op es)
   op_called at path (leaf_is.TypeName w) es h good = word_called at path w es h good
-  op_called at path leaf_is.Decoder es h good = refl
-  op_called at path (leaf_is.Nothing name) es h good = refl
-  op_called at path _ es h good = refl
+  op_called at path leaf_is.Decoder es h good = never good.2
+  op_called at path (leaf_is.Nothing name) es h good = never good.2
+  op_called at path _ es h good = never good.2
 
   unit_called : (at path : Span) (x : Expr) (es : List Expr) → HoldsAll any_op k m es → Good (called g at path x es).spec → Known_ (called g at path x es)
   unit_called at path (leaf x) es h good = op_called at path x.op es h good
-  unit_called at path _ es h good = refl
+  unit_called at path _ es h good = never good.2
 
   -- counts
   contained_known : (at : Span) (counts : Trees) (r : Read) → are_of group_is.Counts counts ≡ true → AreFine list f m counts → Good (contained g at counts r).spec → Known_ r → Known_ (contained g at counts r)

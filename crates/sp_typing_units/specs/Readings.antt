@@ -1,6 +1,7 @@
 -- How fields, elements and groups are read.
-use Rattle.std.specs.Prelude.{ℕ, List, [], ◌∷◌, Option, Some, None}
+use Rattle.std.specs.Prelude.{ℕ, List, [], ◌∷◌, Option, Some, None, map}
 use Rattle.sp_base.specs.declared.places.Span.{Span}
+use Rattle.sp_words.specs.declared.words.AttributeName.TheVariants as name_is
 use Rattle.sp_ast.specs.Trees.{Tree, Trees, absent, row, node, none, more}
 use Rattle.sp_ast.specs.Trees as read
 use Rattle.sp_ast.specs.declared.forms.Form.TheVariants as form_is
@@ -15,7 +16,8 @@ use Rattle.sp_typed.specs.declared.words.LeafOp.TheVariants as leaf_is
 use Rattle.sp_typed.specs.declared.words.ManyOp.TheVariants as many_is
 use Rattle.sp_typed.specs.declared.words.NewOf.TheVariants as new_is
 use Rattle.sp_typed.specs.declared.words.Written.{Written}
-use Rattle.sp_typed.specs.Exprs.{Expr, leaf, exprs}
+use Rattle.sp_typed.specs.Exprs.{Expr, leaf, exprs, span_of}
+use Rattle.sp_typed_units.specs.declared.attributes.Attribute.{Attribute}
 use Rattle.sp_typed_units.specs.declared.readings.ReadOp.{ReadOp}
 use Rattle.sp_typed_units.specs.declared.readings.ReadOp.TheVariants as read_is
 use Rattle.sp_typed_units.specs.declared.readings.TokenOp.{TokenOp}
@@ -118,21 +120,29 @@ type_read g v at t _ = broken at (misplaced at at)
 abbrev pub arguments : Around → ℕ → Span → List Expr → List Expr
 arguments g n path es = each_to (g.target (many_is.New (new_is.Unit n) path) unknown) 0 es
 
+-- An argument of what is no unit goes nowhere. It is kept as the value of an attribute is that asks for none, so that what stands in it
+-- is asked all the same.
+abbrev pub in_vain : Expr → Attribute
+in_vain e = record { span = span_of e; name = name_is.Try; value = Some e; number = None; bytes = None }
+
+abbrev pub with_arguments : Span → List Expr → Read → Read
+with_arguments at es r = record { spec = group_read at r.spec (map in_vain es); ty = r.ty; kind = r.kind }
+
 abbrev pub called_word : Around → Span → Span → Word → List Expr → Read
 called_word g at path (word_is.Unit n) es = unit_spec at n (arguments g n path es)
-called_word g at path word_is.Unknown es = broken at (fine at)
-called_word g at path word_is.Decoder es = decoder at
-called_word g at path _ es = broken at (misplaced at path)
+called_word g at path word_is.Unknown es = with_arguments at es (broken at (fine at))
+called_word g at path word_is.Decoder es = with_arguments at es (decoder at)
+called_word g at path _ es = with_arguments at es (broken at (misplaced at path))
 
 abbrev pub called_op : Around → Span → Span → LeafOp → List Expr → Read
 called_op g at path (leaf_is.TypeName w) es = called_word g at path w es
-called_op g at path leaf_is.Decoder es = decoder at
-called_op g at path (leaf_is.Nothing name) es = broken at (unnamed at name)
-called_op g at path _ es = broken at (misplaced at path)
+called_op g at path leaf_is.Decoder es = with_arguments at es (decoder at)
+called_op g at path (leaf_is.Nothing name) es = with_arguments at es (broken at (unnamed at name))
+called_op g at path _ es = with_arguments at es (broken at (misplaced at path))
 
 abbrev pub called : Around → Span → Span → Expr → List Expr → Read
 called g at path (leaf h) es = called_op g at path h.op es
-called g at path _ es = broken at (misplaced at path)
+called g at path _ es = with_arguments at es (broken at (misplaced at path))
 
 -- a container: it stands from its element's first token up to its own brackets
 abbrev pub vector_of : Ty → Ty

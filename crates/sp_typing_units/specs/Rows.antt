@@ -28,7 +28,7 @@ use Rattle.sp_typed.specs.Exprs.{Expr, leaf, exprs}
 use Rattle.sp_typed_units.specs.declared.attributes.Attribute.{Attribute}
 use Rattle.sp_typed_units.specs.declared.readings.ReadOp.TheVariants as read_is
 use Rattle.sp_typed_units.specs.declared.readings.TokenOp.TheVariants as token_is
-use Rattle.sp_typed_units.specs.Specs.{unit_read}
+use Rattle.sp_typed_units.specs.Specs.{unit_read, group_read}
 use Rattle.sp_typed_units.specs.Parts.{Part, field, choice, no_parts, no_arms, more_arms}
 use Rattle.sp_typing.specs.Contexts.{Around}
 use Rattle.sp_operands.specs.Operands.{unknown, boolean}
@@ -36,7 +36,7 @@ use Rattle.sp_typing.specs.Typing.{typed, leaf_at, name_of}
 use Rattle.sp_typing_units.specs.declared.roles.Kind.TheVariants as kind_is
 use Rattle.sp_typing_units.specs.Values.{Values}
 use Rattle.sp_typing_units.specs.Decorators.{with_current, with_self}
-use Rattle.sp_typing_units.specs.Readings.{counted_read, word_read, simple, broken, literal, fine, unnamed, misplaced}
+use Rattle.sp_typing_units.specs.Readings.{counted_read, word_read, simple, broken, literal, fine, unnamed, misplaced, in_vain}
 use Rattle.sp_typing_units.specs.Parts.{Fields, part_of}
 
 abbrev here : Span
@@ -178,6 +178,10 @@ constant = refl
 -- `f: U(1)`: the argument goes to a uint16
 unit : (counted_read around values (base base_is.Unit (named (codes "U") ∷ in_row (number 1 ∷ []) ∷ [])) none).spec ≡ unit_read (record { span = here; unit = 2 }) (exprs (leaf_at here short (leaf_is.Number 1) ∷ []))
 unit = refl
+
+-- `f: N(1)` can't be read, and keeps what stands in its parentheses
+no_unit : (counted_read around values (base base_is.Unit (named (codes "N") ∷ in_row (number 1 ∷ []) ∷ [])) none).spec ≡ group_read here (broken here (misplaced here here)).spec (in_vain (typed around (number 1)) ∷ [])
+no_unit = refl
 
 -- `f: uint8[2][]` is a vector of vectors, as far as the input tells
 counts : (counted_read around values (of_type (type_is.Int int.Uint8)) (trees (count (number 2) ∷ count absent ∷ []))).ty ≡ made maker_is.Vector (types.more (made maker_is.Vector (types.more byte types.none)) types.none)

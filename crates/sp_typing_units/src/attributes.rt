@@ -229,3 +229,34 @@ pub fn converted<C: Context>(
         None => read.copy(),
     }
 }
+
+/// What is stored of what is read, and the attributes that it has.
+#[derive(Drop)]
+pub(crate) struct Stored {
+    pub ty: Type,
+    pub attributes: Vec<Attribute>,
+}
+
+/// What is stored of something of a kind, of which this type is read, and its attributes.
+pub(crate) fn stored_by<C: Context, V: Constants>(
+    alloc: Global,
+    context: &C,
+    constants: &V,
+    kind: Kind,
+    read: Type,
+    list: &Members<'_, AttributeKind>,
+) -> Result<Stored, NoMemory>
+    ensures ty { IfOk result (λ s. s.ty ≡ converted (C.around context.now) read
+        (conversion (trees list.now))) }
+    ensures attributes { IfOk result (λ s. s.attributes.items ≡ attributes (C.around context.now)
+        (V.values constants.now) (record { kind = kind; read = read; stored = s.ty })
+        (trees list.now)) }
+{
+    let stored = converted(alloc, context, &read, list)?;
+    let site = Site { kind, read, stored };
+    let attributes = attributes_of(alloc, context, constants, &site, list)?;
+    Ok(Stored {
+        ty: site.stored,
+        attributes,
+    })
+}

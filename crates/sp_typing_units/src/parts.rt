@@ -3,9 +3,10 @@ ghost use Rattle.std.specs.Prelude.{◌≡◌, map, IfOk, List};
 ghost use Rattle.sp_ast.specs.Trees.{Tree, trees};
 ghost use Rattle.sp_typed_units.specs.Parts.{field, arms};
 ghost use Rattle.sp_operands.specs.Literals.{taken, seen};
+ghost use Rattle.sp_typing_units.specs.Attributes.{maybe_typed};
 ghost use Rattle.sp_typing_units.specs.Parts.{Fields, field_place, member_number, is_taken, field_with, field_of, settled_to, arm_of, field_in, part_of, parts_of, body_of, arms_of};
 
-use crate::attributes::{Site, attributes_of, converted};
+use crate::attributes::stored_by;
 use crate::constants::Constants;
 use crate::optional::{is_present, maybe_typed};
 use crate::readings::{Read, counted_read};
@@ -68,6 +69,36 @@ fn is_taken<F: FieldTable>(table: &F, name: &Option<Ref<'_, NameKind>>) -> bool
     }
 }
 
+/// What stands round a field: its condition, its sink and its hooks.
+#[derive(Drop)]
+struct Guards {
+    condition: Option<Expr>,
+    sink: Option<Expr>,
+    hooks: Row<u32>,
+}
+
+fn guards_of<C: Context, F: FieldTable>(
+    alloc: Global,
+    context: &C,
+    table: &F,
+    place: Span,
+    view: &FieldView<'_>,
+) -> Result<Guards, NoMemory>
+    ensures condition { IfOk result (λ x. x.condition
+        ≡ maybe_typed (C.around context.now) view.now.condition) }
+    ensures sink { IfOk result (λ x. x.sink ≡ maybe_typed (C.around context.now) view.now.sink) }
+    ensures hooks { IfOk result (λ x. x.hooks ≡ (F.fields table.now).hooks place) }
+{
+    let condition = maybe_typed(alloc, context, &view.condition)?;
+    let sink = maybe_typed(alloc, context, &view.sink)?;
+    let hooks = table.hooks(alloc, place)?;
+    Ok(Guards {
+        condition,
+        sink,
+        hooks,
+    })
+}
+
 /// A field that is read so.
 fn field_of<C: Context, V: Constants, F: FieldTable>(
     alloc: Global,
@@ -82,25 +113,20 @@ fn field_of<C: Context, V: Constants, F: FieldTable>(
         (F.fields table.now) span view.now.name read (trees view.now.attributes)
         view.now.condition view.now.sink) }
 {
-    let Read { spec, ty, kind } = read;
-    let stored = converted(alloc, context, &ty, &view.attributes)?;
-    let site = Site {
-        kind,
-        read: ty,
-        stored,
-    };
-    let list = attributes_of(alloc, context, constants, &site, &view.attributes)?;
     let place = field_place(span, &view.name);
+    let guards = guards_of(alloc, context, table, place, view)?;
+    let Read { spec, ty, kind } = read;
+    let stored = stored_by(alloc, context, constants, kind, ty, &view.attributes)?;
     Ok(Field {
         span: place,
         member: member_number(table, &view.name),
         taken: is_taken(table, &view.name),
-        ty: site.stored,
+        ty: stored.ty,
         spec,
-        attributes: Row::from_vec(list),
-        condition: maybe_typed(alloc, context, &view.condition)?,
-        sink: maybe_typed(alloc, context, &view.sink)?,
-        hooks: table.hooks(alloc, place)?,
+        attributes: Row::from_vec(stored.attributes),
+        condition: guards.condition,
+        sink: guards.sink,
+        hooks: guards.hooks,
     })
 }
 

@@ -1,12 +1,13 @@
 // How fields, elements and groups are read.
-ghost use Rattle.std.specs.Prelude.{◌≡◌, IfOk};
+ghost use Rattle.std.specs.Prelude.{◌≡◌, IfOk, map};
 ghost use Rattle.sp_ast.specs.Trees.{trees, span_of};
 ghost use Rattle.sp_typing.specs.Contexts.{Around};
 ghost use Rattle.sp_operands.specs.Operands.{unknown};
 ghost use Rattle.sp_typing.specs.Typing.{int_word, to_maybe};
-ghost use Rattle.sp_typing_units.specs.Readings.{fine, unnamed, misplaced, simple, broken, decoder, literal, or_empty, constant_read, constant_of_type, named_op, named_read, unit_spec, word_read, unknown_read, type_read, arguments, called_word, called_op, called, vector_of, counting, container, contained, group_with, group_of, base_read, counted_read};
+ghost use Rattle.sp_typed_units.specs.Specs.{list_read, group_read};
+ghost use Rattle.sp_typing_units.specs.Readings.{fine, unnamed, misplaced, simple, broken, decoder, literal, or_empty, constant_read, constant_of_type, named_op, named_read, unit_spec, word_read, unknown_read, type_read, arguments, in_vain, with_arguments, called_word, called_op, called, vector_of, counting, container, contained, group_with, group_of, base_read, counted_read};
 
-use crate::attributes::{Site, attributes_of, converted};
+use crate::attributes::stored_by;
 use crate::constants::Constants;
 use crate::optional::{is_present, maybe_typed};
 use crate::roles::{Kind, grouped};
@@ -17,10 +18,10 @@ use sp_ast::{
 use sp_base::{ByteList, NoMemory, Span, Text};
 use sp_numbers::Width;
 use sp_typed::{Expr, ExprLevel, LeafOp, ManyOp, NewOf, Written};
-use sp_typed_units::{ReadOp, Reading, Spec, SpecNode, TokenOp, UnitOf};
+use sp_typed_units::{Attribute, ReadOp, Reading, Spec, SpecNode, TokenOp, UnitOf};
 use sp_types::{Level, Maker, Type, Word};
 use sp_typing::{Context, to_maybe, typed_all};
-use sp_words::IntWord;
+use sp_words::{AttributeName, IntWord};
 use std::alloc::Global;
 
 /// How something is read, the type of what is read, and what attributes can stand on it.
@@ -270,6 +271,51 @@ fn arguments<C: Context>(
     Ok(parts)
 }
 
+/// An argument of what is no unit, which goes nowhere.
+fn in_vain(e: Expr) -> Attribute
+    ensures { result ≡ in_vain e }
+{
+    Attribute {
+        span: e.span(),
+        name: AttributeName::Try,
+        value: Some(e),
+        number: None,
+        bytes: None,
+    }
+}
+
+fn all_in_vain(alloc: Global, list: Vec<Expr>) -> Result<Vec<Attribute>, NoMemory>
+    ensures { IfOk result (λ r. r.items ≡ map in_vain list.items) }
+{
+    let mut all = Vec::new(alloc);
+    for e in list {
+        all.push(in_vain(e))?;
+    }
+    Ok(all)
+}
+
+fn group_spec(
+    alloc: Global,
+    at: Span,
+    inner: Spec,
+    attributes: Vec<Attribute>,
+) -> Result<Spec, NoMemory>
+    ensures { IfOk result (λ s. s ≡ group_read at inner attributes.items) }
+{
+    let inner = Box::new(alloc, inner)?;
+    Spec::new(SpecNode::Group(at, inner, attributes))
+}
+
+/// What is no unit, with arguments.
+fn with_arguments(alloc: Global, at: Span, list: Vec<Expr>, called: Read) -> Result<Read, NoMemory>
+    ensures { IfOk result (λ r. r ≡ with_arguments at list.items called) }
+{
+    let arguments = all_in_vain(alloc, list)?;
+    let Read { spec, ty, kind } = called;
+    let spec = group_spec(alloc, at, spec, arguments)?;
+    Ok(Read { spec, ty, kind })
+}
+
 fn called_word<C: Context>(
     alloc: Global,
     context: &C,
@@ -282,9 +328,9 @@ fn called_word<C: Context>(
 {
     match word {
         Word::Unit(n) => unit_spec(at, n, arguments(alloc, context, n, path, list)?),
-        Word::Unknown => broken(at, fine(at)),
-        Word::Decoder => decoder(at),
-        _ => broken(at, misplaced(at, path)),
+        Word::Unknown => with_arguments(alloc, at, list, broken(at, fine(at))?),
+        Word::Decoder => with_arguments(alloc, at, list, decoder(at)?),
+        _ => with_arguments(alloc, at, list, broken(at, misplaced(at, path))?),
     }
 }
 
@@ -302,11 +348,13 @@ fn called<C: Context>(
     match callee.level() {
         ExprLevel::Leaf(head) => match &head.op {
             LeafOp::TypeName(word) => called_word(alloc, context, at, path, *word, list),
-            LeafOp::Decoder => decoder(at),
-            LeafOp::Nothing(name) => broken(at, unnamed(at, *name)),
-            _ => broken(at, misplaced(at, path)),
+            LeafOp::Decoder => with_arguments(alloc, at, list, decoder(at)?),
+            LeafOp::Nothing(name) => {
+                with_arguments(alloc, at, list, broken(at, unnamed(at, *name))?)
+            }
+            _ => with_arguments(alloc, at, list, broken(at, misplaced(at, path))?),
         },
-        _ => broken(at, misplaced(at, path)),
+        _ => with_arguments(alloc, at, list, broken(at, misplaced(at, path))?),
     }
 }
 
@@ -327,6 +375,13 @@ fn counting(count: &Option<Ref<'_, ExprKind>>) -> Kind
     }
 }
 
+fn list_spec(alloc: Global, at: Span, element: Spec, number: Option<Expr>) -> Result<Spec, NoMemory>
+    ensures { IfOk result (λ s. s ≡ list_read at element number) }
+{
+    let inner = Box::new(alloc, element)?;
+    Spec::new(SpecNode::List(at, inner, number))
+}
+
 /// A container of what is read, whose last bracket stands here.
 fn container<C: Context>(
     alloc: Global,
@@ -344,9 +399,9 @@ fn container<C: Context>(
     };
     let number = maybe_typed(alloc, context, count)?;
     let ty = vector_of(alloc, &element.ty)?;
-    let inner = Box::new(alloc, element.spec)?;
+    let spec = list_spec(alloc, span, element.spec, number)?;
     Ok(Read {
-        spec: Spec::new(SpecNode::List(span, inner, number))?,
+        spec,
         ty,
         kind: counting(count),
     })
@@ -384,17 +439,11 @@ fn group_of<C: Context, V: Constants>(
         (trees list.now) inner) }
 {
     let Read { spec, ty, kind } = inner;
-    let stored = converted(alloc, context, &ty, list)?;
-    let site = Site {
-        kind,
-        read: ty,
-        stored,
-    };
-    let typed = attributes_of(alloc, context, constants, &site, list)?;
-    let inner = Box::new(alloc, spec)?;
+    let stored = stored_by(alloc, context, constants, kind, ty, list)?;
+    let spec = group_spec(alloc, at, spec, stored.attributes)?;
     Ok(Read {
-        spec: Spec::new(SpecNode::Group(at, inner, typed))?,
-        ty: site.stored,
+        spec,
+        ty: stored.ty,
         kind: grouped(kind),
     })
 }
