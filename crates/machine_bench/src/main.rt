@@ -12,10 +12,11 @@ ghost use Rattle.std.specs.Prelude.{IfOk};
 ghost use Rattle.sp_fit_list.specs.Passes.{ListPasses};
 ghost use Rattle.sp_program.specs.Whole.{IsCompiled};
 
-mod modules;
+mod programs;
 mod runs;
 
-use modules::{compiled, list_of};
+use only_module::list_of;
+use programs::compiled;
 use runs::{Sizes, Sum, run_only};
 use sp_base::NoMemory;
 use sp_code::Program;

@@ -8,18 +8,14 @@ ghost use Rattle.sp_choose.specs.Choices.{chosen};
 ghost use Rattle.sp_fit_list.specs.Passes.{ListPasses};
 ghost use Rattle.sp_driver.specs.inside.Ready.{AlwaysRuns, RunsWhatIsChosen};
 
-use sp_ast::Module;
+use only_module::list_of;
 use sp_base::{ByteList, Limits, NoMemory};
-use sp_check_unit::check;
 use sp_choose::chosen;
 use sp_code::Program;
 use sp_events::Events;
-use sp_fit_list::list_fits;
 use sp_json::Lines;
-use sp_lex::{ReadFault, lex};
 use sp_list_runs::compiled_lists_run;
 use sp_lower::lower;
-use sp_read_unit::read_module;
 use sp_session::Session;
 use sp_typed_units::{Typed, Unit};
 use std::alloc::Global;
@@ -54,11 +50,6 @@ fn what_is_asked(text: &[u8]) -> Option<Asked<'_>> {
         count: count.parse::<u16>().ok()?,
         module,
     })
-}
-
-fn module_of(alloc: Global, text: &str) -> Result<Module, ReadFault> {
-    let tokens = lex(alloc, text.as_bytes())?;
-    read_module(alloc, &tokens)
 }
 
 /// So many bytes, which count up.
@@ -141,13 +132,12 @@ fn run_list(
     list: &Typed,
     asked: Asked<'_>,
     lines: &mut Lines,
-) -> Result<Option<u64>, NoMemory> {
+) -> Result<Option<u64>, NoMemory>
+    requires { ListPasses list.now }
+{
     let Some(unit) = only_unit(list.units.as_slice()) else {
         return Ok(None);
     };
-    if !list_fits(alloc, list)? {
-        return Ok(None);
-    }
     let program = program_of(alloc, list)?;
     let input = input_of(alloc, asked.count)?;
     let wanted = Wanted {
@@ -160,28 +150,14 @@ fn run_list(
     Ok(Some(run_flows(alloc, &wanted, lines)?))
 }
 
-fn run_module(
-    alloc: Global,
-    module: Module,
-    asked: Asked<'_>,
-    lines: &mut Lines,
-) -> Result<Option<u64>, NoMemory> {
-    let mut modules = Vec::new(alloc);
-    modules.push(module)?;
-    match check(alloc, &modules) {
-        Ok(checked) => run_list(alloc, checked.typed(), asked, lines),
-        Err(_) => Ok(None),
-    }
-}
-
 /// Runs what a text asks for, or answers nothing where nothing runs.
 fn answer(alloc: Global, text: &[u8], lines: &mut Lines) -> Result<Option<u64>, NoMemory> {
     let Some(asked) = what_is_asked(text) else {
         return Ok(None);
     };
-    match module_of(alloc, asked.module) {
-        Ok(module) => run_module(alloc, module, asked, lines),
-        Err(_) => Ok(None),
+    match list_of(alloc, asked.module.as_bytes())? {
+        Some(list) => run_list(alloc, &list, asked, lines),
+        None => Ok(None),
     }
 }
 

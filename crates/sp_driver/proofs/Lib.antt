@@ -5,3 +5,5 @@ pub mod Runs
 pub mod Says
 pub mod Wanting
 pub mod Wholes
+pub mod Passing
+mod One

@@ -1,6 +1,6 @@
 -- A list that passes, and the unit of it that is chosen.
 use Rattle.std.specs.Prelude.{◌&&◌, not, IsTrue, slice_get, Result, Ok, Err, IfOk}
-use Rattle.std.proofs.Common.{◌≡◌, ℕ, true, List, [], ◌∷◌, Option, Some, None, inl, inr, sym, refl, subst}
+use Rattle.std.proofs.Common.{◌≡◌, ℕ, true, List, [], ◌∷◌, Option, Some, None, sym, refl, subst}
 use Rattle.std.proofs.lemmas.Bool.{and_parts}
 use Rattle.sp_base.specs.declared.places.Diag.{Diag}
 use Rattle.sp_ast.specs.Trees.{Tree}
@@ -22,7 +22,7 @@ use Rattle.sp_choose.specs.Choices.{takes_nothing, is_parser, is_asked, chosen}
 use Rattle.sp_choose.specs.Laws.{asked_at, IsAskedAt}
 use Rattle.sp_choose.proofs.Choosing.{choice_is}
 use Rattle.sp_driver.specs.declared.exits.Unready.{Unready}
-use Rattle.sp_driver.specs.Lists.{unbuilt_in, at_the_beginning}
+use Rattle.sp_driver.specs.Lists.{unbuilt_in}
 use Rattle.sp_driver.specs.inside.Ready.{AlwaysRuns, RunsWhatIsChosen, IsRefusalOrNoMemory, IsHindered}
 
 -- the literals of a list that passes fit
@@ -75,10 +75,5 @@ passing_runs law t (Err e) compiled passes = tt
 -- why a list can't be run, by its refusal
 pub hindered_there : (ss : List Source) (ts : List Tree) (t : Typed) (d : Diag) (why : Unready) → unbuilt_in ss ts t ≡ Some d → IsRefusalOrNoMemory (refusal_of ss d) why → IsHindered ss ts t why
 hindered_there ss ts t d Unready.NoParser found is = absurd is
-hindered_there ss ts t d (Unready.Unbuilt r) found is = inl (d, found, is)
+hindered_there ss ts t d (Unready.Unbuilt r) found is = (d, found, is)
 hindered_there ss ts t d Unready.NoMemory found is = tt
-
-pub hindered_at_first : (ss : List Source) (ts : List Tree) (t : Typed) (why : Unready) → unbuilt_in ss ts t ≡ None → IsRefusalOrNoMemory (refusal_of ss at_the_beginning) why → IsHindered ss ts t why
-hindered_at_first ss ts t Unready.NoParser built is = absurd is
-hindered_at_first ss ts t (Unready.Unbuilt r) built is = inr (built, is)
-hindered_at_first ss ts t Unready.NoMemory built is = tt

@@ -112,7 +112,7 @@ made words files input before after (Exit.Unread (Unread.Refused refusal)) one c
 }
 made words files input before after (Exit.Unready unready) one calm told (w, fs, t, found, listed, is, untouched) = record {
   answer = tells 3 (unready_message unready);
-  is_answer = inr (w, found, inl (inr (fs, t, unready, listed, is, refl)));
+  is_answer = inr (w, found, inl (inr (fs, t, unready, listed, is, unready_calm unready calm, refl)));
   status = unready_calm unready calm;
   put = untouched.1 ∙ sym (appended-nil before.held);
   message = refl;

@@ -1,6 +1,5 @@
 -- The list of modules that the words name, and what is wrong with it before a unit of it runs.
-use Rattle.std.specs.Prelude.{ℕ, ◌≡◌, ◌⊎◌, List, [], Option, Some, None, slice_get}
-use Rattle.sp_base.specs.declared.kinds.MKind.TheVariants.{OutOfProfile}
+use Rattle.std.specs.Prelude.{ℕ, ◌≡◌, List, [], Option, Some, None, slice_get}
 use Rattle.sp_base.specs.declared.places.Diag.{Diag}
 use Rattle.sp_ast.specs.Trees.{Tree}
 use Rattle.sp_command.specs.Directories.{directories_of}
@@ -32,16 +31,9 @@ text_at ss n = text_of (slice_get ss n)
 abbrev pub unbuilt_in : List Source → List Tree → Typed → Option Diag
 unbuilt_in ss ts t = first_unbuilt (text_at ss) ts t
 
--- the beginning of the first file
-abbrev pub at_the_beginning : Diag
-at_the_beginning = record { «module» = 0; span = record { from = 0; to = 0 }; kind = OutOfProfile }
-
--- A list can't be run yet. It is refused at the first construct that isn't built. Where all is built it is refused at its beginning, if it
--- doesn't pass the test of what fits: each checked list should, but that isn't proved.
+-- A list can't be run yet: it is refused at the first construct that isn't built.
 abbrev pub CannotRun : List Source → List Tree → Typed → Refusal → Type 0
-CannotRun ss ts t r =
-    ((d : Diag) × (unbuilt_in ss ts t ≡ Some d) × (r ≡ refusal_of ss d))
-    ⊎ ((unbuilt_in ss ts t ≡ None) × (r ≡ refusal_of ss at_the_beginning))
+CannotRun ss ts t r = (d : Diag) × (unbuilt_in ss ts t ≡ Some d) × (r ≡ refusal_of ss d)
 
 -- Why no unit of a list runs: no unit, or more than one, is the one that is asked for; or, where one is, the list can't be run yet. Where
 -- there was no memory nothing is said.

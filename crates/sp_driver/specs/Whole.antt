@@ -15,7 +15,7 @@ use Rattle.sp_driver.specs.declared.exits.Unready.{Unready}
 use Rattle.sp_driver.specs.declared.options.RunOptions.{RunOptions}
 use Rattle.sp_driver.specs.Lists.{IsListed, IsUnready, IsChosen}
 use Rattle.sp_driver.specs.Options.{options_of}
-use Rattle.sp_driver.specs.Driver.{run_meaning, unready_message}
+use Rattle.sp_driver.specs.Driver.{run_meaning, unready_status, unready_message}
 use Rattle.sp_driver.specs.Shown.{run_lines}
 
 -- a status, the bytes on the output, and those on the output for messages
@@ -44,12 +44,12 @@ abbrev pub run_answer : UnitMeaning → RunOptions → List ℕ → Answer
 run_answer meaning o input = if nat_lt o.most (length input) then long_answer meaning o input else ended_answer meaning o input
 
 -- The answer where no unit runs: the refusal of the list that the words name; or that no unit, or more than one, is the one that runs; or
--- the refusal of what can't be run yet.
+-- the refusal of what can't be run yet. (Want of memory has another status, and is no answer.)
 abbrev pub IsRefusal : (List ℕ → Option (List ℕ)) → Words → Answer → Type 0
 IsRefusal files w answer =
     ((refusal : Refusal) × IsLoadRefused (Some files) w.files (directories_of w.directories) refusal × (answer ≡ tells 3 (refusal_text refusal)))
     ⊎ ((fs : List ModuleFile) × (t : Typed) × (unready : Unready)
-    × IsListed (Some files) w fs t × IsUnready w.unit (sources_of fs) (trees_of fs) t unready × (answer ≡ tells 3 (unready_message unready)))
+    × IsListed (Some files) w fs t × IsUnready w.unit (sources_of fs) (trees_of fs) t unready × (unready_status unready ≡ 3) × (answer ≡ tells 3 (unready_message unready)))
 
 -- the answer of the unit that runs
 abbrev pub IsRun : (List ℕ → Option (List ℕ)) → List ℕ → Words → Answer → Type 0

@@ -3,28 +3,20 @@ ghost use Rattle.std.specs.Prelude.{◌≡◌, Some, None, IfOk, IfErr, OnOk, op
 ghost use Rattle.sp_choose.specs.Choices.{chosen};
 ghost use Rattle.sp_fit_list.specs.Passes.{ListPasses};
 ghost use Rattle.sp_load.specs.Loads.{refusal_of};
-ghost use Rattle.sp_driver.specs.Lists.{unbuilt_in, at_the_beginning, IsUnready};
-ghost use Rattle.sp_driver.specs.inside.Ready.{IsNotChosen, IsRefusalOrNoMemory, IsHindered, RunsWhatIsChosen, IsReady};
+ghost use Rattle.sp_driver.specs.Lists.{unbuilt_in, IsUnready};
+ghost use Rattle.sp_driver.specs.inside.Ready.{IsNotChosen, IsRefusalOrNoMemory, IsHindered, PassesWhereBuilt, RunsWhatIsChosen, IsReady};
 
 use crate::exits::Unready;
 use crate::texts::ListTexts;
-use sp_base::{Diag, MKind, NoMemory, Span};
+use sp_base::{Diag, NoMemory};
 use sp_choose::chosen;
 use sp_code::Program;
-use sp_fit_list::list_fits;
 use sp_list_runs::compiled_lists_run;
 use sp_load::{Loaded, Source, refusal_of};
 use sp_lower::lower;
 use sp_typed_units::{Typed, Unit};
 use sp_unbuilt::unbuilt;
 use std::alloc::Global;
-
-/// The beginning of the first file.
-const AT_THE_BEGINNING: Diag = Diag {
-    module: 0,
-    span: Span { from: 0, to: 0 },
-    kind: MKind::OutOfProfile,
-};
 
 /// The program of a list, and the number of the unit in it that runs.
 #[derive(Drop)]
@@ -55,8 +47,9 @@ fn refused(alloc: Global, sources: &[Source], diag: Diag) -> Unready
 }
 
 /// Whether all of a list can be run, or why not.
-#[tactic(auto, using(crate::proofs::Readying::hindered_there, crate::proofs::Readying::hindered_at_first))]
+#[tactic(auto, using(crate::proofs::Readying::hindered_there))]
 fn can_run(alloc: Global, list: &Loaded) -> Result<(), Unready>
+    requires { PassesWhereBuilt list.now.modules.items list.now.typed }
     ensures built { OnOk result (unbuilt_in list.now.sources.items list.now.modules.items
         list.now.typed ≡ None) }
     ensures passes { OnOk result (ListPasses list.now.typed) }
@@ -66,13 +59,9 @@ fn can_run(alloc: Global, list: &Loaded) -> Result<(), Unready>
     let texts = ListTexts {
         sources: list.sources.as_slice(),
     };
-    if let Some(diag) = unbuilt(&texts, &list.modules, &list.typed) {
-        return Err(refused(alloc, &list.sources, diag));
-    }
-    match list_fits(alloc, &list.typed) {
-        Ok(true) => Ok(()),
-        Ok(false) => Err(refused(alloc, &list.sources, AT_THE_BEGINNING)),
-        Err(_) => Err(Unready::NoMemory),
+    match unbuilt(&texts, &list.modules, &list.typed) {
+        Some(diag) => Err(refused(alloc, &list.sources, diag)),
+        None => Ok(()),
     }
 }
 
@@ -88,6 +77,7 @@ fn program_of(alloc: Global, list: &Typed) -> Result<Program, NoMemory>
 
 /// Compiles a list, and chooses the unit that runs: that of a name, or the only one.
 pub fn compile(alloc: Global, name: Option<&str>, list: &Loaded) -> Result<Compiled, Unready>
+    requires { PassesWhereBuilt list.now.modules.items list.now.typed }
     ensures ok { IfOk result (IsReady (option_map (λ x. x.now) name.entry) list.now.sources.items
         list.now.modules.items list.now.typed) }
     ensures err { IfErr result (IsUnready (option_map (λ x. x.now) name.entry) list.now.sources.items

@@ -6,6 +6,7 @@ ghost use Rattle.sp_driver.specs.Causes.{IsCausedBy};
 ghost use Rattle.sp_driver.specs.Whole.{IsAnswered};
 ghost use Rattle.sp_driver.specs.Options.{options_of};
 ghost use Rattle.sp_driver.specs.inside.Listed.{IsRunOf, IsRunCause};
+ghost use Rattle.sp_driver.specs.inside.Ready.{PassesWhereBuilt};
 ghost use Rattle.sp_driver.specs.Driver.{Says, ExitCause, Reported, Ended, status_of, unread_status, unready_status, run_status, message_of, unread_message, unready_message, run_message};
 
 use crate::compile::compile;
@@ -48,6 +49,7 @@ fn run_list<S: Source, O: Out>(
     out: &mut O,
 ) -> Exit
     requires range { AreInRange wanted.now }
+    requires passing { PassesWhereBuilt list.now.modules.items list.now.typed }
     requires input_faults { S.faults input.old < 2 ^ 64 - 1 }
     requires out_faults { O.faults out.old < 2 ^ 64 - 1 }
     ensures says { IsRunOf (wanted_words wanted.now) list.now.sources.items list.now.modules.items

@@ -4,6 +4,7 @@
 mod compile;
 mod driver;
 mod exits;
+mod laws;
 mod loading;
 mod options;
 mod pieces;
@@ -11,3 +12,4 @@ mod run;
 mod texts;
 
 pub use driver::spicy_driver;
+pub use laws::answer_is_one;

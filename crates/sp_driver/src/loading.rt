@@ -6,11 +6,13 @@ ghost use Rattle.sp_front.specs.declared.entries.ModuleFile.{ModuleFile as File}
 ghost use Rattle.sp_front.specs.inside.Follow.{IsRefusedBy};
 ghost use Rattle.sp_load.specs.Loads.{IsLoaded, IsLoadRefused, sources_of, trees_of};
 ghost use Rattle.sp_scope.specs.Rules.{IsTyped};
+ghost use Rattle.sp_driver.specs.inside.Ready.{PassesWhereBuilt};
 
 use sp_base::Text;
 use sp_command::directories_of;
 use sp_io::Modules;
 use sp_load::{Loaded, load};
+use sp_loaded_lists::loaded_lists_pass;
 use sp_read_file::Unread;
 use std::alloc::Global;
 
@@ -26,11 +28,13 @@ pub fn load_list<M: Modules>(
         × IsLoaded (M.files modules.old) files.now (directories_of directories.now) fs
         × (l.sources.items ≡ sources_of fs) × (l.modules.items ≡ trees_of fs)) }
     ensures typed { IfOk result (λ l. IsTyped l.modules.items l.typed) }
+    ensures passing { IfOk result (λ l. PassesWhereBuilt l.modules.items l.typed) }
     ensures refused { IfErr result (IsRefusedBy (IsLoadRefused (M.files modules.old) files.now
         (directories_of directories.now))) }
     ensures cause { MatchResult result (λ _. M.faults modules.new ≡ M.faults modules.old)
         (UnreadCause (M.faults modules.old) (M.faults modules.new)) }
 {
+    loaded_lists_pass();
     let directories = directories_of(alloc, directories)?;
     load(alloc, modules, files, &directories)
 }

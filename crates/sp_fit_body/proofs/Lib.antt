@@ -1,3 +1,3 @@
-pub mod OfKinds
-pub mod Straight
+mod OfKinds
+mod Straight
 pub mod Sound

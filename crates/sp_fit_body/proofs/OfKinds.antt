@@ -1,5 +1,5 @@
 -- What tests of types say of kinds.
-use Rattle.std.proofs.Common.{◌≡◌, ◌≢◌, ℕ, true, false, List, [], ◌∷◌, length, Some, refl, sym, ap}
+use Rattle.std.proofs.Common.{◌≡◌, ℕ, true, false, List, Some, sym, ap}
 use Rattle.std.proofs.lemmas.Bool.{and_parts}
 use Rattle.sp_words.specs.declared.operators.BinaryOp.TheVariants as op_is
 use Rattle.sp_words.specs.declared.operators.AssignOp.{AssignOp}
@@ -7,27 +7,19 @@ use Rattle.sp_words.specs.declared.operators.AssignOp.TheVariants as assign_is
 use Rattle.sp_methods.specs.Kinds.{Kind, Bools, Bytes, Void, SetOf, MapOf, TupleOf}
 use Rattle.sp_types.specs.declared.words.Word.TheVariants as word_is
 use Rattle.sp_types.specs.declared.words.Maker.TheVariants as maker_is
-use Rattle.sp_types.specs.Types.{Ty, Tys, tys, word, made}
+use Rattle.sp_types.specs.Types.{Ty, Tys, word, made}
 use Rattle.sp_types.specs.Types as types
 use Rattle.sp_running.specs.Types.{kind_of_type, kinds_of_types, first_of, behind_first}
 use Rattle.sp_code.specs.Kinds.{kind_of_two, IsGoneOver, over_vector, over_set, over_bytes, over_map}
 use Rattle.sp_code.specs.Shapes.{IsResult, IsKeyOf}
 use Rattle.sp_code_bodies.specs.Fits.{IsAssigned}
-use Rattle.sp_fit_expr.specs.declared.sorts.Sort.TheVariants as sort_is
+use Rattle.sp_fit_expr.specs.Sorts as sort_is
 use Rattle.sp_fit_expr.specs.Lists.{part_is}
 use Rattle.sp_fit_expr.proofs.OfSorts.{of_sort, operator_gives}
 use Rattle.sp_fit_expr.proofs.OfTypes.{same_kind, first_kind, second_kind}
-use Rattle.sp_fit_body.specs.declared.bodies.Returns.{Returns}
-use Rattle.sp_fit_body.specs.declared.bodies.Returns.TheVariants as returns
-use Rattle.sp_fit_body.specs.Bodies.{round_in}
+use Rattle.sp_fit_body.specs.Bodies.{Returns, round_in}
+use Rattle.sp_fit_body.specs.Bodies as returns
 use Rattle.sp_fit_body.specs.Test.{are_two, is_pair, goes_over, set_of, keyed_by, equals, assigns, returns_nothing, returns_value}
-
--- another number of members is no pair
-pub not_two : (ts : Tys) (us : List Ty) → length us ≢ 2 → are_two ts (tys us) ≡ false
-not_two ts [] n = refl
-not_two ts (j ∷ []) n = refl
-not_two ts (j ∷ k ∷ []) n = absurd (n refl)
-not_two ts (j ∷ k ∷ l ∷ us) n = refl
 
 module _ (ranges : List ℕ) where
   abbrev kind : Ty → Kind
@@ -86,9 +78,9 @@ module _ (ranges : List ℕ) where
 
   -- what a body returns
   pub nothing_kind : (r : Returns) → returns_nothing r ≡ true → IsResult (round_in ranges r) Void
-  nothing_kind (returns.Function t) h = sym (of_sort ranges t.now sort_is.Void h)
+  nothing_kind (returns.Function t) h = sym (of_sort ranges t sort_is.Void h)
   nothing_kind (returns.Hook each) h = tt
 
   pub value_kind : (r : Returns) (u : Ty) → returns_value r u ≡ true → IsResult (round_in ranges r) (kind u)
-  value_kind (returns.Function t) u h = sym (same_kind ranges t.now u h)
+  value_kind (returns.Function t) u h = sym (same_kind ranges t u h)
   value_kind (returns.Hook each) u h = tt

@@ -16,12 +16,11 @@ use Rattle.sp_bodies_end.specs.Built.{StmtsAreBuilt, BranchesAreBuilt, CasesAreB
 use Rattle.sp_emit_stmt.specs.Literals.{StmtsLiteralsFit, BranchesLiteralsFit, CasesLiteralsFit}
 use Rattle.sp_program_laid.specs.Arguments.{StmtsArgumentsMatch, BranchesArgumentsMatch, CasesArgumentsMatch}
 use Rattle.sp_program_laid.specs.Places.{StmtsChangePlaces, BranchesChangePlaces, CasesChangePlaces}
-use Rattle.sp_fit_expr.specs.Around.{globals_in, layout_in, locals_in}
+use Rattle.sp_fit_expr.specs.Around.{globals_in, locals_in}
 use Rattle.sp_fit_expr.specs.Passes.{Tables}
 use Rattle.sp_fit_expr.specs.Test.{expr_passes, place_passes}
 use Rattle.sp_fit_expr.proofs.Sound.{expr_sound, exprs_sound, place_sound}
-use Rattle.sp_fit_body.specs.declared.bodies.Body.{Body}
-use Rattle.sp_fit_body.specs.Bodies.{round_in}
+use Rattle.sp_fit_body.specs.Bodies.{Body, round_in}
 use Rattle.sp_fit_body.specs.Passes.{StmtPasses}
 use Rattle.sp_fit_body.specs.Test.{goes_over, assigns, slot_is, test_passes, values_pass, stmt_passes, stmts_pass, branches_pass, cases_pass}
 use Rattle.sp_fit_body.proofs.OfKinds.{over_kinds, assigned_kinds}
@@ -29,13 +28,13 @@ use Rattle.sp_fit_body.proofs.Straight.{slot_kind, test_sound, values_sound, bar
 
 module _ (body : Body) where
   abbrev list : Typed
-  list = body.around.list.now
+  list = body.around.list
 
   abbrev globals : Globals
   globals = globals_in body.around
 
   abbrev layout : Layout
-  layout = layout_in body.around
+  layout = body.around.places
 
   abbrev round : Round
   round = round_in globals.ranges body.returns

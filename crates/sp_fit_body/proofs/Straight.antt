@@ -27,16 +27,14 @@ use Rattle.sp_emit_stmt.specs.Literals.{ValuedLiteralsFit}
 use Rattle.sp_program_laid.specs.Arguments.{ArgumentsMatch, AllArgumentsMatch}
 use Rattle.sp_program_laid.specs.Places.{ChangesPlaces, AllChangePlaces, HasTarget}
 use Rattle.sp_program_laid.proofs.Zeros.{zero_has}
-use Rattle.sp_fit_expr.specs.declared.around.Around.{Around}
-use Rattle.sp_fit_expr.specs.declared.sorts.Sort.TheVariants as sort_is
-use Rattle.sp_fit_expr.specs.Around.{globals_in, layout_in, locals_in}
+use Rattle.sp_fit_expr.specs.Around.{Around, globals_in, locals_in}
+use Rattle.sp_fit_expr.specs.Sorts as sort_is
 use Rattle.sp_fit_expr.specs.Passes.{Tables, ExprPasses}
 use Rattle.sp_fit_expr.specs.Test.{is_sort, expr_passes, place_passes}
 use Rattle.sp_fit_expr.proofs.OfSorts.{of_sort}
 use Rattle.sp_fit_expr.proofs.OfTypes.{local_kind}
 use Rattle.sp_fit_expr.proofs.Sound.{expr_sound, place_sound}
-use Rattle.sp_fit_body.specs.declared.bodies.Body.{Body}
-use Rattle.sp_fit_body.specs.Bodies.{round_in}
+use Rattle.sp_fit_body.specs.Bodies.{Body, round_in}
 use Rattle.sp_fit_body.specs.Test.{is_index, slot_is, set_of, keyed_by, equals, returns_value, test_passes, key_passes, values_pass, bare_passes, valued_passes}
 use Rattle.sp_fit_body.proofs.OfKinds.{set_kinds, keyed_kinds, equal_kinds, nothing_kind, value_kind}
 
@@ -46,17 +44,17 @@ index_is _ h = absurd (let z : false ≡ true = h in cc)
 
 module _ (around : Around) where
   abbrev list : Typed
-  list = around.list.now
+  list = around.list
 
   abbrev kind : Ty → Kind
   kind t = kind_of_type (globals_in around).ranges t
 
   abbrev pub IsGood : Expr → Type 0
-  IsGood e = ExprPasses list (layout_in around) (locals_in around) around.unit e
+  IsGood e = ExprPasses list around.places (locals_in around) around.unit e
 
   -- a slot of a type is a local of its kind
-  pub slot_kind : (s : ℕ) (t : Ty) → slot_is around s t ≡ true → slice_get (locals_in around) ((layout_in around).first + s) ≡ Some (kind t)
-  slot_kind s t h = local_kind (globals_in around).ranges around.locals.now (around.places.first + s) t h
+  pub slot_kind : (s : ℕ) (t : Ty) → slot_is around s t ≡ true → slice_get (locals_in around) (around.places.first + s) ≡ Some (kind t)
+  slot_kind s t h = local_kind (globals_in around).ranges around.locals (around.places.first + s) t h
 
   -- an expression, and what is tested beside it
   pub expr_and : (e : Expr) (b : Bool) → (expr_passes around e && b) ≡ true → IsGood e × (b ≡ true)
@@ -65,23 +63,20 @@ module _ (around : Around) where
       (expr_sound around e q.0, q.1)
 
   -- a test
-  pub test_sound : (e : Expr) → test_passes around e ≡ true → IsGood e × (kind_of (globals_in around) (layout_in around) e ≡ Bools)
+  pub test_sound : (e : Expr) → test_passes around e ≡ true → IsGood e × (kind_of (globals_in around) around.places e ≡ Bools)
   test_sound e h =
       let q = expr_and e (is_sort (type_of e) sort_is.Bools) h in
       (q.0, of_sort (globals_in around).ranges (type_of e) sort_is.Bools q.1)
 
 module _ (body : Body) where
-  abbrev around_of : Around
-  around_of = body.around
-
   abbrev its_list : Typed
-  its_list = body.around.list.now
+  its_list = body.around.list
 
   abbrev globals : Globals
   globals = globals_in body.around
 
   abbrev layout : Layout
-  layout = layout_in body.around
+  layout = body.around.places
 
   abbrev round : Round
   round = round_in globals.ranges body.returns

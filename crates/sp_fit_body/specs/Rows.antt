@@ -5,7 +5,7 @@ use Rattle.sp_words.specs.declared.operators.AssignOp.TheVariants as assign_is
 use Rattle.sp_types.specs.declared.words.Word.TheVariants as word_is
 use Rattle.sp_types.specs.declared.words.Maker.TheVariants as maker_is
 use Rattle.sp_types.specs.Types.{Ty, word, made, none, more}
-use Rattle.sp_fit_body.specs.declared.bodies.Returns.TheVariants as returns
+use Rattle.sp_fit_body.specs.Bodies as returns
 use Rattle.sp_fit_body.specs.Test.{goes_over, set_of, keyed_by, equals, assigns, returns_nothing}
 
 abbrev byte : Ty

@@ -16,15 +16,12 @@ use Rattle.sp_typed.specs.declared.stmt_words.ValuedOp.TheVariants as valued_is
 use Rattle.sp_typed.specs.Exprs.{Expr, Exprs, two, none, more, type_of}
 use Rattle.sp_typed.specs.Stmts.{Stmt, Stmts, Branches, Cases, bare, valued, assign, print, block, branch, while_loop, for_loop, switch, no_stmts, more_stmts, no_branches, more_branches, no_cases, more_cases}
 use Rattle.sp_bodies.specs.Exprs.{slot_local}
-use Rattle.sp_fit_expr.specs.declared.around.Around.{Around}
-use Rattle.sp_fit_expr.specs.declared.sorts.Sort.TheVariants.{Void, Bools, Unsigned, Text}
-use Rattle.sp_fit_expr.specs.Around.{layout_in}
-use Rattle.sp_fit_expr.specs.Sorts.{sort_of, takes}
+use Rattle.sp_fit_expr.specs.Around.{Around}
+use Rattle.sp_fit_expr.specs.Sorts.{Void, Bools, Unsigned, Text, sort_of, takes}
 use Rattle.sp_fit_expr.specs.Lists.{part_is}
 use Rattle.sp_fit_expr.specs.Test.{is_sort, local_is, expr_passes, exprs_pass, place_passes}
-use Rattle.sp_fit_body.specs.declared.bodies.Returns.{Returns}
-use Rattle.sp_fit_body.specs.declared.bodies.Returns.TheVariants as returns
-use Rattle.sp_fit_body.specs.declared.bodies.Body.{Body}
+use Rattle.sp_fit_body.specs.Bodies.{Returns, Body}
+use Rattle.sp_fit_body.specs.Bodies as returns
 
 -- the members of a tuple are the first two of these parts
 abbrev pub are_two : Tys → Tys → Bool
@@ -71,11 +68,11 @@ assigns assign_is.Subtract t u = takes op_is.Subtract (sort_of t) (sort_of u) (s
 
 -- a body returns nothing, or a value of a type; what that of a hook returns is dropped
 abbrev pub returns_nothing : Returns → Bool
-returns_nothing (returns.Function t) = is_sort t.now Void
+returns_nothing (returns.Function t) = is_sort t Void
 returns_nothing (returns.Hook each) = true
 
 abbrev pub returns_value : Returns → Ty → Bool
-returns_value (returns.Function t) u = same t.now u
+returns_value (returns.Function t) u = same t u
 returns_value (returns.Hook each) u = true
 
 abbrev pub is_index : TwoOp → Bool
@@ -117,8 +114,8 @@ module _ (body : Body) where
   valued_passes valued_is.Return e = expr_passes body.around e && returns_value body.returns (type_of e)
   valued_passes valued_is.Throw e = expr_passes body.around e && is_sort (type_of e) Text
   valued_passes (valued_is.Assert text) e = test_passes body.around e
-  valued_passes (valued_is.Add owner) e = key_passes body.around true (slot_local (layout_in body.around) owner) e
-  valued_passes (valued_is.Delete owner) e = key_passes body.around false (slot_local (layout_in body.around) owner) e
+  valued_passes (valued_is.Add owner) e = key_passes body.around true (slot_local body.around.places owner) e
+  valued_passes (valued_is.Delete owner) e = key_passes body.around false (slot_local body.around.places owner) e
   valued_passes valued_is.Expr e = expr_passes body.around e
 
   abbrev mutual
@@ -127,7 +124,7 @@ module _ (body : Body) where
     stmt_passes in_loop (bare h) = bare_passes in_loop h.op
     stmt_passes in_loop (valued h e) = valued_passes h.op e
     stmt_passes in_loop (assign h target e) =
-        place_passes body.around (slot_local (layout_in body.around) h.owner) target && expr_passes body.around e && assigns h.op (type_of target) (type_of e)
+        place_passes body.around (slot_local body.around.places h.owner) target && expr_passes body.around e && assigns h.op (type_of target) (type_of e)
     stmt_passes in_loop (print at es) = exprs_pass body.around es
     stmt_passes in_loop (block ss) = stmts_pass in_loop ss
     stmt_passes in_loop (branch bs b) = branches_pass in_loop bs && stmt_passes in_loop b

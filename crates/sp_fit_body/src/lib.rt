@@ -1,10 +1,6 @@
-//! Whether the statements of a typed list fit: a test of one walk, before they are compiled.
+//! Which statements of a typed list fit.
 #![tactic(auto)]
 
-mod bodies;
-mod nodes;
-mod plain;
-mod types;
+mod laws;
 
-pub use bodies::{Body, Returns};
-pub use nodes::stmt;
+pub use laws::passing_statements_fit;

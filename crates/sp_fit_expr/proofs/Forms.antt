@@ -33,11 +33,9 @@ use Rattle.sp_program.specs.Routines.{parameter_kinds}
 use Rattle.sp_code_means.specs.Parts.{OneFits, BinaryFits, TwoFits, ManyFits, ChangeFits}
 use Rattle.sp_program_laid.specs.Arguments.{CallMatches}
 use Rattle.sp_bodies_end.specs.Built.{IsThere}
-use Rattle.sp_fit_expr.specs.declared.around.Around.{Around}
-use Rattle.sp_fit_expr.specs.declared.sorts.Sort.{Sort}
-use Rattle.sp_fit_expr.specs.declared.sorts.Sort.TheVariants as sort_is
-use Rattle.sp_fit_expr.specs.Around.{globals_in, layout_in}
-use Rattle.sp_fit_expr.specs.Sorts.{sort_of, takes, is_sized, is_integer, casts}
+use Rattle.sp_fit_expr.specs.Around.{Around, globals_in}
+use Rattle.sp_fit_expr.specs.Sorts.{Sort, sort_of, takes, is_sized, is_integer, casts}
+use Rattle.sp_fit_expr.specs.Sorts as sort_is
 use Rattle.sp_fit_expr.specs.Lists.{part_is, are_two, arguments_are, sorts_are}
 use Rattle.sp_fit_expr.specs.Passes.{Tables}
 use Rattle.sp_fit_expr.specs.Test.{is_sort, is_enum, item_is, tuple_has, vector_of, map_of, tuple_of, vector_with, set_with, map_with, pair_of_bytes, call_is, converts, offset_is, wanted, gives, element_is, value_is, value_or_is, method_is, change_is, two_is_of, one_is_of, many_is_of, has_range}
@@ -111,7 +109,7 @@ module _ (ranges : List ℕ) where
   pair_kind (word w) h = absurd (let z : false ≡ true = h in cc)
 
 -- what is made of one part
-module _ (around : Around) (p : Plain) (shapes : Shapes) (tables : Tables around.list.now p shapes) where
+module _ (around : Around) (p : Plain) (shapes : Shapes) (tables : Tables around.list p shapes) where
   abbrev here : Ty → Kind
   here t = kind_of_type (globals_in around).ranges t
 
@@ -150,7 +148,7 @@ module _ (around : Around) (p : Plain) (shapes : Shapes) (tables : Tables around
 -- what is made of any number of parts
 module _ (around : Around) where
   abbrev on : Exprs → List Kind → List Kind
-  on es ks = kinds_on (globals_in around) (layout_in around) es ks
+  on es ks = kinds_on (globals_in around) around.places es ks
 
   abbrev there : Ty → Kind
   there t = kind_of_type (globals_in around).ranges t
@@ -324,21 +322,21 @@ module _ (around : Around) where
       let listed = kinds_listed (globals_in around).ranges es in
       ap TupleOf
       (members_kinds (globals_in around).ranges ts es h
-      ∙ ap kinds_of (sym (ap (λ (ks : List Kind). reverse ks) (all_turned (globals_in around) (layout_in around) es) ∙ reverse-reverse listed)))
+      ∙ ap kinds_of (sym (ap (λ (ks : List Kind). reverse ks) (all_turned (globals_in around) around.places es) ∙ reverse-reverse listed)))
   tuple_made p shapes es (made maker_is.Vector ts) h = absurd (let z : false ≡ true = h in cc)
   tuple_made p shapes es (made maker_is.Set ts) h = absurd (let z : false ≡ true = h in cc)
   tuple_made p shapes es (made maker_is.Map ts) h = absurd (let z : false ≡ true = h in cc)
   tuple_made p shapes es (word w) h = absurd (let z : false ≡ true = h in cc)
 
   vector_made : (p : Plain) (shapes : Shapes) (es : Exprs) (t : Ty) → vector_with t es ≡ true → ManyFits p shapes many_is.Vector (count es) (on es []) (there t)
-  vector_made p shapes es (made maker_is.Vector ts) h = (_, all_repeated (globals_in around) (layout_in around) ts es h, refl)
+  vector_made p shapes es (made maker_is.Vector ts) h = (_, all_repeated (globals_in around) around.places ts es h, refl)
   vector_made p shapes es (made maker_is.Tuple ts) h = absurd (let z : false ≡ true = h in cc)
   vector_made p shapes es (made maker_is.Set ts) h = absurd (let z : false ≡ true = h in cc)
   vector_made p shapes es (made maker_is.Map ts) h = absurd (let z : false ≡ true = h in cc)
   vector_made p shapes es (word w) h = absurd (let z : false ≡ true = h in cc)
 
   set_made : (p : Plain) (shapes : Shapes) (es : Exprs) (t : Ty) → set_with t es ≡ true → ManyFits p shapes many_is.Set (count es) (on es []) (there t)
-  set_made p shapes es (made maker_is.Set ts) h = (_, all_repeated (globals_in around) (layout_in around) ts es h, refl)
+  set_made p shapes es (made maker_is.Set ts) h = (_, all_repeated (globals_in around) around.places ts es h, refl)
   set_made p shapes es (made maker_is.Tuple ts) h = absurd (let z : false ≡ true = h in cc)
   set_made p shapes es (made maker_is.Vector ts) h = absurd (let z : false ≡ true = h in cc)
   set_made p shapes es (made maker_is.Map ts) h = absurd (let z : false ≡ true = h in cc)
@@ -346,7 +344,7 @@ module _ (around : Around) where
 
   map_made : (p : Plain) (shapes : Shapes) (es : Exprs) (t : Ty) → map_with t es ≡ true → ManyFits p shapes many_is.Map (count es) (on es []) (there t)
   map_made p shapes es (made maker_is.Map ts) h =
-      let in_order = turns (globals_in around) (layout_in around) ts es h in
+      let in_order = turns (globals_in around) around.places ts es h in
       (in_order.0, _, _, in_order.1, in_order.2, refl)
   map_made p shapes es (made maker_is.Tuple ts) h = absurd (let z : false ≡ true = h in cc)
   map_made p shapes es (made maker_is.Vector ts) h = absurd (let z : false ≡ true = h in cc)
@@ -374,36 +372,36 @@ module _ (around : Around) where
   offset_made p shapes at (more e (more d es)) t h = absurd (let z : false ≡ true = h in cc)
 
   -- a call that names a function of the list
-  call_there : (f : ℕ) (es : Exprs) (t : Ty) (o : Option Function) → slice_get around.list.now.functions f ≡ o → call_is o es t ≡ true →
-      (x : Function) × (slice_get around.list.now.functions f ≡ Some x) × (arguments_are x.parameters es ≡ true) × (same x.result t ≡ true)
+  call_there : (f : ℕ) (es : Exprs) (t : Ty) (o : Option Function) → slice_get around.list.functions f ≡ o → call_is o es t ≡ true →
+      (x : Function) × (slice_get around.list.functions f ≡ Some x) × (arguments_are x.parameters es ≡ true) × (same x.result t ≡ true)
   call_there f es t (Some x) is h =
       let b = and_parts (arguments_are x.parameters es) (same x.result t) h in
       (x, is, b.0, b.1)
   call_there f es t None is h = absurd (let z : false ≡ true = h in cc)
 
-  pub function_there : (f : ℕ) (es : Exprs) (t : Ty) → call_is (slice_get around.list.now.functions f) es t ≡ true → IsThere (slice_get around.list.now.functions f)
+  pub function_there : (f : ℕ) (es : Exprs) (t : Ty) → call_is (slice_get around.list.functions f) es t ≡ true → IsThere (slice_get around.list.functions f)
   function_there f es t h =
-      let x = call_there f es t (slice_get around.list.now.functions f) refl h in
+      let x = call_there f es t (slice_get around.list.functions f) refl h in
       rw x.1 tt
 
   -- with as many arguments as it has parameters
-  pub call_matches : (o : ManyOp) (es : Exprs) (t : Ty) → many_is_of around o es t ≡ true → CallMatches around.list.now.functions o (count es)
+  pub call_matches : (o : ManyOp) (es : Exprs) (t : Ty) → many_is_of around o es t ≡ true → CallMatches around.list.functions o (count es)
   call_matches (many_is.Call f) es t h =
-      let x = call_there f es t (slice_get around.list.now.functions f) refl h in
+      let x = call_there f es t (slice_get around.list.functions f) refl h in
       (x.0, x.1, arguments_counted (globals_in around).ranges x.0.parameters es x.2)
   call_matches _ es t h = tt
 
-  call_made : (p : Plain) (shapes : Shapes) (tables : Tables around.list.now p shapes) (f : ℕ) (es : Exprs) (t : Ty) → call_is (slice_get around.list.now.functions f) es t ≡ true → ManyFits p shapes (many_is.Call f) (count es) (on es []) (there t)
+  call_made : (p : Plain) (shapes : Shapes) (tables : Tables around.list p shapes) (f : ℕ) (es : Exprs) (t : Ty) → call_is (slice_get around.list.functions f) es t ≡ true → ManyFits p shapes (many_is.Call f) (count es) (on es []) (there t)
   call_made p shapes tables f es t h =
-      let x = call_there f es t (slice_get around.list.now.functions f) refl h in
+      let x = call_there f es t (slice_get around.list.functions f) refl h in
       let given : reverse (parameter_kinds (globals_in around).ranges x.0.parameters) ≡ on es [] =
-      ap (λ (ks : List Kind). reverse ks) (arguments_kinds (globals_in around).ranges x.0.parameters es x.2) ∙ sym (all_turned (globals_in around) (layout_in around) es) in
+      ap (λ (ks : List Kind). reverse ks) (arguments_kinds (globals_in around).ranges x.0.parameters es x.2) ∙ sym (all_turned (globals_in around) around.places es) in
       subst
       (λ (k : Kind). Enters p shapes f None called_is.Called.Function (OfFunction k) (on es []))
       (same_kind (globals_in around).ranges x.0.result t x.3)
       (subst (λ (js : List Kind). Enters p shapes f None called_is.Called.Function (OfFunction (there x.0.result)) js) given (tables.functions f x.0 x.1))
 
-  pub many_fits : (p : Plain) (shapes : Shapes) (tables : Tables around.list.now p shapes) (o : ManyOp) (es : Exprs) (t : Ty) → many_is_of around o es t ≡ true → ManyFits p shapes o (count es) (on es []) (there t)
+  pub many_fits : (p : Plain) (shapes : Shapes) (tables : Tables around.list p shapes) (o : ManyOp) (es : Exprs) (t : Ty) → many_is_of around o es t ≡ true → ManyFits p shapes o (count es) (on es []) (there t)
   many_fits p shapes tables many_is.Tuple es t h = tuple_made p shapes es t h
   many_fits p shapes tables many_is.Vector es t h = vector_made p shapes es t h
   many_fits p shapes tables many_is.Set es t h = set_made p shapes es t h

@@ -26,9 +26,8 @@ use Rattle.sp_program_laid.proofs.Zeros.{zero_has}
 use Rattle.sp_code_means.specs.Parts.{OneOf, LeafFits}
 use Rattle.sp_bodies_end.specs.Built.{LeafIsBuilt}
 use Rattle.sp_emit_expr.specs.Literals as literals
-use Rattle.sp_fit_expr.specs.declared.around.Around.{Around}
-use Rattle.sp_fit_expr.specs.declared.sorts.Sort.TheVariants as sort_is
-use Rattle.sp_fit_expr.specs.Around.{globals_in, layout_in, locals_in}
+use Rattle.sp_fit_expr.specs.Around.{Around, globals_in, locals_in}
+use Rattle.sp_fit_expr.specs.Sorts as sort_is
 use Rattle.sp_fit_expr.specs.Lists.{is_type}
 use Rattle.sp_fit_expr.specs.Passes.{Tables}
 use Rattle.sp_fit_expr.specs.Test.{number_is, is_enum, is_unit, has_value, constant_is_of, member_type, parameter_type, member_is, parameter_is, unit_parameter, leaf_is_of, has_member, has_range}
@@ -99,13 +98,13 @@ module _ (around : Around) where
   kind t = kind_of_type (globals_in around).ranges t
 
   -- a constant has its value
-  constant_valued : (c : ℕ) (t : Ty) → constant_is_of (slice_get around.list.now.constants c) t ≡ true → (v : Val) × (slice_get (globals_in around).constants c ≡ Some (Some v))
+  constant_valued : (c : ℕ) (t : Ty) → constant_is_of (slice_get around.list.constants c) t ≡ true → (v : Val) × (slice_get (globals_in around).constants c ≡ Some (Some v))
   constant_valued c t h =
-      let there = constant_there around.list.now c t (slice_get around.list.now.constants c) refl h in
-      (there.1, value_listed around.list.now.constants c there.0 there.2 ∙ ap Some there.3)
+      let there = constant_there around.list c t (slice_get around.list.constants c) refl h in
+      (there.1, value_listed around.list.constants c there.0 there.2 ∙ ap Some there.3)
 
   -- a leaf is built
-  pub leaf_built : (op : LeafOp) (t : Ty) → leaf_is_of around op t ≡ true → LeafIsBuilt (globals_in around) around.list.now.functions op
+  pub leaf_built : (op : LeafOp) (t : Ty) → leaf_is_of around op t ≡ true → LeafIsBuilt (globals_in around) around.list.functions op
   leaf_built leaf_is.True t h = tt
   leaf_built leaf_is.False t h = tt
   leaf_built (leaf_is.Number n) t h = tt
@@ -127,18 +126,18 @@ module _ (around : Around) where
   leaf_literal (leaf_is.TypedNumber n) t h = number_fits t false n h
   leaf_literal _ t h = tt
 
-  module _ (p : Plain) (shapes : Shapes) (tables : Tables around.list.now p shapes) where
+  module _ (p : Plain) (shapes : Shapes) (tables : Tables around.list p shapes) where
     -- a member of a unit of the list
-    member_listed : (u m : ℕ) (t : Ty) (x : TypedUnit) (o : Option Member) → slice_get around.list.now.units u ≡ Some x → slice_get x.members m ≡ o → is_type (member_type o) t ≡ true → IsMember p shapes u m (kind t)
+    member_listed : (u m : ℕ) (t : Ty) (x : TypedUnit) (o : Option Member) → slice_get around.list.units u ≡ Some x → slice_get x.members m ≡ o → is_type (member_type o) t ≡ true → IsMember p shapes u m (kind t)
     member_listed u m t x (Some y) is at h = subst (IsMember p shapes u m) (same_kind (globals_in around).ranges y.ty t h) (tables.members u x is m y at)
     member_listed u m t x None is at h = absurd (let z : false ≡ true = h in cc)
 
-    member_of_unit : (u m : ℕ) (t : Ty) (o : Option TypedUnit) → slice_get around.list.now.units u ≡ o → member_is o m t ≡ true → IsMember p shapes u m (kind t)
+    member_of_unit : (u m : ℕ) (t : Ty) (o : Option TypedUnit) → slice_get around.list.units u ≡ o → member_is o m t ≡ true → IsMember p shapes u m (kind t)
     member_of_unit u m t (Some x) is h = member_listed u m t x (slice_get x.members m) is refl h
     member_of_unit u m t None is h = absurd (let z : false ≡ true = h in cc)
 
     pub member_fits : (a : Ty) (m : ℕ) (t : Ty) → has_member around a m t ≡ true → (u : ℕ) × (kind a ≡ UnitOf u) × IsMember p shapes u m (kind t)
-    member_fits (word (word_is.Unit u)) m t h = (u, refl, member_of_unit u m t (slice_get around.list.now.units u) refl h)
+    member_fits (word (word_is.Unit u)) m t h = (u, refl, member_of_unit u m t (slice_get around.list.units u) refl h)
     member_fits (word _) m t h = absurd (let z : false ≡ true = h in cc)
     member_fits (made w ts) m t h = absurd (let z : false ≡ true = h in cc)
 
@@ -146,30 +145,30 @@ module _ (around : Around) where
     abbrev IsParameterOf : ℕ → ℕ → Kind → Type 0
     IsParameterOf u n k = (t : UnitKinds) × (slice_get shapes.units u ≡ Some t) × (slice_get t.parameters n ≡ Some k)
 
-    parameter_listed : (u n : ℕ) (t : Ty) (x : TypedUnit) (o : Option Parameter) → slice_get around.list.now.units u ≡ Some x → slice_get x.parameters n ≡ o → is_type (parameter_type o) t ≡ true → IsParameterOf u n (kind t)
+    parameter_listed : (u n : ℕ) (t : Ty) (x : TypedUnit) (o : Option Parameter) → slice_get around.list.units u ≡ Some x → slice_get x.parameters n ≡ o → is_type (parameter_type o) t ≡ true → IsParameterOf u n (kind t)
     parameter_listed u n t x (Some y) is at h = subst (IsParameterOf u n) (same_kind (globals_in around).ranges y.ty t h) (tables.parameters u x is n y at)
     parameter_listed u n t x None is at h = absurd (let z : false ≡ true = h in cc)
 
-    parameter_of_unit : (u n : ℕ) (t : Ty) (o : Option TypedUnit) → slice_get around.list.now.units u ≡ o → parameter_is o n t ≡ true → IsParameterOf u n (kind t)
+    parameter_of_unit : (u n : ℕ) (t : Ty) (o : Option TypedUnit) → slice_get around.list.units u ≡ o → parameter_is o n t ≡ true → IsParameterOf u n (kind t)
     parameter_of_unit u n t (Some x) is h = parameter_listed u n t x (slice_get x.parameters n) is refl h
     parameter_of_unit u n t None is h = absurd (let z : false ≡ true = h in cc)
 
     parameter_fits : (o : Option ℕ) (n : ℕ) (t : Ty) → unit_parameter around o n t ≡ true → (u : ℕ) × (s : UnitKinds) × (o ≡ Some u) × (slice_get shapes.units u ≡ Some s) × (slice_get s.parameters n ≡ Some (kind t))
     parameter_fits (Some u) n t h =
-        let there = parameter_of_unit u n t (slice_get around.list.now.units u) refl h in
+        let there = parameter_of_unit u n t (slice_get around.list.units u) refl h in
         (u, there.0, refl, there.1, there.2)
     parameter_fits None n t h = absurd (let z : false ≡ true = h in cc)
 
-    constant_fits : (c : ℕ) (t : Ty) → constant_is_of (slice_get around.list.now.constants c) t ≡ true → (v : Val) × (slice_get (globals_in around).constants c ≡ Some (Some v)) × ((units : List ℕ) → Has units (kind t) v)
+    constant_fits : (c : ℕ) (t : Ty) → constant_is_of (slice_get around.list.constants c) t ≡ true → (v : Val) × (slice_get (globals_in around).constants c ≡ Some (Some v)) × ((units : List ℕ) → Has units (kind t) v)
     constant_fits c t h =
-        let there = constant_there around.list.now c t (slice_get around.list.now.constants c) refl h in (
+        let there = constant_there around.list c t (slice_get around.list.constants c) refl h in (
           there.1,
-          value_listed around.list.now.constants c there.0 there.2 ∙ ap Some there.3,
+          value_listed around.list.constants c there.0 there.2 ∙ ap Some there.3,
           λ units. subst (λ (k : Kind). Has units k there.1) (same_kind (globals_in around).ranges there.0.ty t there.4) (tables.constants c there.0 there.1 there.2 there.3 units),
         )
 
     -- a leaf fits
-    pub leaf_fits : (op : LeafOp) (t : Ty) → leaf_is_of around op t ≡ true → LeafFits p shapes (globals_in around) (layout_in around) (locals_in around) around.unit op t (kind t)
+    pub leaf_fits : (op : LeafOp) (t : Ty) → leaf_is_of around op t ≡ true → LeafFits p shapes (globals_in around) around.places (locals_in around) around.unit op t (kind t)
     leaf_fits leaf_is.True t h = λ units. rw (of_sort (globals_in around).ranges t sort_is.Bools h) (true, refl)
     leaf_fits leaf_is.False t h = λ units. rw (of_sort (globals_in around).ranges t sort_is.Bools h) (false, refl)
     leaf_fits (leaf_is.Number n) t h = λ units. number_has (globals_in around).ranges units t false n h
@@ -178,10 +177,10 @@ module _ (around : Around) where
     leaf_fits (leaf_is.Bytes b) t h = λ units. rw (of_sort (globals_in around).ranges t sort_is.Bytes h) (b, refl)
     leaf_fits (leaf_is.Empty w) t h = λ units. zero_has (globals_in around).ranges units t
     leaf_fits (leaf_is.Itself s) t h = unit_kind (globals_in around).ranges around.unit t h
-    leaf_fits (leaf_is.Current s) t h = local_kind (globals_in around).ranges around.locals.now around.places.current t h
-    leaf_fits (leaf_is.Local l) t h = local_kind (globals_in around).ranges around.locals.now (around.places.first + l) t h
+    leaf_fits (leaf_is.Current s) t h = local_kind (globals_in around).ranges around.locals around.places.current t h
+    leaf_fits (leaf_is.Local l) t h = local_kind (globals_in around).ranges around.locals (around.places.first + l) t h
     leaf_fits (leaf_is.Parameter n s) t h =
-        either (nat_lt n around.places.own) (local_kind (globals_in around).ranges around.locals.now n t) (parameter_fits around.unit (n - around.places.own) t) h
+        either (nat_lt n around.places.own) (local_kind (globals_in around).ranges around.locals n t) (parameter_fits around.unit (n - around.places.own) t) h
     leaf_fits (leaf_is.Constant c) t h =
         let there = constant_fits c t h in
         rw there.1 there.2

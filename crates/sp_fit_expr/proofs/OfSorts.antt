@@ -13,9 +13,8 @@ use Rattle.sp_types.specs.declared.words.Maker.TheVariants as maker_is
 use Rattle.sp_types.specs.Types.{Ty, word, made}
 use Rattle.sp_running.specs.Types.{plain_type, kind_of_type}
 use Rattle.sp_code.specs.Kinds.{widest, of_integers, of_unsigned, of_booleans, of_added, of_ordered, order_of, of_orders, of_held, kind_of_two, kind_of_cast, IsSized}
-use Rattle.sp_fit_expr.specs.declared.sorts.Sort.{Sort}
-use Rattle.sp_fit_expr.specs.declared.sorts.Sort.TheVariants as sort_is
-use Rattle.sp_fit_expr.specs.Sorts.{sort_of, sort_number, same_sort, has_order, booleans, integers, unsigned, added, ordered, compared, held, takes, is_sized, goes_to_unsigned, is_integer, casts}
+use Rattle.sp_fit_expr.specs.Sorts.{Sort, sort_of, sort_number, same_sort, has_order, booleans, integers, unsigned, added, ordered, compared, held, takes, is_sized, goes_to_unsigned, is_integer, casts}
+use Rattle.sp_fit_expr.specs.Sorts as sort_is
 
 -- a kind is one of a sort
 abbrev pub IsOf : Sort → Kind → Type 0

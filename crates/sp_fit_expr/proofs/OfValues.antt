@@ -1,7 +1,7 @@
 -- What the test of constants says of kinds.
 use Rattle.std.specs.Prelude.{◌&&◌, Some, None, slice_get}
 use Rattle.std.specs.List.{AllByRecursion}
-use Rattle.std.proofs.Common.{◌≡◌, ◌∙◌, ℕ, zero, suc, Bool, true, false, List, [], ◌∷◌, ◌++◌, refl, ap, subst}
+use Rattle.std.proofs.Common.{◌≡◌, ℕ, zero, suc, Bool, true, false, List, [], ◌∷◌, refl, ap, subst}
 use Rattle.std.proofs.lemmas.Bool.{and_parts}
 use Rattle.sp_value.specs.Val.{Val, Vals, Entries, bool, uint, int, bytes, str, enum, tuple, vector, set, map, no_vals, val, no_entries, entry, vals_of, list_of, entries_of, pairs_of}
 use Rattle.sp_methods.specs.Kinds.{Kind, Has, HasEach}
@@ -13,7 +13,7 @@ use Rattle.sp_typed_units.specs.declared.declarations.ConstantValue.{ConstantVal
 use Rattle.sp_typed_units.specs.declared.declarations.ConstantValue.TheVariants as constant_is
 use Rattle.sp_running.specs.Types.{kind_of_type, kinds_of_types, first_of, behind_first}
 use Rattle.sp_bodies.specs.Globals.{constant_value}
-use Rattle.sp_fit_expr.specs.declared.sorts.Sort.TheVariants as sort_is
+use Rattle.sp_fit_expr.specs.Sorts as sort_is
 use Rattle.sp_fit_expr.specs.Constants.{nth_has, value_has, members_have, items_have, entries_have, constant_passes, constants_pass}
 use Rattle.sp_fit_expr.proofs.OfSorts.{of_sort}
 use Rattle.sp_fit_expr.proofs.Leaves.{is_of_enum}
@@ -90,20 +90,3 @@ module _ (ranges units : List ℕ) where
       let passed : constant_passes x.value x.ty ≡ true = subst (λ (z : Constant). constant_passes z.value z.ty ≡ true) same (and_parts (constant_passes y.value y.ty) (constants_pass cs) h).0 in
       constant_fits x.value x.ty v passed is
   constants_fit (y ∷ cs) (suc c) x v h at is = constants_fit cs c x v (and_parts (constant_passes y.value y.ty) (constants_pass cs) h).1 at is
-
--- rows of values
-joined : (a b c : Bool) → (a && (b && c)) ≡ (a && b && c)
-joined true b c = refl
-joined false b c = refl
-
-pub items_joined : (xs ys : List Val) (ts : Tys) → items_have (vals_of (xs ++ ys)) ts ≡ (items_have (vals_of xs) ts && items_have (vals_of ys) ts)
-items_joined [] ys ts = refl
-items_joined (x ∷ xs) ys ts =
-    let one = nth_has ts 0 (value_has x) in
-    ap (λ (b : Bool). one && b) (items_joined xs ys ts) ∙ joined one (items_have (vals_of xs) ts) (items_have (vals_of ys) ts)
-
-pub entries_joined : (xs ys : List (Val × Val)) (ts : Tys) → entries_have (entries_of (xs ++ ys)) ts ≡ (entries_have (entries_of xs) ts && entries_have (entries_of ys) ts)
-entries_joined [] ys ts = refl
-entries_joined (x ∷ xs) ys ts =
-    let one = nth_has ts 0 (value_has x.0) && nth_has ts 1 (value_has x.1) in
-    ap (λ (b : Bool). one && b) (entries_joined xs ys ts) ∙ joined one (entries_have (entries_of xs) ts) (entries_have (entries_of ys) ts)

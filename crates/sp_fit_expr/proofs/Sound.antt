@@ -31,9 +31,8 @@ use Rattle.sp_emit_expr.specs.Many.{row_of}
 use Rattle.sp_emit_expr.specs.Literals.{number_behind, negative_number, NegativeFits, LeafFits, LiteralsFit, AllLiteralsFit, PlaceFits, ReceiverFits}
 use Rattle.sp_program_laid.specs.Arguments.{CallMatches, ArgumentsMatch, AllArgumentsMatch}
 use Rattle.sp_program_laid.specs.Places.{IsPlace, BeginsWithPlace, HasReceiver, ChangesPlaces, AllChangePlaces}
-use Rattle.sp_fit_expr.specs.declared.around.Around.{Around}
-use Rattle.sp_fit_expr.specs.declared.sorts.Sort.TheVariants as sort_is
-use Rattle.sp_fit_expr.specs.Around.{globals_in, layout_in, locals_in}
+use Rattle.sp_fit_expr.specs.Around.{Around, globals_in, locals_in}
+use Rattle.sp_fit_expr.specs.Sorts as sort_is
 use Rattle.sp_fit_expr.specs.Passes.{Tables, ExprPasses, ExprsPass, PlacePasses}
 use Rattle.sp_fit_expr.specs.Test.{is_sort, three_is, two_is_of, item_is, change_is, local_is, one_is_of, member_place, local_place, owner_is, one_or_literal, many_is_of, row_is_of, is_index, expr_passes, exprs_pass, change_passes, place_passes}
 use Rattle.sp_types.specs.Types.{same}
@@ -135,58 +134,58 @@ module _ (around : Around) where
   part_built (two_is.Binary o) B b = b
   part_built two_is.Index B b = b
 
-  parts_built : (o : ManyOp) (es : Exprs) (t : Ty) (V R : Type 0) → IsNoMethod o → many_is_of around o es t ≡ true → V → PartsAreBuilt around.list.now.functions o V R
+  parts_built : (o : ManyOp) (es : Exprs) (t : Ty) (V R : Type 0) → IsNoMethod o → many_is_of around o es t ≡ true → V → PartsAreBuilt around.list.functions o V R
   parts_built (many_is.Call f) es t V R apart h v = (function_there around f es t h, v)
   parts_built (many_is.Method m slot) es t V R apart h v = absurd apart
   parts_built _ es t V R apart h v = v
 
   mutual
-    pub expr_built : (e : Expr) → expr_passes around e ≡ true → ExprIsBuilt (globals_in around) around.list.now.functions e
+    pub expr_built : (e : Expr) → expr_passes around e ≡ true → ExprIsBuilt (globals_in around) around.list.functions e
     expr_built (leaf h) q = leaf_built around h.op h.ty q
     expr_built (one h a) q =
         by_literal
         h
         a
         (expr_passes around a && one_is_of around h.op (type_of a) h.ty)
-        (λ (e : Expr). ExprIsBuilt (globals_in around) around.list.now.functions e)
+        (λ (e : Expr). ExprIsBuilt (globals_in around) around.list.functions e)
         (λ i n is. rw is tt)
         (λ r. expr_built a (and_parts (expr_passes around a) (one_is_of around h.op (type_of a) h.ty) r).0)
         q
     expr_built (two h a b) q =
         let x = three_parts (expr_passes around a) (expr_passes around b) (two_is_of h.op (type_of a) (type_of b) h.ty) q in
-        (expr_built a x.0, part_built h.op (ExprIsBuilt (globals_in around) around.list.now.functions b) (expr_built b x.1))
+        (expr_built a x.0, part_built h.op (ExprIsBuilt (globals_in around) around.list.functions b) (expr_built b x.1))
     expr_built (three h c a b) q =
         let x = four_parts (expr_passes around c) (expr_passes around a) (expr_passes around b) (three_is (type_of c) (type_of a) (type_of b) h.ty) q in
         (expr_built c x.0, expr_built a x.1, expr_built b x.2)
     expr_built (many h es) q =
         by_row
         h.op
-        (offset_local (layout_in around) (is_self es))
+        (offset_local around.places (is_self es))
         (kept_row h.ty es)
         (change_row h.ty es)
         (values_row h.ty es)
-        (λ (o : ManyOp). PartsAreBuilt around.list.now.functions o (AllAreBuilt (globals_in around) around.list.now.functions es) (ReceiverIsBuilt (globals_in around) around.list.now.functions es))
+        (λ (o : ManyOp). PartsAreBuilt around.list.functions o (AllAreBuilt (globals_in around) around.list.functions es) (ReceiverIsBuilt (globals_in around) around.list.functions es))
         (λ at n is r. all_built es (and_parts (exprs_pass around es) (local_is around n h.ty) r).0)
         (λ m slot c r. rw c (receiver_built m slot h.ty es r))
         (λ m slot c r. rw c (all_built es (and_parts (exprs_pass around es) (many_is_of around (many_is.Method m slot) es h.ty) r).0))
         (λ o is apart r.
         let x = and_parts (exprs_pass around es) (many_is_of around o es h.ty) r in
-        parts_built o es h.ty (AllAreBuilt (globals_in around) around.list.now.functions es) (ReceiverIsBuilt (globals_in around) around.list.now.functions es) apart x.1 (all_built es x.0))
+        parts_built o es h.ty (AllAreBuilt (globals_in around) around.list.functions es) (ReceiverIsBuilt (globals_in around) around.list.functions es) apart x.1 (all_built es x.0))
         q
 
-    pub all_built : (es : Exprs) → exprs_pass around es ≡ true → AllAreBuilt (globals_in around) around.list.now.functions es
+    pub all_built : (es : Exprs) → exprs_pass around es ≡ true → AllAreBuilt (globals_in around) around.list.functions es
     all_built none q = tt
     all_built (more e es) q =
         let x = and_parts (expr_passes around e) (exprs_pass around es) q in
         (expr_built e x.0, all_built es x.1)
 
-    receiver_built : (m : Method) (slot : Option ℕ) (t : Ty) (es : Exprs) → change_passes around m slot t es ≡ true → ReceiverIsBuilt (globals_in around) around.list.now.functions es
+    receiver_built : (m : Method) (slot : Option ℕ) (t : Ty) (es : Exprs) → change_passes around m slot t es ≡ true → ReceiverIsBuilt (globals_in around) around.list.functions es
     receiver_built m slot t none q = absurd (let z : false ≡ true = q in cc)
     receiver_built m slot t (more r es) q =
-        let x = three_parts (place_passes around (slot_local (layout_in around) slot) r) (exprs_pass around es) (change_is m (is_item_place r) (type_of r) es t) q in
-        (place_built (slot_local (layout_in around) slot) r x.0, all_built es x.1)
+        let x = three_parts (place_passes around (slot_local around.places slot) r) (exprs_pass around es) (change_is m (is_item_place r) (type_of r) es t) q in
+        (place_built (slot_local around.places slot) r x.0, all_built es x.1)
 
-    pub place_built : (owner : Option ℕ) (e : Expr) → place_passes around owner e ≡ true → PlaceIsBuilt (globals_in around) around.list.now.functions e
+    pub place_built : (owner : Option ℕ) (e : Expr) → place_passes around owner e ≡ true → PlaceIsBuilt (globals_in around) around.list.functions e
     place_built owner (leaf h) q = local_named_is h.op h.ty q
     place_built owner (one h a) q =
         let x = three_parts (expr_passes around a) (owner_is around owner (type_of a)) (member_place around h.op (type_of a) h.ty) q in
@@ -244,7 +243,7 @@ module _ (around : Around) where
     expr_literals (many h es) q =
         by_row
         h.op
-        (offset_local (layout_in around) (is_self es))
+        (offset_local around.places (is_self es))
         (kept_row h.ty es)
         (change_row h.ty es)
         (values_row h.ty es)
@@ -266,8 +265,8 @@ module _ (around : Around) where
     receiver_literals : (m : Method) (slot : Option ℕ) (t : Ty) (es : Exprs) → change_passes around m slot t es ≡ true → AllLiteralsFit es × BeginsFitting es
     receiver_literals m slot t none q = absurd (let z : false ≡ true = q in cc)
     receiver_literals m slot t (more r es) q =
-        let x = three_parts (place_passes around (slot_local (layout_in around) slot) r) (exprs_pass around es) (change_is m (is_item_place r) (type_of r) es t) q in
-        let y = place_literals (slot_local (layout_in around) slot) r x.0 in
+        let x = three_parts (place_passes around (slot_local around.places slot) r) (exprs_pass around es) (change_is m (is_item_place r) (type_of r) es t) q in
+        let y = place_literals (slot_local around.places slot) r x.0 in
         ((y.1, all_literals es x.1), y.0)
 
     -- a place is also evaluated
@@ -287,14 +286,14 @@ module _ (around : Around) where
 
   -- calls have as many arguments as parameters
   mutual
-    pub expr_arguments : (e : Expr) → expr_passes around e ≡ true → ArgumentsMatch around.list.now.functions e
+    pub expr_arguments : (e : Expr) → expr_passes around e ≡ true → ArgumentsMatch around.list.functions e
     expr_arguments (leaf h) q = tt
     expr_arguments (one h a) q =
         by_literal
         h
         a
         (expr_passes around a && one_is_of around h.op (type_of a) h.ty)
-        (λ (e : Expr). ArgumentsMatch around.list.now.functions e)
+        (λ (e : Expr). ArgumentsMatch around.list.functions e)
         (λ i n is. tt)
         (λ r. expr_arguments a (and_parts (expr_passes around a) (one_is_of around h.op (type_of a) h.ty) r).0)
         q
@@ -307,11 +306,11 @@ module _ (around : Around) where
     expr_arguments (many h es) q =
         by_row
         h.op
-        (offset_local (layout_in around) (is_self es))
+        (offset_local around.places (is_self es))
         (kept_row h.ty es)
         (change_row h.ty es)
         (values_row h.ty es)
-        (λ (o : ManyOp). CallMatches around.list.now.functions o (count es) × AllArgumentsMatch around.list.now.functions es)
+        (λ (o : ManyOp). CallMatches around.list.functions o (count es) × AllArgumentsMatch around.list.functions es)
         (λ at n is r. (tt, all_arguments es (and_parts (exprs_pass around es) (local_is around n h.ty) r).0))
         (λ m slot c r. (tt, receiver_arguments m slot h.ty es r))
         (λ m slot c r. (tt, all_arguments es (and_parts (exprs_pass around es) (many_is_of around (many_is.Method m slot) es h.ty) r).0))
@@ -320,19 +319,19 @@ module _ (around : Around) where
         (call_matches around o es h.ty x.1, all_arguments es x.0))
         q
 
-    pub all_arguments : (es : Exprs) → exprs_pass around es ≡ true → AllArgumentsMatch around.list.now.functions es
+    pub all_arguments : (es : Exprs) → exprs_pass around es ≡ true → AllArgumentsMatch around.list.functions es
     all_arguments none q = tt
     all_arguments (more e es) q =
         let x = and_parts (expr_passes around e) (exprs_pass around es) q in
         (expr_arguments e x.0, all_arguments es x.1)
 
-    receiver_arguments : (m : Method) (slot : Option ℕ) (t : Ty) (es : Exprs) → change_passes around m slot t es ≡ true → AllArgumentsMatch around.list.now.functions es
+    receiver_arguments : (m : Method) (slot : Option ℕ) (t : Ty) (es : Exprs) → change_passes around m slot t es ≡ true → AllArgumentsMatch around.list.functions es
     receiver_arguments m slot t none q = absurd (let z : false ≡ true = q in cc)
     receiver_arguments m slot t (more r es) q =
-        let x = three_parts (place_passes around (slot_local (layout_in around) slot) r) (exprs_pass around es) (change_is m (is_item_place r) (type_of r) es t) q in
-        (place_arguments (slot_local (layout_in around) slot) r x.0, all_arguments es x.1)
+        let x = three_parts (place_passes around (slot_local around.places slot) r) (exprs_pass around es) (change_is m (is_item_place r) (type_of r) es t) q in
+        (place_arguments (slot_local around.places slot) r x.0, all_arguments es x.1)
 
-    pub place_arguments : (owner : Option ℕ) (e : Expr) → place_passes around owner e ≡ true → ArgumentsMatch around.list.now.functions e
+    pub place_arguments : (owner : Option ℕ) (e : Expr) → place_passes around owner e ≡ true → ArgumentsMatch around.list.functions e
     place_arguments owner (leaf h) q = tt
     place_arguments owner (one h a) q =
         expr_arguments a (three_parts (expr_passes around a) (owner_is around owner (type_of a)) (member_place around h.op (type_of a) h.ty) q).0
@@ -355,9 +354,9 @@ module _ (around : Around) where
   begins_with_place m slot t none q = absurd (let z : false ≡ true = q in cc)
   begins_with_place m slot t (more r es) q =
       is_place
-      (slot_local (layout_in around) slot)
+      (slot_local around.places slot)
       r
-      (three_parts (place_passes around (slot_local (layout_in around) slot) r) (exprs_pass around es) (change_is m (is_item_place r) (type_of r) es t) q).0
+      (three_parts (place_passes around (slot_local around.places slot) r) (exprs_pass around es) (change_is m (is_item_place r) (type_of r) es t) q).0
 
   has_no_receiver : (o : ManyOp) (es : Exprs) → IsNoMethod o → HasReceiver o es
   has_no_receiver (many_is.Method m slot) es apart = absurd apart
@@ -385,7 +384,7 @@ module _ (around : Around) where
     expr_places (many h es) q =
         by_row
         h.op
-        (offset_local (layout_in around) (is_self es))
+        (offset_local around.places (is_self es))
         (kept_row h.ty es)
         (change_row h.ty es)
         (values_row h.ty es)
@@ -406,8 +405,8 @@ module _ (around : Around) where
     receiver_places : (m : Method) (slot : Option ℕ) (t : Ty) (es : Exprs) → change_passes around m slot t es ≡ true → AllChangePlaces es
     receiver_places m slot t none q = absurd (let z : false ≡ true = q in cc)
     receiver_places m slot t (more r es) q =
-        let x = three_parts (place_passes around (slot_local (layout_in around) slot) r) (exprs_pass around es) (change_is m (is_item_place r) (type_of r) es t) q in
-        (place_places (slot_local (layout_in around) slot) r x.0, all_places es x.1)
+        let x = three_parts (place_passes around (slot_local around.places slot) r) (exprs_pass around es) (change_is m (is_item_place r) (type_of r) es t) q in
+        (place_places (slot_local around.places slot) r x.0, all_places es x.1)
 
     pub place_places : (owner : Option ℕ) (e : Expr) → place_passes around owner e ≡ true → ChangesPlaces e
     place_places owner (leaf h) q = tt
@@ -420,19 +419,19 @@ module _ (around : Around) where
     place_places owner (many h es) q = absurd (let z : false ≡ true = q in cc)
 
   -- parts are of the kinds that are asked
-  module _ (p : Plain) (shapes : Shapes) (tables : Tables around.list.now p shapes) where
+  module _ (p : Plain) (shapes : Shapes) (tables : Tables around.list p shapes) where
     abbrev kind : Ty → Kind
     kind t = kind_of_type (globals_in around).ranges t
 
     abbrev IsKept : Option ℕ → Kind → Type 0
-    IsKept o k = expressions.IsKept p shapes (globals_in around) (layout_in around) (locals_in around) around.unit o k
+    IsKept o k = expressions.IsKept p shapes (globals_in around) around.places (locals_in around) around.unit o k
 
     owner_fits : (o : Option ℕ) (a : Ty) → owner_is around o a ≡ true → IsKept o (kind a)
-    owner_fits (Some l) a q = local_kind (globals_in around).ranges around.locals.now l a q
+    owner_fits (Some l) a q = local_kind (globals_in around).ranges around.locals l a q
     owner_fits None a q = tt
 
-    local_fits : (o : LeafOp) (t : Ty) → local_place around o t ≡ true → slice_get (locals_in around) (place_local (globals_in around) (layout_in around) o) ≡ Some (kind t)
-    local_fits (leaf_is.Local l) t q = local_kind (globals_in around).ranges around.locals.now (around.places.first + l) t q
+    local_fits : (o : LeafOp) (t : Ty) → local_place around o t ≡ true → slice_get (locals_in around) (place_local (globals_in around) around.places o) ≡ Some (kind t)
+    local_fits (leaf_is.Local l) t q = local_kind (globals_in around).ranges around.locals (around.places.first + l) t q
     local_fits _ t q = absurd (let z : false ≡ true = q in cc)
 
     named_fits : (o : OneOp) (a t : Ty) → member_place around o a t ≡ true → (u : ℕ) × (kind a ≡ UnitOf u) × IsMember p shapes u (member_of o) (kind t)
@@ -442,11 +441,11 @@ module _ (around : Around) where
 
     -- a literal with a minus sign, or what else stands there
     literal_fits : (h : One) (a : Expr) (x : Bool) (A : Type 0) → (x ≡ true → A) → one_or_literal around (negative_number h a) h.ty x ≡ true →
-        expressions.UnlessLiteral p shapes (globals_in around) (layout_in around) (locals_in around) around.unit (negative_literal h a) (kind h.ty) A
+        expressions.UnlessLiteral p shapes (globals_in around) around.places (locals_in around) around.unit (negative_literal h a) (kind h.ty) A
     literal_fits h (leaf i) x A f q = behind h.op i.op h.ty f q
       where
         behind : (o : OneOp) (l : LeafOp) (t : Ty) → (x ≡ true → A) → one_or_literal around (number_behind o l) t x ≡ true →
-            expressions.UnlessLiteral p shapes (globals_in around) (layout_in around) (locals_in around) around.unit (negative o l t) (kind t) A
+            expressions.UnlessLiteral p shapes (globals_in around) around.places (locals_in around) around.unit (negative o l t) (kind t) A
         behind one_is.Negate (leaf_is.Number n) t f q = λ units. number_has (globals_in around).ranges units t true n q
         behind one_is.Negate _ t f q = f q
         behind _ l t f q = f q
@@ -463,14 +462,14 @@ module _ (around : Around) where
     demands_values _ l K C M is apart made = made
 
     mutual
-      pub expr_fits : (e : Expr) → expr_passes around e ≡ true → expressions.Fits p shapes (globals_in around) (layout_in around) (locals_in around) around.unit e
+      pub expr_fits : (e : Expr) → expr_passes around e ≡ true → expressions.Fits p shapes (globals_in around) around.places (locals_in around) around.unit e
       expr_fits (leaf h) q = leaf_fits around p shapes tables h.op h.ty q
       expr_fits (one h a) q =
           literal_fits
           h
           a
           (expr_passes around a && one_is_of around h.op (type_of a) h.ty)
-          (expressions.Fits p shapes (globals_in around) (layout_in around) (locals_in around) around.unit a × expressions.OneFits p shapes h.op (kind (type_of a)) h.ty (kind h.ty))
+          (expressions.Fits p shapes (globals_in around) around.places (locals_in around) around.unit a × expressions.OneFits p shapes h.op (kind (type_of a)) h.ty (kind h.ty))
           (λ r.
           let x = and_parts (expr_passes around a) (one_is_of around h.op (type_of a) h.ty) r in
           (expr_fits a x.0, one_fits around p shapes tables h.op (type_of a) h.ty x.1))
@@ -487,7 +486,7 @@ module _ (around : Around) where
                 (type_of a)
                 (type_of b)
                 h.ty
-                (expressions.Fits p shapes (globals_in around) (layout_in around) (locals_in around) around.unit b)
+                (expressions.Fits p shapes (globals_in around) around.places (locals_in around) around.unit b)
                 (expr_fits b x.1)
                 x.2,
           )
@@ -504,7 +503,7 @@ module _ (around : Around) where
       expr_fits (many h es) q =
           by_row
           h.op
-          (offset_local (layout_in around) (is_self es))
+          (offset_local around.places (is_self es))
           (kept_row h.ty es)
           (change_row h.ty es)
           (values_row h.ty es)
@@ -513,12 +512,12 @@ module _ (around : Around) where
           p
           shapes
           o
-          (offset_local (layout_in around) (is_self es))
-          (λ l. expressions.IsLocal p shapes (globals_in around) (layout_in around) (locals_in around) around.unit l (kind h.ty))
-          (expressions.ReceiverFits p shapes (globals_in around) (layout_in around) (locals_in around) around.unit o (kind h.ty) es)
-          (expressions.AllFit p shapes (globals_in around) (layout_in around) (locals_in around) around.unit es
-          × expressions.ManyFits p shapes o (count es) (kinds_on (globals_in around) (layout_in around) es []) (kind h.ty)))
-          (λ at n is r. rw is (local_kind (globals_in around).ranges around.locals.now n h.ty (and_parts (exprs_pass around es) (local_is around n h.ty) r).1))
+          (offset_local around.places (is_self es))
+          (λ l. expressions.IsLocal p shapes (globals_in around) around.places (locals_in around) around.unit l (kind h.ty))
+          (expressions.ReceiverFits p shapes (globals_in around) around.places (locals_in around) around.unit o (kind h.ty) es)
+          (expressions.AllFit p shapes (globals_in around) around.places (locals_in around) around.unit es
+          × expressions.ManyFits p shapes o (count es) (kinds_on (globals_in around) around.places es []) (kind h.ty)))
+          (λ at n is r. rw is (local_kind (globals_in around).ranges around.locals n h.ty (and_parts (exprs_pass around es) (local_is around n h.ty) r).1))
           (λ m slot c r. rw c (receiver_fits m slot h.ty es r))
           (λ m slot c r.
           let x = and_parts (exprs_pass around es) (many_is_of around (many_is.Method m slot) es h.ty) r in
@@ -527,30 +526,30 @@ module _ (around : Around) where
           let x = and_parts (exprs_pass around es) (many_is_of around o es h.ty) r in
           demands_values
           o
-          (offset_local (layout_in around) (is_self es))
-          (λ l. expressions.IsLocal p shapes (globals_in around) (layout_in around) (locals_in around) around.unit l (kind h.ty))
-          (expressions.ReceiverFits p shapes (globals_in around) (layout_in around) (locals_in around) around.unit o (kind h.ty) es)
-          (expressions.AllFit p shapes (globals_in around) (layout_in around) (locals_in around) around.unit es
-          × expressions.ManyFits p shapes o (count es) (kinds_on (globals_in around) (layout_in around) es []) (kind h.ty))
+          (offset_local around.places (is_self es))
+          (λ l. expressions.IsLocal p shapes (globals_in around) around.places (locals_in around) around.unit l (kind h.ty))
+          (expressions.ReceiverFits p shapes (globals_in around) around.places (locals_in around) around.unit o (kind h.ty) es)
+          (expressions.AllFit p shapes (globals_in around) around.places (locals_in around) around.unit es
+          × expressions.ManyFits p shapes o (count es) (kinds_on (globals_in around) around.places es []) (kind h.ty))
           is
           apart
           (all_fit es x.0, many_fits around p shapes tables o es h.ty x.1))
           q
 
-      pub all_fit : (es : Exprs) → exprs_pass around es ≡ true → expressions.AllFit p shapes (globals_in around) (layout_in around) (locals_in around) around.unit es
+      pub all_fit : (es : Exprs) → exprs_pass around es ≡ true → expressions.AllFit p shapes (globals_in around) around.places (locals_in around) around.unit es
       all_fit none q = tt
       all_fit (more e es) q =
           let x = and_parts (expr_passes around e) (exprs_pass around es) q in
           (expr_fits e x.0, all_fit es x.1)
 
       receiver_fits : (m : Method) (slot : Option ℕ) (t : Ty) (es : Exprs) → change_passes around m slot t es ≡ true →
-          expressions.ReceiverFits p shapes (globals_in around) (layout_in around) (locals_in around) around.unit (many_is.Method m slot) (kind t) es
+          expressions.ReceiverFits p shapes (globals_in around) around.places (locals_in around) around.unit (many_is.Method m slot) (kind t) es
       receiver_fits m slot t none q = absurd (let z : false ≡ true = q in cc)
       receiver_fits m slot t (more r es) q =
-          let x = three_parts (place_passes around (slot_local (layout_in around) slot) r) (exprs_pass around es) (change_is m (is_item_place r) (type_of r) es t) q in
-          (place_fits (slot_local (layout_in around) slot) r x.0, all_fit es x.1, change_fits around p shapes m slot (is_item_place r) r es t x.2)
+          let x = three_parts (place_passes around (slot_local around.places slot) r) (exprs_pass around es) (change_is m (is_item_place r) (type_of r) es t) q in
+          (place_fits (slot_local around.places slot) r x.0, all_fit es x.1, change_fits around p shapes m slot (is_item_place r) r es t x.2)
 
-      pub place_fits : (owner : Option ℕ) (e : Expr) → place_passes around owner e ≡ true → expressions.PlaceFits p shapes (globals_in around) (layout_in around) (locals_in around) around.unit owner e
+      pub place_fits : (owner : Option ℕ) (e : Expr) → place_passes around owner e ≡ true → expressions.PlaceFits p shapes (globals_in around) around.places (locals_in around) around.unit owner e
       place_fits owner (leaf h) q = local_fits h.op h.ty q
       place_fits owner (one h a) q =
           let x = three_parts (expr_passes around a) (owner_is around owner (type_of a)) (member_place around h.op (type_of a) h.ty) q in
@@ -562,7 +561,7 @@ module _ (around : Around) where
       place_fits owner (many h es) q = absurd (let z : false ≡ true = q in cc)
 
   -- all of it
-  pub expr_sound : (e : Expr) → expr_passes around e ≡ true → ExprPasses around.list.now (layout_in around) (locals_in around) around.unit e
+  pub expr_sound : (e : Expr) → expr_passes around e ≡ true → ExprPasses around.list around.places (locals_in around) around.unit e
   expr_sound e q =
       record {
         fits = λ p shapes tables. expr_fits p shapes tables e q;
@@ -572,7 +571,7 @@ module _ (around : Around) where
         places = expr_places e q;
       }
 
-  pub exprs_sound : (es : Exprs) → exprs_pass around es ≡ true → ExprsPass around.list.now (layout_in around) (locals_in around) around.unit es
+  pub exprs_sound : (es : Exprs) → exprs_pass around es ≡ true → ExprsPass around.list around.places (locals_in around) around.unit es
   exprs_sound es q =
       record {
         fits = λ p shapes tables. all_fit p shapes tables es q;
@@ -582,7 +581,7 @@ module _ (around : Around) where
         places = all_places es q;
       }
 
-  pub place_sound : (owner : Option ℕ) (e : Expr) → place_passes around owner e ≡ true → PlacePasses around.list.now (layout_in around) (locals_in around) around.unit owner e
+  pub place_sound : (owner : Option ℕ) (e : Expr) → place_passes around owner e ≡ true → PlacePasses around.list around.places (locals_in around) around.unit owner e
   place_sound owner e q =
       let both = place_literals owner e q in
       record {

@@ -1,18 +1,13 @@
 -- The test of constants: that their values are of their types.
-use Rattle.std.specs.Prelude.{ℕ, zero, suc, Bool, true, false, ◌&&◌, List, [], ◌∷◌, Option, Some, None}
+use Rattle.std.specs.Prelude.{ℕ, zero, suc, Bool, true, false, ◌&&◌, List, [], ◌∷◌}
 use Rattle.sp_value.specs.Val.{Val, Vals, Entries, bool, uint, int, bytes, str, enum, tuple, vector, set, map, no_vals, val, no_entries, entry}
 use Rattle.sp_types.specs.declared.words.Maker.TheVariants as maker_is
 use Rattle.sp_types.specs.Types.{Ty, Tys, made, none, more}
 use Rattle.sp_typed_units.specs.declared.declarations.Constant.{Constant}
 use Rattle.sp_typed_units.specs.declared.declarations.ConstantValue.{ConstantValue}
 use Rattle.sp_typed_units.specs.declared.declarations.ConstantValue.TheVariants as constant_is
-use Rattle.sp_fit_expr.specs.declared.sorts.Sort.TheVariants.{Bools, Unsigned, Signed, Bytes, Text}
+use Rattle.sp_fit_expr.specs.Sorts.{Bools, Unsigned, Signed, Bytes, Text}
 use Rattle.sp_fit_expr.specs.Test.{is_sort, is_enum}
-
--- a type that is there, and of which a test holds
-abbrev pub holds_of : Option Ty → (Ty → Bool) → Bool
-holds_of (Some t) f = f t
-holds_of None f = false
 
 -- the part at a place is there, and a test holds of it
 abbrev pub nth_has : Tys → ℕ → (Ty → Bool) → Bool

@@ -4,8 +4,7 @@ use Rattle.sp_types.specs.Types.{Ty, Tys, same}
 use Rattle.sp_types.specs.Types as types
 use Rattle.sp_typed.specs.Exprs.{Exprs, none, more, type_of}
 use Rattle.sp_typed_units.specs.declared.declarations.Parameter.{Parameter}
-use Rattle.sp_fit_expr.specs.declared.sorts.Sort.{Sort}
-use Rattle.sp_fit_expr.specs.Sorts.{sort_of, same_sort}
+use Rattle.sp_fit_expr.specs.Sorts.{Sort, sort_of, same_sort}
 
 -- no expression is left
 abbrev pub is_none : Exprs → Bool

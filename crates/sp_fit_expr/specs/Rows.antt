@@ -1,5 +1,5 @@
--- What the test says of a few operators, numbers, containers and methods, and of a constant.
-use Rattle.std.specs.Prelude.{◌≡◌, pos, true, false, [], ◌∷◌, refl}
+-- What the test says of a few operators, numbers, containers and methods, of a constant, and of sums and places in a body.
+use Rattle.std.specs.Prelude.{◌≡◌, ℕ, pos, true, false, [], ◌∷◌, None, refl}
 use Rattle.sp_base.specs.declared.places.Span.{Span}
 use Rattle.sp_numbers.specs.declared.width.Width.TheVariants.{W8, W16}
 use Rattle.sp_words.specs.declared.operators.BinaryOp.TheVariants as op_is
@@ -10,8 +10,10 @@ use Rattle.sp_types.specs.declared.words.Maker.TheVariants as maker_is
 use Rattle.sp_types.specs.Types.{Ty, word, made, tys}
 use Rattle.sp_typed.specs.declared.words.LeafOp.TheVariants as leaf_is
 use Rattle.sp_typed.specs.declared.words.TwoOp.TheVariants as two_is
-use Rattle.sp_typed.specs.Exprs.{Expr, leaf, exprs}
-use Rattle.sp_fit_expr.specs.Test.{number_is, two_is_of, tuple_of, vector_with, map_with, method_is, change_is}
+use Rattle.sp_typed.specs.Exprs.{Expr, leaf, two, exprs}
+use Rattle.sp_typed_units.specs.declared.declarations.Typed.{Typed}
+use Rattle.sp_fit_expr.specs.Around.{Around}
+use Rattle.sp_fit_expr.specs.Test.{number_is, two_is_of, tuple_of, vector_with, map_with, method_is, change_is, expr_passes, place_passes}
 use Rattle.sp_fit_expr.specs.Constants.{value_has}
 
 abbrev here : Span
@@ -117,3 +119,42 @@ constant = refl
 
 no_constant : value_has (int W8 (pos 1)) byte ≡ false
 no_constant = refl
+
+-- a body that is handed a text and has a byte as its only slot
+abbrev body : Typed → Around
+body list = record {
+  list = list;
+  places = record { own = 1; current = 0; offset = None; first = 1 };
+  locals = word word_is.String ∷ byte ∷ [];
+  unit = None;
+}
+
+abbrev local : ℕ → Expr
+local l = leaf (record { span = here; ty = byte; op = leaf_is.Local l })
+
+abbrev number : Ty → ℕ → Expr
+number t n = leaf (record { span = here; ty = t; op = leaf_is.Number n })
+
+-- a slot and a number, as a byte
+abbrev sum : ℕ → Ty → ℕ → Expr
+sum l t n = two (record { span = here; ty = byte; op = two_is.Binary op_is.Add }) (local l) (number t n)
+
+fits : (list : Typed) → expr_passes (body list) (sum 0 byte 255) ≡ true
+fits list = refl
+
+-- not where the number is past its type or of another sort, nor where there is no such slot
+too_large : (list : Typed) → expr_passes (body list) (sum 0 byte 256) ≡ false
+too_large list = refl
+
+signed : (list : Typed) → expr_passes (body list) (sum 0 small 1) ≡ false
+signed list = refl
+
+no_slot : (list : Typed) → expr_passes (body list) (sum 1 byte 1) ≡ false
+no_slot list = refl
+
+-- a slot is a place, and a number isn't
+slot_is_place : (list : Typed) → place_passes (body list) None (local 0) ≡ true
+slot_is_place list = refl
+
+number_is_none : (list : Typed) → place_passes (body list) None (number byte 0) ≡ false
+number_is_none list = refl

@@ -7,8 +7,9 @@ use Rattle.sp_types.specs.declared.words.Word.TheVariants as word_is
 use Rattle.sp_types.specs.declared.words.Maker.{Maker}
 use Rattle.sp_types.specs.declared.words.Maker.TheVariants as maker_is
 use Rattle.sp_types.specs.Types.{Ty, word, made}
-use Rattle.sp_fit_expr.specs.declared.sorts.Sort.{Sort}
-use Rattle.sp_fit_expr.specs.declared.sorts.Sort.TheVariants.{Void, Bools, Unsigned, Signed, Bytes, Text, Enums, Bits, Tuples, Vectors, Sets, Maps, Units, Places}
+
+pub data Sort : Type 0 where
+  Void Bools Unsigned Signed Bytes Text Enums Bits Tuples Vectors Sets Maps Units Places : Sort
 
 -- a type without parts; what has no values has the sort of void
 abbrev pub sort_of_word : Word → Sort

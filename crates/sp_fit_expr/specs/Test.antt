@@ -30,11 +30,8 @@ use Rattle.sp_emit_expr.specs.declared.rows.Row.{Row}
 use Rattle.sp_emit_expr.specs.declared.rows.Row.TheVariants as row_is
 use Rattle.sp_emit_expr.specs.Many.{row_of}
 use Rattle.sp_emit_expr.specs.Literals.{negative_number}
-use Rattle.sp_fit_expr.specs.declared.around.Around.{Around}
-use Rattle.sp_fit_expr.specs.declared.sorts.Sort.{Sort}
-use Rattle.sp_fit_expr.specs.declared.sorts.Sort.TheVariants.{Void, Bools, Unsigned, Signed, Bytes, Text, Enums, Units}
-use Rattle.sp_fit_expr.specs.Around.{layout_in}
-use Rattle.sp_fit_expr.specs.Sorts.{sort_of, same_sort, takes, is_sized, is_integer, casts}
+use Rattle.sp_fit_expr.specs.Around.{Around}
+use Rattle.sp_fit_expr.specs.Sorts.{Sort, Void, Bools, Unsigned, Signed, Bytes, Text, Enums, Units, sort_of, same_sort, takes, is_sized, is_integer, casts}
 use Rattle.sp_fit_expr.specs.Lists.{is_none, is_type, part_is, are_two, members_are, arguments_are, all_are, are_in_turn, sorts_are}
 
 -- a number, with a minus sign or without, is one of an integer type
@@ -250,10 +247,10 @@ is_index op = false
 module _ (around : Around) where
   -- a local is of a type
   abbrev pub local_is : ℕ → Ty → Bool
-  local_is l t = is_type (slice_get around.locals.now l) t
+  local_is l t = is_type (slice_get around.locals l) t
 
   abbrev pub unit_parameter : Option ℕ → ℕ → Ty → Bool
-  unit_parameter (Some u) n t = parameter_is (slice_get around.list.now.units u) n t
+  unit_parameter (Some u) n t = parameter_is (slice_get around.list.units u) n t
   unit_parameter None n t = false
 
   -- a parameter of the body, or of the unit behind these
@@ -273,18 +270,18 @@ module _ (around : Around) where
   leaf_is_of (leaf_is.Current s) t = local_is around.places.current t
   leaf_is_of (leaf_is.Local l) t = local_is (around.places.first + l) t
   leaf_is_of (leaf_is.Parameter n s) t = seen_parameter n t
-  leaf_is_of (leaf_is.Constant c) t = constant_is_of (slice_get around.list.now.constants c) t
+  leaf_is_of (leaf_is.Constant c) t = constant_is_of (slice_get around.list.constants c) t
   leaf_is_of (leaf_is.Label k l) t = is_enum k t
   leaf_is_of op t = false
 
   -- a member of a unit
   abbrev pub has_member : Ty → ℕ → Ty → Bool
-  has_member (word (word_is.Unit u)) m t = member_is (slice_get around.list.now.units u) m t
+  has_member (word (word_is.Unit u)) m t = member_is (slice_get around.list.units u) m t
   has_member a m t = false
 
   -- a range of a bitfield
   abbrev pub has_range : Ty → ℕ → Bool
-  has_range (word (word_is.Bitfield k)) r = nat_lt r (ranges_of (range_counts around.list.now.bitfields) k)
+  has_range (word (word_is.Bitfield k)) r = nat_lt r (ranges_of (range_counts around.list.bitfields) k)
   has_range a r = false
 
   -- what is made of one part that passes
@@ -327,7 +324,7 @@ module _ (around : Around) where
   many_is_of many_is.Vector es t = vector_with t es
   many_is_of many_is.Set es t = set_with t es
   many_is_of many_is.Map es t = map_with t es
-  many_is_of (many_is.Call f) es t = call_is (slice_get around.list.now.functions f) es t
+  many_is_of (many_is.Call f) es t = call_is (slice_get around.list.functions f) es t
   many_is_of (many_is.Convert k) es t = converts k es t
   many_is_of (many_is.Method m slot) es t = method_is m es t
   many_is_of (many_is.OfUnit unit_method.Offset at) es t = offset_is es t
@@ -347,7 +344,7 @@ module _ (around : Around) where
     expr_passes (two h a b) = expr_passes a && expr_passes b && two_is_of h.op (type_of a) (type_of b) h.ty
     expr_passes (three h c a b) = expr_passes c && expr_passes a && expr_passes b && three_is (type_of c) (type_of a) (type_of b) h.ty
     expr_passes (many h es) =
-        row_is_of (row_of h.op (offset_local (layout_in around) (is_self es))) (λ l. exprs_pass es && local_is l h.ty) (λ m slot. change_passes m slot h.ty es) (exprs_pass es && many_is_of h.op es h.ty)
+        row_is_of (row_of h.op (offset_local around.places (is_self es))) (λ l. exprs_pass es && local_is l h.ty) (λ m slot. change_passes m slot h.ty es) (exprs_pass es && many_is_of h.op es h.ty)
 
     -- each of several does
     pub exprs_pass : Exprs → Bool
@@ -357,7 +354,7 @@ module _ (around : Around) where
     -- the call of a method that changes its receiver
     pub change_passes : Method → Option ℕ → Ty → Exprs → Bool
     change_passes m slot t none = false
-    change_passes m slot t (more r es) = place_passes (slot_local (layout_in around) slot) r && exprs_pass es && change_is m (is_item_place r) (type_of r) es t
+    change_passes m slot t (more r es) = place_passes (slot_local around.places slot) r && exprs_pass es && change_is m (is_item_place r) (type_of r) es t
 
     -- a place passes, by the local in which the owner of its member is kept
     pub place_passes : Option ℕ → Expr → Bool

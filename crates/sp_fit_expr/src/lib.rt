@@ -1,19 +1,7 @@
-//! Whether an expression of a typed list fits: its parts are of the kinds that its form asks, it is built of what has a
-//! meaning, its literals are of their types, calls have as many arguments as parameters, and what is changed is a place.
+//! Which expressions of a typed list fit: their parts are of the kinds that their form asks, they are built of what has a meaning, their
+//! literals are of their types, calls have as many arguments as parameters, and what is changed is a place.
 #![tactic(auto)]
 
-mod around;
-mod lookups;
-mod methods;
-mod nodes;
-mod rows;
-mod sorts;
-mod types;
-mod values;
+mod laws;
 
-pub use around::Around;
-pub use nodes::{expr, exprs, place, slot};
-pub use rows::part_is;
-pub use sorts::{Sort, operator};
-pub use types::is_sort;
-pub use values::constants;
+pub use laws::{passing_constants_fit, passing_expressions_fit, passing_places_fit};

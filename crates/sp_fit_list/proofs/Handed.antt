@@ -2,12 +2,10 @@
 use Rattle.std.proofs.Common.{◌≡◌, ℕ, ◌==◌, Bool, true, false, ◌||◌, not, List, [], ◌∷◌, ◌++◌, Option, Some, None, refl, sym, ap, subst, ◌∙◌}
 use Rattle.std.specs.Prelude.{length, slice_get, if◌then◌else◌}
 use Rattle.std.proofs.lemmas.Bool.{and_parts}
-use Rattle.std.proofs.lemmas.Option.{slice_get_within}
 use Rattle.sp_words.specs.declared.words.HookName.{HookName}
 use Rattle.sp_words.specs.declared.words.HookName.TheVariants.{Init, Done, Error, Finally}
 use Rattle.sp_methods.specs.Kinds.{Kind, Unsigned}
 use Rattle.sp_types.specs.Types.{Ty}
-use Rattle.sp_typed.specs.Stmts.{Stmt}
 use Rattle.sp_typed_units.specs.declared.declarations.Hook.{Hook}
 use Rattle.sp_typed_units.specs.declared.declarations.HookOf.{HookOf}
 use Rattle.sp_typed_units.specs.declared.declarations.HookOf.TheVariants as hook_of
@@ -15,37 +13,23 @@ use Rattle.sp_typed_units.specs.declared.declarations.Parameter.{Parameter}
 use Rattle.sp_typed_units.specs.declared.declarations.Typed.{Typed}
 use Rattle.sp_typed_units.specs.declared.items.Field.{Field}
 use Rattle.sp_running.specs.Types.{kind_of_type}
-use Rattle.sp_bodies.specs.Globals.{Layout, globals_of}
+use Rattle.sp_bodies.specs.Globals.{globals_of}
 use Rattle.sp_bodies.specs.Calls.{has_current, is_foreach}
 use Rattle.sp_bodies.specs.Units.{is_hook, is_of_unit}
-use Rattle.sp_code.specs.Shapes.{Round, OfHook}
+use Rattle.sp_code.specs.Shapes.{OfHook}
 use Rattle.sp_lower_expr.specs.Code.{kind_at}
 use Rattle.sp_program.specs.Routines.{hook_unit, parameter_kinds, slot_kinds}
 use Rattle.sp_program.specs.Currents.{hooked_field, current_type, currents_of}
 use Rattle.sp_whole_program.specs.Laws.{CurrentsAreListed}
 use Rattle.sp_fit_body.specs.Passes.{StmtPasses}
-use Rattle.sp_fit_list.specs.inside.Locals.{parameter_types}
-use Rattle.sp_fit_list.specs.inside.Stored.{stored_type, type_for, AreStored}
-use Rattle.sp_fit_list.specs.inside.Bodies.{parameter_layout, is_each_unit, is_empty, takes_nothing, current_of, HookBodyPasses}
+use Rattle.sp_fit_list.specs.Locals.{parameter_types}
+use Rattle.sp_fit_list.specs.Stored.{stored_type, type_for}
+use Rattle.sp_fit_list.specs.Bodies.{parameter_layout, is_each_unit, is_empty, takes_nothing, current_of, HookBodyPasses}
 
 -- the kinds of the locals of a body that is handed its parameters
 pub locals_listed : (ranges : List ℕ) (xs : List Parameter) (ts : List Ty) → slot_kinds ranges (parameter_types xs ++ ts) ≡ parameter_kinds ranges xs ++ slot_kinds ranges ts
 locals_listed ranges [] ts = refl
 locals_listed ranges (x ∷ xs) ts = ap (λ (ks : List Kind). kind_of_type ranges x.ty ∷ ks) (locals_listed ranges xs ts)
-
--- A body that is handed its parameters, by what its code says of its locals.
-pub handed_parameters : (list : Typed) (xs : List Parameter) (ts : List Ty) (unit : Option ℕ) (round : Round) (s : Stmt) (places : Layout) (own : ℕ) (ps : List Parameter) (slots locals : List Ty) → places ≡ parameter_layout own → own ≡ length ps → ps ≡ xs → slots ≡ ts
-    → locals ≡ parameter_types ps ++ slots → StmtPasses list places (slot_kinds (globals_of list).ranges locals) unit round false s
-    → StmtPasses list (parameter_layout (length xs)) (parameter_kinds (globals_of list).ranges xs ++ slot_kinds (globals_of list).ranges ts) unit round false s
-handed_parameters list xs ts unit round s places own ps slots locals at counted are of is h =
-    let ranges = (globals_of list).ranges in
-    let layout : places ≡ parameter_layout (length xs) = at ∙ ap parameter_layout (counted ∙ ap (λ (qs : List Parameter). length qs) are) in
-    let types : locals ≡ parameter_types xs ++ ts = is ∙ ap (λ (qs : List Parameter). parameter_types qs ++ slots) are ∙ ap (λ (us : List Ty). parameter_types xs ++ us) of in
-    let kinds : slot_kinds ranges locals ≡ parameter_kinds ranges xs ++ slot_kinds ranges ts = ap (slot_kinds ranges) types ∙ locals_listed ranges xs ts in
-    subst
-    (λ (l : Layout). StmtPasses list l (parameter_kinds ranges xs ++ slot_kinds ranges ts) unit round false s)
-    layout
-    (subst (λ (ks : List Kind). StmtPasses list places ks unit round false s) kinds h)
 
 -- a body of a hook without `$$` is one
 pub plain_hook : (list : Typed) (o : Option Ty) (x : Hook) → has_current x.of ≡ false
@@ -94,7 +78,7 @@ current_once hook_of.Nothing f h = refl
 current_once (hook_of.Unit u name) f h = refl
 
 -- its kind is the one that the program has
-pub current_listed : CurrentsAreListed → (list : Typed) (types : List (Option Ty)) → AreStored list types → (h : ℕ) (x : Hook) → slice_get list.hooks h ≡ Some x → is_foreach x.of ≡ false
-    → kind_at (currents_of list) h ≡ kind_of_type (globals_of list).ranges (current_of x.of (type_for types h))
-current_listed law list types stored h x is once =
-    law list h x is ∙ ap (kind_of_type (globals_of list).ranges) (current_once x.of (hooked_field h list.units) once ∙ ap (current_of x.of) (sym (stored h (slice_get_within list.hooks h x is))))
+pub current_listed : CurrentsAreListed → (list : Typed) (h : ℕ) (x : Hook) → slice_get list.hooks h ≡ Some x → is_foreach x.of ≡ false
+    → kind_at (currents_of list) h ≡ kind_of_type (globals_of list).ranges (current_of x.of (type_for list h))
+current_listed law list h x is once =
+    law list h x is ∙ ap (kind_of_type (globals_of list).ranges) (current_once x.of (hooked_field h list.units) once)

@@ -1,5 +1,3 @@
-pub mod Noting
-pub mod Rows
 pub mod Handed
-pub mod Parts
+mod Parts
 pub mod Whole

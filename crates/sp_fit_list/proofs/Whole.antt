@@ -1,8 +1,7 @@
 -- A list passes where its constants, functions, hooks and units do.
-use Rattle.std.proofs.Common.{◌≡◌, ℕ, false, List, ◌++◌, Option, Some, None, sym, subst}
+use Rattle.std.proofs.Common.{◌≡◌, ℕ, false, ◌++◌, Some, None, sym, subst}
 use Rattle.std.specs.Prelude.{slice_get}
 use Rattle.sp_methods.specs.Kinds.{Kind}
-use Rattle.sp_types.specs.Types.{Ty}
 use Rattle.sp_typed_units.specs.declared.declarations.Function.{Function}
 use Rattle.sp_typed_units.specs.declared.declarations.Hook.{Hook}
 use Rattle.sp_typed_units.specs.declared.declarations.Typed.{Typed}
@@ -22,9 +21,9 @@ use Rattle.sp_whole_program.specs.Laws.{MembersAreListed, FunctionsAreEntered, C
 use Rattle.sp_whole_program.specs.Fits.{ListFits, UnitFits}
 use Rattle.sp_fit_expr.specs.Passes.{Tables, ConstantsFit}
 use Rattle.sp_fit_list.specs.Passes.{ListPasses}
-use Rattle.sp_fit_list.specs.inside.Stored.{type_for, AreStored}
-use Rattle.sp_fit_list.specs.inside.Bodies.{FunctionPasses, HookPasses}
-use Rattle.sp_fit_list.specs.inside.Units.{UnitPasses}
+use Rattle.sp_fit_list.specs.Stored.{type_for}
+use Rattle.sp_fit_list.specs.Bodies.{FunctionPasses, HookPasses}
+use Rattle.sp_fit_list.specs.Units.{UnitPasses}
 use Rattle.sp_fit_list.proofs.Handed.{handed_nothing, current_listed}
 use Rattle.sp_fit_list.proofs.Parts.{parts_sound, variables_sound}
 
@@ -40,7 +39,7 @@ module _ (members : MembersAreListed) (entered : FunctionsAreEntered) (currents 
         constants = constants;
       }
 
-  module _ (types : List (Option Ty)) (stored : AreStored list types) (hooks : (h : ℕ) (x : Hook) → slice_get list.hooks h ≡ Some x → HookPasses list (type_for types h) x) where
+  module _ (hooks : (h : ℕ) (x : Hook) → slice_get list.hooks h ≡ Some x → HookPasses list (type_for list h) x) where
     -- the statement of a body of a hook, where `$$` is of a kind
     abbrev BodyFits : Plain → Shapes → Hook → Kind → Type 0
     BodyFits p shapes x k =
@@ -49,15 +48,15 @@ module _ (members : MembersAreListed) (entered : FunctionsAreEntered) (currents 
     hook_fits : (p : Plain) (shapes : Shapes) → Tables list p shapes → (h : ℕ) (x : Hook) → slice_get list.hooks h ≡ Some x → BodyFits p shapes x (kind_at (currents_of list) h)
     hook_fits p shapes t h x is =
         let passes = hooks h x is in
-        subst (BodyFits p shapes x) (sym (current_listed currents list types stored h x is passes.once)) (passes.body.fits p shapes t)
+        subst (BodyFits p shapes x) (sym (current_listed currents list h x is passes.once)) (passes.body.fits p shapes t)
 
-    module _ (units : (u : ℕ) (x : TypedUnit) → slice_get list.units u ≡ Some x → UnitPasses list types u x) where
+    module _ (units : (u : ℕ) (x : TypedUnit) → slice_get list.units u ≡ Some x → UnitPasses list u x) where
       unit_fits : (p : Plain) (shapes : Shapes) → Tables list p shapes → (u : ℕ) (x : TypedUnit) → slice_get list.units u ≡ Some x → UnitFits list p shapes u x
       unit_fits p shapes t u x is =
           let passes = units u x is in
           record {
-            variables = (variables_sound list u x passes.around passes.is_around x.variables passes.variables).fits p shapes t;
-            parts = (parts_sound currents list types stored hooks u x (last_order (module_order x.«module» None list.orders) x.orders) (parts x.parts) passes.parts).fits;
+            variables = (variables_sound list u x x.variables passes.variables).fits p shapes t;
+            parts = (parts_sound currents list hooks u x (last_order (module_order x.«module» None list.orders) x.orders) (parts x.parts) passes.parts).fits;
           }
 
       list_fits_in : (p : Plain) (shapes : Shapes) → Tables list p shapes → ListFits list p shapes
@@ -79,10 +78,10 @@ module _ (members : MembersAreListed) (entered : FunctionsAreEntered) (currents 
                 let passes = units u x is in
                 record {
                   plain = passes.plain;
-                  variables = (variables_sound list u x passes.around passes.is_around x.variables passes.variables).are_built;
-                  parts = (parts_sound currents list types stored hooks u x (last_order (module_order x.«module» None list.orders) x.orders) (parts x.parts) passes.parts).are_built;
+                  variables = (variables_sound list u x x.variables passes.variables).are_built;
+                  parts = (parts_sound currents list hooks u x (last_order (module_order x.«module» None list.orders) x.orders) (parts x.parts) passes.parts).are_built;
                   hooks = λ name h y at of. (hooks h y at).body.built;
                 };
             literals = record { functions = λ f x is. (functions f x is).literals; hooks = λ h x is. (hooks h x is).body.literals };
-            values = λ u x is. (variables_sound list u x (units u x is).around (units u x is).is_around x.variables (units u x is).variables).are_literals;
+            values = λ u x is. (variables_sound list u x x.variables (units u x is).variables).are_literals;
           }

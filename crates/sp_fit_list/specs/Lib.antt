@@ -1,3 +1,6 @@
+pub mod Locals
+pub mod Stored
+pub mod Bodies
+pub mod Units
 pub mod Passes
-pub mod inside
 pub mod Rows

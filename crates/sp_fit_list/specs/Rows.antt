@@ -1,30 +1,18 @@
 -- What the definitions say of a few hooks and types.
-use Rattle.std.specs.Prelude.{◌≡◌, true, false, [], ◌∷◌, Some, None, refl}
+use Rattle.std.specs.Prelude.{◌≡◌, true, false, [], Some, None, refl}
 use Rattle.sp_numbers.specs.declared.width.Width.TheVariants.{W8, W16}
 use Rattle.sp_words.specs.declared.words.HookName.TheVariants.{Init, Gap}
 use Rattle.sp_types.specs.declared.words.Word.TheVariants as word_is
 use Rattle.sp_types.specs.Types.{Ty, word}
 use Rattle.sp_typed_units.specs.declared.declarations.HookOf.TheVariants as hook_of
-use Rattle.sp_fit_list.specs.inside.Stored.{where_true, earlier_type, type_for}
-use Rattle.sp_fit_list.specs.inside.Bodies.{is_each_unit, takes_nothing, current_of}
-use Rattle.sp_fit_list.specs.inside.Units.{is_read, is_own, value_is, body_passes}
+use Rattle.sp_fit_list.specs.Bodies.{is_each_unit, takes_nothing, current_of}
+use Rattle.sp_fit_list.specs.Units.{is_read, is_own, value_is, body_passes}
 
 abbrev byte : Ty
 byte = word (word_is.Uint W8)
 
 abbrev short : Ty
 short = word (word_is.Int W16)
-
--- the first field that has a body counts
-first : earlier_type (Some byte) (Some short) ≡ Some byte
-first = refl
-
-second : earlier_type None (where_true true short) ≡ Some short
-second = refl
-
--- a body of no field has no type
-nothing : type_for (Some byte ∷ None ∷ []) 1 ≡ None
-nothing = refl
 
 -- `$$` is what the field of a body stores, and the body of a hook of a unit has none
 stored : current_of (hook_of.Field 0 3) (Some short) ≡ short

@@ -1,12 +1,6 @@
-//! Whether a typed list fits, and all that it is built of has a meaning: a test of one walk, before the list is compiled.
+//! Which typed lists fit in their programs and are built of what has a meaning.
 #![tactic(auto)]
 
-mod bodies;
-mod fields;
-mod hooks;
-mod lists;
-mod locals;
-mod stored;
-mod units;
+mod laws;
 
-pub use lists::list_fits;
+pub use laws::passing_lists_fit;

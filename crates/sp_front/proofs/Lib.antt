@@ -3,3 +3,4 @@ pub mod Following
 pub mod Noting
 pub mod Single
 pub mod FirstNamed
+mod Read

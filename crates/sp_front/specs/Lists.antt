@@ -165,6 +165,10 @@ paths_in fs = map path_of fs
 abbrev pub IsList : Files → List (List ℕ) → List (List ℕ) → List ModuleFile → Type 0
 IsList files names dirs fs = AreEntries files names dirs (entries_of fs) × (stop (entries_of fs) ≡ clear)
 
+-- the text of a file is that of its module
+abbrev pub IsRead : ModuleFile → Type 0
+IsRead f = IsModuleOf f.text f.«module»
+
 -- why an import stops a list: there is no room for one more module, or its file isn't there or holds another module
 abbrev pub IsAskedInVain : Files → List (List ℕ) → List Entry → ModuleFile → Import → Refusal → Type 0
 IsAskedInVain files dirs es f i r =

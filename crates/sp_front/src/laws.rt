@@ -1,8 +1,9 @@
 // To names, files and directories there is one list at most, or one refusal.
 ghost use Rattle.std.specs.Prelude.{◌≡◌, ℕ, List, Option, Some, length, take};
+ghost use Rattle.std.specs.List.{AllByRecursion};
 ghost use Rattle.sp_command.specs.declared.refusal.Refusal.{Refusal};
 ghost use Rattle.sp_front.specs.declared.entries.ModuleFile.{ModuleFile};
-ghost use Rattle.sp_front.specs.Lists.{Files, IsList, IsListRefused, paths_in};
+ghost use Rattle.sp_front.specs.Lists.{Files, IsList, IsListRefused, IsRead, paths_in};
 
 /// What names, files and directories make is one list or one refusal, and not both.
 pub fn list_is_one()
@@ -21,4 +22,10 @@ pub fn list_is_one()
 pub fn named_files_come_first()
     ensures { (files : Files) (names dirs : List (List ℕ)) (list : List ModuleFile)
         → IsList files names dirs list → paths_in (take (length names) list) ≡ names }
+{}
+
+/// The modules of a list are read from the texts of their files.
+pub fn listed_modules_are_read()
+    ensures { (files : Files) (names dirs : List (List ℕ)) (list : List ModuleFile)
+        → IsList files names dirs list → AllByRecursion IsRead list }
 {}

@@ -12,6 +12,6 @@ mod places;
 mod seen;
 
 pub use entries::ModuleFile;
-pub use laws::{list_is_one, named_files_come_first};
+pub use laws::{list_is_one, listed_modules_are_read, named_files_come_first};
 pub use list::read_list;
 pub use places::place_in;

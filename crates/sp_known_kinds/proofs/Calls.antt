@@ -24,10 +24,8 @@ use Rattle.sp_list_rules.specs.Told.{parameter_type, function_takes}
 use Rattle.sp_known_types.specs.Full.{is_full, is_right, is_unknown}
 use Rattle.sp_known_types.proofs.Full.{never, full_is_known}
 use Rattle.sp_known_types.proofs.Tests.{Fine, at_first}
-use Rattle.sp_fit_expr.specs.declared.sorts.Sort.{Sort}
-use Rattle.sp_fit_expr.specs.declared.sorts.Sort.TheVariants.{Void, Vectors, Maps}
+use Rattle.sp_fit_expr.specs.Sorts.{Void, Vectors, Maps, sort_of, same_sort}
 use Rattle.sp_fit_expr.specs.Lists.{arguments_are, sorts_are}
-use Rattle.sp_fit_expr.specs.Sorts.{sort_of, same_sort}
 use Rattle.sp_fit_expr.specs.Test.{is_sort, vector_of, wanted, gives, simple_is, element_is, map_of, value_is, value_or_is, method_is as method_passes, pushes, pops, change_is, call_is}
 use Rattle.sp_known_kinds.specs.Made.{maybe_targeted, are_targeted, given_by, receiver_sort, drops_last}
 use Rattle.sp_known_kinds.proofs.Types.{sort_itself, either}

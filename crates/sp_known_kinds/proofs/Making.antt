@@ -25,8 +25,7 @@ use Rattle.sp_typed.specs.declared.words.ManyOp.{ManyOp}
 use Rattle.sp_typed.specs.declared.words.ManyOp.TheVariants as many_is
 use Rattle.sp_typed.specs.declared.words.NewOf.{NewOf}
 use Rattle.sp_typed.specs.declared.heads.Leaf.{Leaf}
-use Rattle.sp_typed.specs.declared.heads.One.{One}
-use Rattle.sp_typed.specs.Exprs.{Expr, Exprs, leaf, one, two, three, many, exprs, listed, span_of, is_literal, is_number, is_minus, number_leaf, retyped}
+use Rattle.sp_typed.specs.Exprs.{Expr, leaf, one, two, three, many, exprs, listed, span_of, is_literal, is_number, is_minus, number_leaf, retyped}
 use Rattle.sp_typed.specs.Nodes.{holds}
 use Rattle.sp_operands.specs.Operands.{unknown, is_integer, first_type, unary_type, result_type, sort_of}
 use Rattle.sp_operands.specs.Literals.{signed_literal, can_take, taken, seen}
@@ -40,8 +39,8 @@ use Rattle.sp_list_rules.specs.Told.{function_takes}
 use Rattle.sp_known_types.proofs.Full.{never}
 use Rattle.sp_made_nodes.specs.Makes.{Makes}
 use Rattle.sp_made_nodes.proofs.Nodes.{typed_holds}
-use Rattle.sp_fit_expr.specs.declared.around.Around.{Around}
-use Rattle.sp_fit_expr.specs.declared.sorts.Sort.TheVariants.{Units}
+use Rattle.sp_fit_expr.specs.Around.{Around}
+use Rattle.sp_fit_expr.specs.Sorts.{Units}
 use Rattle.sp_fit_expr.specs.Lists.{part_is}
 use Rattle.sp_fit_expr.specs.Test.{is_sort, is_enum, tuple_has, has_member}
 use Rattle.sp_known_kinds.specs.Made.{is_targeted, element_made, is_even, maybe_targeted, are_targeted, given_by, receiver_sort, has_slot, callable_made, member_made, one_made, many_made, leaf_made, is_made, IsMade, AreMade}
@@ -222,7 +221,7 @@ module _ (around : Around) where
   function_call : (g : Names) → AreMade around g → (span : Span) (f : ℕ) (callee : Expr) (es : List Expr) → Made (call_by g span (callee_op (leaf_is.Function f)) callee es)
   function_call g known span f callee es =
       let op = many_is.Call f in
-      let found = slice_get around.list.now.functions f in
+      let found = slice_get around.list.functions f in
       and_from (same (g.result f) (given_by found)) (are_targeted (function_takes found) 0 (exprs (each_to (g.target op unknown) 0 es))) (subst (λ u. same (g.result f) u ≡ true) (known.result f) (same_itself (g.result f)))
       (each_targeted (g.target op unknown) (function_takes found) (λ i. known.target op unknown i refl) 0 es)
 

@@ -1,5 +1,5 @@
 -- What is named round an expression has the type under which it is kept: in a module, behind parameters, locals, `self` and `$$`.
-use Rattle.std.specs.Prelude.{ℕ, ◌≡◌, ◌+◌, ◌==◌, zero, suc, Bool, true, false, not, ◌&&◌, ◌||◌, if◌then◌else◌, List, [], ◌∷◌, Option, Some, None, slice_get}
+use Rattle.std.specs.Prelude.{ℕ, ◌≡◌, ◌+◌, ◌==◌, zero, suc, Bool, true, false, not, ◌&&◌, if◌then◌else◌, List, [], ◌∷◌, Option, Some, None, slice_get}
 use Rattle.std.specs.List.{list_all}
 use Rattle.std.specs.Str.{bytes_eq}
 use Rattle.std.proofs.Common.{refl, sym, ap, ◌∙◌}
@@ -42,10 +42,8 @@ use Rattle.sp_around.specs.Arounds.{Facts, word_leaf, type_leaf, declared_at, me
 use Rattle.sp_list_rules.specs.Told.{function_takes, target_of}
 use Rattle.sp_whole_list.proofs.Modules.{none_found, some_found}
 use Rattle.sp_known_types.proofs.Full.{never}
-use Rattle.sp_fit_expr.specs.declared.around.Around.{Around}
-use Rattle.sp_fit_expr.specs.declared.sorts.Sort.{Sort}
-use Rattle.sp_fit_expr.specs.declared.sorts.Sort.TheVariants.{Bytes, Text, Vectors, Maps}
-use Rattle.sp_fit_expr.specs.Sorts.{same_sort}
+use Rattle.sp_fit_expr.specs.Around.{Around}
+use Rattle.sp_fit_expr.specs.Sorts.{Sort, Bytes, Text, Vectors, Maps, same_sort}
 use Rattle.sp_fit_expr.specs.Test.{is_sort}
 use Rattle.sp_known_kinds.specs.Made.{are_targeted, given_by, receiver_sort, has_slot, callable_made, takes_arguments, member_made, leaf_made, is_made, IsMade, AreMade}
 use Rattle.sp_known_kinds.specs.Kept.{is_kept, LocalsKept, ParametersKept, ConstantsKept}
@@ -250,13 +248,13 @@ module _ (around : Around) where
     meaning_made span path meaning_is.Decoder = refl
     meaning_made span path (meaning_is.Nothing n) = refl
 
-    module _ (gives : (f : ℕ) → function_gives list facts.answers f ≡ given_by (slice_get around.list.now.functions f)) (takes : (f n : ℕ) → slice_get (takes_of list facts.answers f) n ≡ function_takes (slice_get around.list.now.functions f) n) where
-      targets : (op : ManyOp) (t : Ty) (n : ℕ) → takes_arguments op ≡ true → takes_at list facts.answers op t n ≡ target_of around.list.now op t n
+    module _ (gives : (f : ℕ) → function_gives list facts.answers f ≡ given_by (slice_get around.list.functions f)) (takes : (f n : ℕ) → slice_get (takes_of list facts.answers f) n ≡ function_takes (slice_get around.list.functions f) n) where
+      targets : (op : ManyOp) (t : Ty) (n : ℕ) → takes_arguments op ≡ true → takes_at list facts.answers op t n ≡ target_of around.list op t n
       targets (many_is.Call f) t n a = takes f n
       targets (many_is.Method m slot) t n a = refl
       targets _ t n a = never a
 
-      filled_so : (op : ManyOp) (t : Ty) (span : Span) (n : ℕ) → takes_arguments op ≡ true → are_targeted (target_of around.list.now op t) n (exprs (left_out_by op span n)) ≡ true
+      filled_so : (op : ManyOp) (t : Ty) (span : Span) (n : ℕ) → takes_arguments op ≡ true → are_targeted (target_of around.list op t) n (exprs (left_out_by op span n)) ≡ true
       filled_so (many_is.Call f) t span n a = refl
       filled_so (many_is.Method m slot) t span n a = left_out_goes m t span n
       filled_so _ t span n a = never a

@@ -1,4 +1,4 @@
--- An expression in which no rule is broken passes the test before lowering, and so does a place that may be changed.
+-- An expression in which no rule is broken passes the test of what fits, and so does a place that may be changed.
 use Rattle.std.specs.Prelude.{ℕ, Bool, true, false, not, ◌&&◌, ◌||◌, if◌then◌else◌, map, Option, Some, None, slice_get}
 use Rattle.std.proofs.Common.{◌≡◌, refl, sym, ap, ◌∙◌, subst}
 use Rattle.std.proofs.lemmas.Bool.{and_parts, and_from}
@@ -6,7 +6,6 @@ use Rattle.sp_base.specs.declared.places.Span.{Span}
 use Rattle.sp_words.specs.declared.operators.UnaryOp.TheVariants as unary_is
 use Rattle.sp_words.specs.declared.methods.Method.{Method}
 use Rattle.sp_words.specs.Methods.{changes}
-use Rattle.sp_types.specs.declared.words.Word.TheVariants as word_is
 use Rattle.sp_types.specs.declared.words.Maker.{Maker}
 use Rattle.sp_types.specs.declared.words.Maker.TheVariants as maker_is
 use Rattle.sp_types.specs.Types.{Ty, word, made, tys, same, is_known, widens, goes}
@@ -45,11 +44,9 @@ use Rattle.sp_known_types.proofs.Full.{never, full_is_known}
 use Rattle.sp_known_types.proofs.Tests.{Fine, fine_parts, both_false, not_so, at_first, tests_of}
 use Rattle.sp_known_literals.specs.Widened.{is_widen, widens_value}
 use Rattle.sp_whole_list.proofs.None.{holds_both, all_hold_both}
-use Rattle.sp_fit_expr.specs.declared.around.Around.{Around}
-use Rattle.sp_fit_expr.specs.declared.sorts.Sort.TheVariants.{Bools, Unsigned, Signed, Bytes, Text, Units}
-use Rattle.sp_fit_expr.specs.Around.{layout_in}
+use Rattle.sp_fit_expr.specs.Around.{Around}
+use Rattle.sp_fit_expr.specs.Sorts.{Bools, Unsigned, Signed, Bytes, Text, Units, sort_of, takes, is_sized, is_integer as is_integer_sort, casts}
 use Rattle.sp_fit_expr.specs.Lists.{part_is, members_are, all_are, are_in_turn}
-use Rattle.sp_fit_expr.specs.Sorts.{sort_of, takes, is_sized, is_integer as is_integer_sort, casts}
 use Rattle.sp_fit_expr.specs.Test.{is_sort, local_is, two_is_of, three_is, leaf_is_of, one_is_of, one_or_literal, is_enum, has_member, has_range, item_is, tuple_has, tuple_of, vector_with, set_with, map_with, converts, offset_is, call_is, method_is, change_is, member_place, local_place, owner_is, is_index, many_is_of, row_is_of, expr_passes, exprs_pass, change_passes, place_passes}
 use Rattle.sp_known_kinds.specs.Made.{is_targeted, element_made, is_even, are_targeted, given_by, receiver_sort, method_made, unit_method_made, many_made, one_made, two_made, leaf_made, is_made, IsAsked, owner_kept, receiver_kept, keeps_owner, is_operator, has_place, is_row, is_built}
 use Rattle.sp_known_kinds.specs.Kept.{offset_kept}
@@ -420,12 +417,12 @@ module _ (around : Around) (k : Known) (m : ℕ) where
 
   abbrev RowPasses : ManyOp → Ty → Exprs → Type 0
   RowPasses op t es =
-      row_is_of around (row_of op (offset_local (layout_in around) (is_self es))) (kept_so t es) (change_at t es) (exprs_pass around es && many_is_of around op es t) ≡ true
+      row_is_of around (row_of op (offset_local around.places (is_self es))) (kept_so t es) (change_at t es) (exprs_pass around es && many_is_of around op es t) ≡ true
 
   container_passes : (op : ManyOp) (t : Ty) (span : Span) (es : Exprs) → is_container op ≡ true → many_made around op t es ≡ true → Fine (many_op_tests k m op span es) → is_full t ≡ true → all_hold is_right es ≡ true → (Valued es → exprs_pass around es ≡ true) → RowPasses op t es
   container_passes op t span es is given f full r parts =
       let v = many_valued op span es is f in
-      values_alone op (offset_local (layout_in around) (is_self es)) (kept_so t es) (change_at t es) (exprs_pass around es && many_is_of around op es t) is
+      values_alone op (offset_local around.places (is_self es)) (kept_so t es) (change_at t es) (exprs_pass around es && many_is_of around op es t) is
       (and_from (exprs_pass around es) (many_is_of around op es t) (parts v) (many_so op t span es is given f full r v))
 
   method_row : (call : Method) (slot o : Option ℕ) (kept : ℕ → Bool) (change : Method → Option ℕ → Bool) (values : Bool) → (changes call ≡ true → change call slot ≡ true) → (changes call ≡ false → values ≡ true) → row_is_of around (row_of (many_is.Method call slot) o) kept change values ≡ true
@@ -443,7 +440,7 @@ module _ (around : Around) (k : Known) (m : ℕ) where
     call_passes : (f : ℕ) (t : Ty) (span : Span) (es : Exprs) → many_made around (many_is.Call f) t es ≡ true → Fine (many_op_tests k m (many_is.Call f) span es) → is_full t ≡ true → all_hold is_right es ≡ true → (Valued es → exprs_pass around es ≡ true) → RowPasses (many_is.Call f) t es
     call_passes f t span es given tests full r parts =
         let op = many_is.Call f in
-        let found = slice_get around.list.now.functions f in
+        let found = slice_get around.list.functions f in
         let p = and_parts (same t (given_by found)) (are_targeted (function_takes found) 0 es) given in
         let fit = not_so (arguments_fit (k.target op unknown) 0 es) tests.0 in
         let a = arguments_of m (k.target op unknown) (function_takes found) (λ i. asked.target op unknown i) (asked.full f) 0 es fit tests.1 r p.1 in
@@ -471,15 +468,15 @@ module _ (around : Around) (k : Known) (m : ℕ) where
         let change_so_far : changes call ≡ true → change_at t all call slot ≡ true =
         λ c.
         (let may = not_so (may_change k r) (both_false (changes call) (not (may_change k r)) tests.1.1.0 c) in
-        let kept = slot_local (layout_in around) slot in
+        let kept = slot_local around.places slot in
         and_from (place_passes around kept r && exprs_pass around es) (change_is call (is_item_place r) s es t)
         (and_from (place_passes around kept r) (exprs_pass around es) (place may kept owner) (and_parts (expr_passes around r) (exprs_pass around es) each).1)
         (change_so call (is_item_place r) t s es c built q.0 full q.1 of_types)) in
-        method_row call slot (offset_local (layout_in around) (is_self all)) (kept_so t all) (change_at t all) (exprs_pass around all && many_is_of around op all t) change_so_far
+        method_row call slot (offset_local around.places (is_self all)) (kept_so t all) (change_at t all) (exprs_pass around all && many_is_of around op all t) change_so_far
         (λ c. and_from (exprs_pass around all) (method_is call all t) each (method_so call t r es c q.0 full q.1 of_types))
 
     -- the offset of a unit, which a local may have
-    offset_found : (b : Bool) (t : Ty) (l : ℕ) → t ≡ number → offset_local (layout_in around) b ≡ Some l → local_is around l t ≡ true
+    offset_found : (b : Bool) (t : Ty) (l : ℕ) → t ≡ number → offset_local around.places b ≡ Some l → local_is around l t ≡ true
     offset_found true t l own e = subst (λ u. local_is around l u ≡ true) (sym own) (subst (λ o. offset_kept around o ≡ true) e offset)
     offset_found false t l own e = absurd (let z : ⊥ = cc in z)
 
@@ -492,7 +489,7 @@ module _ (around : Around) (k : Known) (m : ℕ) where
         let own = same_is t number p.1 in
         let each = parts ((past, has_type r tests.0), tt) in
         let receiver : is_sort (type_of r) Units ≡ true = subst (λ u. is_sort u Units ≡ true) (seen_is r past) p.0 in
-        offset_row (offset_local (layout_in around) (is_self all)) (kept_so t all) (change_at t all) (exprs_pass around all && offset_is all t)
+        offset_row (offset_local around.places (is_self all)) (kept_so t all) (change_at t all) (exprs_pass around all && offset_is all t)
         (λ l e. and_from (exprs_pass around all) (local_is around l t) each (offset_found (is_self all) t l own e))
         (and_from (exprs_pass around all) (offset_is all t) each (and_from (is_sort (type_of r) Units) (is_sort t Unsigned) receiver (subst (λ u. is_sort u Unsigned ≡ true) (sym own) refl)))
     offset_passes name t span (more r (more e es)) given tests parts =

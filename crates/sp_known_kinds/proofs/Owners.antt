@@ -9,7 +9,6 @@ use Rattle.sp_types.specs.declared.words.Maker.{Maker}
 use Rattle.sp_types.specs.declared.words.Maker.TheVariants as maker_is
 use Rattle.sp_types.specs.Types.{Ty, word, made, tys, same, widens}
 use Rattle.sp_types.specs.Types as types
-use Rattle.sp_typed.specs.declared.heads.Many.{Many}
 use Rattle.sp_typed.specs.declared.words.OneOp.{OneOp}
 use Rattle.sp_typed.specs.declared.words.OneOp.TheVariants as one_is
 use Rattle.sp_typed.specs.declared.words.TwoOp.{TwoOp}
@@ -33,9 +32,8 @@ use Rattle.sp_known_bodies.proofs.Asked.{seen_plain}
 use Rattle.sp_known_bodies.proofs.Kept.{holds_plain}
 use Rattle.sp_known_types.specs.Full.{is_unknown}
 use Rattle.sp_known_literals.specs.Widened.{is_widen, widens_value}
-use Rattle.sp_fit_expr.specs.declared.around.Around.{Around}
-use Rattle.sp_fit_expr.specs.declared.sorts.Sort.TheVariants.{Units}
-use Rattle.sp_fit_expr.specs.Around.{layout_in}
+use Rattle.sp_fit_expr.specs.Around.{Around}
+use Rattle.sp_fit_expr.specs.Sorts.{Units}
 use Rattle.sp_fit_expr.specs.Test.{is_sort, tuple_has}
 use Rattle.sp_known_kinds.specs.Made.{is_targeted, element_made, is_even, maybe_targeted, are_targeted, given_by, receiver_sort, member_made, one_made, two_made, many_made, is_made, owner_kept, receiver_kept, keeps_owner}
 use Rattle.sp_known_kinds.specs.Kept.{SlotsKept}
@@ -174,7 +172,7 @@ module _ (around : Around) where
   many_plain many_is.Set t es = ap (same t) (row_plain maker_is.Set es)
   many_plain many_is.Map t es = ap (λ u. same t u && is_even (all_plain es)) (map_plain es) ∙ ap (λ b. same t (map_type (listed es)) && b) (even_plain es)
   many_plain (many_is.Call f) t es =
-      let found = slice_get around.list.now.functions f in
+      let found = slice_get around.list.functions f in
       ap (λ b. same t (given_by found) && b) (targets_plain (function_takes found) 0 es)
   many_plain (many_is.Method m slot) t none = refl
   many_plain (many_is.Method m slot) t (more r es) =
@@ -204,7 +202,7 @@ module _ (around : Around) where
   none_kept (many h es) = refl
 
   abbrev OwnerKept : Scope → Expr → Option Ty → Type 0
-  OwnerKept sc e o = SlotsKept around (with_owner sc o).slots → owner_kept around (slot_local (layout_in around) (owner_slot sc o)) e ≡ true
+  OwnerKept sc e o = SlotsKept around (with_owner sc o).slots → owner_kept around (slot_local around.places (owner_slot sc o)) e ≡ true
 
   pub owner_so : (sc : Scope) (e : Expr) → OwnerKept sc e (owner e)
   owner_so sc (leaf h) slots = refl

@@ -1,4 +1,4 @@
--- What operators take, by types, and by the sorts of the test before lowering.
+-- What operators take, by types, and by the sorts of the test of what fits.
 use Rattle.std.specs.Prelude.{nat_lt, Bool, true, false, ◌&&◌, ◌||◌, if◌then◌else◌}
 use Rattle.std.proofs.Common.{◌≡◌, refl, subst, ap, ◌∙◌}
 use Rattle.std.proofs.lemmas.Bool.{and_parts, and_from}
@@ -12,9 +12,7 @@ use Rattle.sp_types.specs.Types.{Ty, word, made, same, is_plain, goes, wider_of}
 use Rattle.sp_types.proofs.Same.{same_is}
 use Rattle.sp_operands.specs.Operands.{unknown, is_unsigned, is_signed, is_integer, is_boolean, is_bytes, is_text, is_iterator, has_keys, key_of, sort_of as operator_sort, stands_before, stands_behind, of_one_sign, agree, wider_type, sum_type, result_type, has_size}
 use Rattle.sp_known_types.proofs.Full.{never}
-use Rattle.sp_fit_expr.specs.declared.sorts.Sort.{Sort}
-use Rattle.sp_fit_expr.specs.declared.sorts.Sort.TheVariants.{Void, Enums, Bits, Bools, Unsigned, Signed, Bytes, Text, Places, Tuples, Vectors, Sets, Maps, Units}
-use Rattle.sp_fit_expr.specs.Sorts.{sort_of, same_sort, has_order, booleans, integers, unsigned, added, ordered, compared, held, takes, is_sized}
+use Rattle.sp_fit_expr.specs.Sorts.{Sort, Void, Enums, Bits, Bools, Unsigned, Signed, Bytes, Text, Places, Tuples, Vectors, Sets, Maps, Units, sort_of, same_sort, has_order, booleans, integers, unsigned, added, ordered, compared, held, takes, is_sized}
 
 -- a type is of a sort
 pub boolean_sort : (t : Ty) → is_boolean t ≡ true → sort_of t ≡ Bools

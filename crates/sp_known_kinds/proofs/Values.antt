@@ -17,9 +17,8 @@ use Rattle.sp_known_types.specs.Full.{is_full, is_right, is_unknown}
 use Rattle.sp_known_types.proofs.Full.{never, full_is_known}
 use Rattle.sp_known_types.proofs.Tests.{both_false, not_so}
 use Rattle.sp_known_values.proofs.Literals.{signed_within, negative_within}
-use Rattle.sp_fit_expr.specs.declared.sorts.Sort.{Sort}
+use Rattle.sp_fit_expr.specs.Sorts.{Sort, sort_of, same_sort, is_integer as is_integer_sort, casts}
 use Rattle.sp_fit_expr.specs.Lists.{part_is}
-use Rattle.sp_fit_expr.specs.Sorts.{sort_of, same_sort, is_integer as is_integer_sort, casts}
 use Rattle.sp_fit_expr.specs.Test.{number_is, is_sort}
 use Rattle.sp_known_kinds.proofs.Types.{sort_itself}
 

@@ -9,7 +9,7 @@ use Rattle.sp_names.specs.declared.sort.DeclSort.TheVariants as sort_is
 use Rattle.sp_names.specs.Declarations.{sort_at, number_at}
 use Rattle.sp_around.specs.Methods.{number}
 use Rattle.sp_typing_stmts.specs.Scopes.{Local}
-use Rattle.sp_fit_expr.specs.declared.around.Around.{Around}
+use Rattle.sp_fit_expr.specs.Around.{Around}
 use Rattle.sp_fit_expr.specs.Test.{local_is, seen_parameter}
 use Rattle.sp_known_kinds.specs.Made.{leaf_made}
 

@@ -34,11 +34,8 @@ use Rattle.sp_body_rules.specs.ExprTests.{is_unmeant}
 use Rattle.sp_list_rules.specs.Told.{function_takes, target_of}
 use Rattle.sp_bodies.specs.Exprs.{slot_local, is_item_place}
 use Rattle.sp_known_types.specs.Full.{is_full, is_unknown}
-use Rattle.sp_fit_expr.specs.declared.around.Around.{Around}
-use Rattle.sp_fit_expr.specs.declared.sorts.Sort.{Sort}
-use Rattle.sp_fit_expr.specs.declared.sorts.Sort.TheVariants.{Unsigned, Bytes, Text, Vectors, Maps, Units}
-use Rattle.sp_fit_expr.specs.Around.{layout_in}
-use Rattle.sp_fit_expr.specs.Sorts.{casts}
+use Rattle.sp_fit_expr.specs.Around.{Around}
+use Rattle.sp_fit_expr.specs.Sorts.{Sort, Unsigned, Bytes, Text, Vectors, Maps, Units, casts}
 use Rattle.sp_fit_expr.specs.Test.{is_sort, is_enum, tuple_has, leaf_is_of, has_member, has_range, owner_is}
 
 -- a key that goes to a type is of it, or widened to it
@@ -164,7 +161,7 @@ module _ (around : Around) where
   many_made many_is.Map t es = same t (map_type (listed es)) && is_even es
   many_made (many_is.Convert k) t es = is_enum k t
   many_made (many_is.Call f) t es =
-      same t (given_by (slice_get around.list.now.functions f)) && are_targeted (function_takes (slice_get around.list.now.functions f)) 0 es
+      same t (given_by (slice_get around.list.functions f)) && are_targeted (function_takes (slice_get around.list.functions f)) 0 es
   many_made (many_is.Method m slot) t es = method_made m t es
   many_made (many_is.OfUnit m name) t es = unit_method_made m t es
   many_made op t es = true
@@ -189,14 +186,14 @@ module _ (around : Around) where
     pub left_out : (op : ManyOp) (span : Span) (n : ℕ) → IsTrue (all_hold is_made (exprs (g.left_out op span n)))
     pub member : (t : Ty) (name : List ℕ) (found : Member) → g.member t name ≡ Some found → IsTrue (member_made found.op t found.ty)
     pub method : (t : Ty) (name : List ℕ) (at : Span) (ts : List Ty) (found : Callable) → g.method t name at ts ≡ Some found → IsTrue (callable_made t found.op found.ty)
-    pub result : (f : ℕ) → g.result f ≡ given_by (slice_get around.list.now.functions f)
-    pub target : (op : ManyOp) (t : Ty) (n : ℕ) → IsTrue (takes_arguments op) → g.target op t n ≡ target_of around.list.now op t n
-    pub filled : (op : ManyOp) (t : Ty) (span : Span) (n : ℕ) → IsTrue (takes_arguments op) → IsTrue (are_targeted (target_of around.list.now op t) n (exprs (g.left_out op span n)))
+    pub result : (f : ℕ) → g.result f ≡ given_by (slice_get around.list.functions f)
+    pub target : (op : ManyOp) (t : Ty) (n : ℕ) → IsTrue (takes_arguments op) → g.target op t n ≡ target_of around.list op t n
+    pub filled : (op : ManyOp) (t : Ty) (span : Span) (n : ℕ) → IsTrue (takes_arguments op) → IsTrue (are_targeted (target_of around.list op t) n (exprs (g.left_out op span n)))
 
   -- What the rules ask of calls is what the list says, and parameters of functions have full types.
   pub record IsAsked (k : Known) : Type 0 where
-    pub target : (op : ManyOp) (t : Ty) (n : ℕ) → k.target op t n ≡ target_of around.list.now op t n
-    pub full : (f n : ℕ) (t : Ty) → function_takes (slice_get around.list.now.functions f) n ≡ Some t → IsTrue (is_full t)
+    pub target : (op : ManyOp) (t : Ty) (n : ℕ) → k.target op t n ≡ target_of around.list op t n
+    pub full : (f n : ℕ) (t : Ty) → function_takes (slice_get around.list.functions f) n ≡ Some t → IsTrue (is_full t)
 
   -- The owner of a changed member is kept in a local of its type, where it is kept in one.
   abbrev pub owner_kept : Option ℕ → Expr → Bool
@@ -206,7 +203,7 @@ module _ (around : Around) where
 
   -- so is that of the receiver of a method, by its slot
   abbrev pub receiver_kept : ManyOp → Exprs → Bool
-  receiver_kept (many_is.Method m slot) (more r es) = owner_kept (slot_local (layout_in around) slot) r
+  receiver_kept (many_is.Method m slot) (more r es) = owner_kept (slot_local around.places slot) r
   receiver_kept op es = true
 
   abbrev pub keeps_owner : Expr → Bool

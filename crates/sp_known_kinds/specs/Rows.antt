@@ -19,7 +19,7 @@ use Rattle.sp_typed.specs.declared.words.Standing.TheVariants as stands
 use Rattle.sp_typed.specs.Exprs.{Expr}
 use Rattle.sp_operands.specs.Operands.{unknown, boolean}
 use Rattle.sp_typing.specs.Typing.{leaf_at, one_at, two_at, three_at, many_at, no_call}
-use Rattle.sp_fit_expr.specs.declared.around.Around.{Around}
+use Rattle.sp_fit_expr.specs.Around.{Around}
 use Rattle.sp_known_kinds.specs.Made.{is_made, is_built}
 
 abbrev here : Span

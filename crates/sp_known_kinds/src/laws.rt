@@ -25,7 +25,7 @@ ghost use Rattle.sp_list_rules.specs.Told.{function_takes};
 ghost use Rattle.sp_known_types.specs.Full.{is_right};
 ghost use Rattle.sp_known_types.specs.Clear.{is_clear, any_op};
 ghost use Rattle.sp_known_literals.specs.Widened.{IsWidened};
-ghost use Rattle.sp_fit_expr.specs.declared.around.Around.{Around};
+ghost use Rattle.sp_fit_expr.specs.Around.{Around};
 ghost use Rattle.sp_fit_expr.specs.Test.{expr_passes, place_passes};
 ghost use Rattle.sp_known_kinds.specs.Made.{given_by, leaf_made, member_made, IsMade, AreMade, IsAsked, owner_kept, keeps_owner, is_built};
 ghost use Rattle.sp_known_kinds.specs.Kept.{LocalsKept, ParametersKept, ConstantsKept, OffsetKept, SlotsKept};
@@ -41,8 +41,8 @@ pub fn typing_makes_kinds()
 pub fn names_are_made()
     ensures module { (around : Around) (list : List Tree) (facts : Facts) (m : ℕ)
         → ConstantsKept around list facts.constant
-        → ((f : ℕ) → function_gives list facts.answers f ≡ given_by (slice_get around.list.now.functions f))
-        → ((f n : ℕ) → slice_get (takes_of list facts.answers f) n ≡ function_takes (slice_get around.list.now.functions f) n)
+        → ((f : ℕ) → function_gives list facts.answers f ≡ given_by (slice_get around.list.functions f))
+        → ((f n : ℕ) → slice_get (takes_of list facts.answers f) n ≡ function_takes (slice_get around.list.functions f) n)
         → ((t : Ty) (name : List ℕ) (found : Member) → member_of list facts.stored t name ≡ Some found → IsTrue (member_made around found.op t found.ty))
         → AreMade around (module_names list facts m) }
     ensures locals { (around : Around) (g : Names) (ls : List Local) → AreMade around g → LocalsKept around ls
@@ -65,7 +65,7 @@ pub fn owners_are_kept()
         → IsTrue (holds (keeps_owner around) (kept sc e).0) }
 {}
 
-/// An expression passes the test before lowering, where each node has the type that its form gives, all in it is built, no rule is broken
+/// An expression passes the test of what fits, where each node has the type that its form gives, all in it is built, no rule is broken
 /// at its nodes, each is a value of a full type, what is widened is in its range, owners are kept in locals of their types, and the whole
 /// is no regular expression and no literal past its type. What is asked of the arguments of a call is what the list says of them.
 pub fn expressions_pass()

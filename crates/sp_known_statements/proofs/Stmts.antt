@@ -1,6 +1,6 @@
--- A statement in which no rule is broken passes the test before lowering.
-use Rattle.std.specs.Prelude.{ℕ, ◌+◌, Bool, true, false, not, ◌&&◌, ◌||◌, if◌then◌else◌, List, [], ◌∷◌, ◌++◌, Option, Some, None, is_none}
-use Rattle.std.proofs.Common.{◌≡◌, refl, sym, ◌∙◌, subst}
+-- A statement in which no rule is broken passes the test of what fits.
+use Rattle.std.specs.Prelude.{ℕ, ◌+◌, Bool, true, false, not, ◌&&◌, ◌||◌, if◌then◌else◌, List, [], ◌++◌, Option, Some, None, is_none}
+use Rattle.std.proofs.Common.{◌≡◌, refl, sym, subst}
 use Rattle.std.proofs.lemmas.Bool.{and_parts, and_from}
 use Rattle.sp_base.specs.declared.places.Span.{Span}
 use Rattle.sp_words.specs.declared.operators.AssignOp.{AssignOp}
@@ -43,14 +43,11 @@ use Rattle.sp_known_types.proofs.Tests.{Fine, fine_parts, both_false, not_so, at
 use Rattle.sp_known_types.proofs.Bodies.{Quiet, two_quiet, at_first as first_tests, behind}
 use Rattle.sp_known_literals.specs.Widened.{widens_value}
 use Rattle.sp_whole_list.proofs.None.{holds_both}
-use Rattle.sp_fit_expr.specs.declared.sorts.Sort.TheVariants.{Void, Bools, Unsigned, Text}
-use Rattle.sp_fit_expr.specs.Around.{layout_in}
-use Rattle.sp_fit_expr.specs.Sorts.{sort_of, added, integers}
+use Rattle.sp_fit_expr.specs.Sorts.{Void, Bools, Unsigned, Text, sort_of, added, integers}
 use Rattle.sp_fit_expr.specs.Lists.{part_is}
 use Rattle.sp_fit_expr.specs.Test.{is_sort, expr_passes, exprs_pass, place_passes}
-use Rattle.sp_fit_body.specs.declared.bodies.Returns.{Returns}
-use Rattle.sp_fit_body.specs.declared.bodies.Returns.TheVariants as returns
-use Rattle.sp_fit_body.specs.declared.bodies.Body.{Body}
+use Rattle.sp_fit_body.specs.Bodies.{Returns, Body}
+use Rattle.sp_fit_body.specs.Bodies as returns
 use Rattle.sp_fit_body.specs.Test.{is_index, is_pair, goes_over, is_key, equals, assigns, returns_nothing, returns_value, slot_is, test_passes, key_passes, values_pass, bare_passes, valued_passes, stmt_passes, stmts_pass, branches_pass, cases_pass}
 use Rattle.sp_known_kinds.specs.Made.{is_targeted, element_made, maybe_targeted, two_made, is_made, IsAsked, keeps_owner, is_built}
 use Rattle.sp_known_kinds.specs.Kept.{offset_kept}
@@ -221,11 +218,11 @@ module _ (body : Body) (wanted : Option Ty) (k : Known) (m : ℕ) (asked : IsAsk
 
   -- what is returned
   wanted_full : (x : Returns) (t : Ty) → returns_so x (Some t) ≡ true → is_full t ≡ true
-  wanted_full (returns.Function u) t h = (and_parts (same u.now t) (is_full t) h).1
+  wanted_full (returns.Function u) t h = (and_parts (same u t) (is_full t) h).1
   wanted_full (returns.Hook each) t h = never h
 
   returned : (x : Returns) (t u : Ty) → returns_so x (Some t) ≡ true → same t u ≡ true → returns_value x u ≡ true
-  returned (returns.Function y) t u h e = subst (λ z. same z u ≡ true) (sym (same_is y.now t (and_parts (same y.now t) (is_full t) h).0)) e
+  returned (returns.Function y) t u h e = subst (λ z. same z u ≡ true) (sym (same_is y t (and_parts (same y t) (is_full t) h).0)) e
   returned (returns.Hook each) t u h e = refl
 
   return_so : (o : Option Ty) (e : Expr) → returns_so body.returns o ≡ true → holds ready e ≡ true → holds clear e ≡ true → holds is_right e ≡ true → maybe_targeted o e ≡ true → Fine (return_tests o m e) → (pass e && returns_value body.returns (type_of e)) ≡ true
@@ -255,10 +252,10 @@ module _ (body : Body) (wanted : Option Ty) (k : Known) (m : ℕ) (asked : IsAsk
   key_parts deletes (two_is.Item n) span a b tests asks = never (sym asks.0)
   key_parts deletes (two_is.Binary op) span a b tests asks = never (sym asks.0)
 
-  key_so : (deletes : Bool) (owner : Option ℕ) (e : Expr) → holds ready e ≡ true → holds clear e ≡ true → is_good e ≡ true → owner_ready body wanted owner e ≡ true → Fine (change_tests k m deletes e) → key_passes body.around (not deletes) (slot_local (layout_in body.around) owner) e ≡ true
+  key_so : (deletes : Bool) (owner : Option ℕ) (e : Expr) → holds ready e ≡ true → holds clear e ≡ true → is_good e ≡ true → owner_ready body wanted owner e ≡ true → Fine (change_tests k m deletes e) → key_passes body.around (not deletes) (slot_local body.around.places owner) e ≡ true
   key_so deletes owner (two h a b) i c g kept asks =
       let e = two h a b in
-      let l = slot_local (layout_in body.around) owner in
+      let l = slot_local body.around.places owner in
       let p = and_parts (ready e) (holds ready a && holds ready b) i in
       let q = and_parts (holds ready a) (holds ready b) p.1 in
       let made_here = (and_parts (is_made body.around e) (widens_value e && keeps_owner body.around e) (and_parts (is_built e) (is_made body.around e && (widens_value e && keeps_owner body.around e)) p.0).1).0 in
@@ -323,9 +320,9 @@ module _ (body : Body) (wanted : Option Ty) (k : Known) (m : ℕ) (asked : IsAsk
 
   -- what is assigned to a target
   assign_so : (op : AssignOp) (owner : Option ℕ) (d e : Expr) → holds ready d ≡ true → holds ready e ≡ true → is_targeted (seen d) e ≡ true → owner_ready body wanted owner d ≡ true → holds clear d ≡ true → holds clear e ≡ true → holds is_right d ≡ true → holds is_right e ≡ true → Fine (assign_tests k m op d e)
-      → (place_passes body.around (slot_local (layout_in body.around) owner) d && pass e && assigns op (type_of d) (type_of e)) ≡ true
+      → (place_passes body.around (slot_local body.around.places owner) d && pass e && assigns op (type_of d) (type_of e)) ≡ true
   assign_so op owner d e i j targeted kept c x r s tests =
-      let l = slot_local (layout_in body.around) owner in
+      let l = slot_local body.around.places owner in
       let may = not_so (may_change k d) tests.1.1.0 in
       let past = changed_within k d may in
       let first = at_first is_right d r in

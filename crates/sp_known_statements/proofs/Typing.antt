@@ -11,13 +11,8 @@ use Rattle.sp_types.specs.declared.words.Word.{Word}
 use Rattle.sp_types.specs.declared.words.Word.TheVariants as word_is
 use Rattle.sp_types.specs.Types.{Ty, word, made, same, widens}
 use Rattle.sp_types.proofs.Same.{same_itself}
-use Rattle.sp_typed.specs.declared.heads.One.{One}
 use Rattle.sp_typed.specs.declared.words.OneOp.TheVariants as one_is
 use Rattle.sp_typed.specs.declared.words.Written.{Written}
-use Rattle.sp_typed.specs.declared.stmt_words.BareOp.{BareOp}
-use Rattle.sp_typed.specs.declared.stmt_words.BareOp.TheVariants as bare_is
-use Rattle.sp_typed.specs.declared.stmt_words.ValuedOp.{ValuedOp}
-use Rattle.sp_typed.specs.declared.stmt_words.ValuedOp.TheVariants as valued_is
 use Rattle.sp_typed.specs.Exprs as row_of
 use Rattle.sp_typed.specs.Exprs.{Expr, Exprs, leaf, one, two, three, many, exprs, type_of, span_of, is_literal, retyped, settled}
 use Rattle.sp_typed.specs.Nodes.{holds, all_hold}
@@ -30,13 +25,13 @@ use Rattle.sp_typing_stmts.specs.Scopes.{Local, Scope, with_slot, closed}
 use Rattle.sp_typing_stmts.specs.Visible.{single_name, found_maybe, local_or, with_locals}
 use Rattle.sp_typing_stmts.specs.Owners.{owner, owner_slot, with_owner, changed_owner, kept, all_kept}
 use Rattle.sp_typing_stmts.specs.Values.{value_in, values_in}
-use Rattle.sp_typing_stmts.specs.Statements.{after_local, declared, written_type, written_of, type_or, local_with, local_in, element_type, return_in, cases_of, typed_stmt, typed_stmts, typed_branches, typed_branch, typed_cases, typed_case, typed_body}
+use Rattle.sp_typing_stmts.specs.Statements.{after_local, written_type, written_of, type_or, local_with, local_in, element_type, return_in, cases_of, typed_stmt, typed_stmts, typed_branches, typed_branch, typed_cases, typed_case, typed_body}
 use Rattle.sp_known_types.proofs.Full.{never}
 use Rattle.sp_known_literals.specs.Widened.{widens_value, AreWidened}
 use Rattle.sp_known_literals.proofs.Widening.{typed_is}
 use Rattle.sp_whole_list.proofs.None.{holds_both}
-use Rattle.sp_fit_expr.specs.declared.around.Around.{Around}
-use Rattle.sp_fit_body.specs.declared.bodies.Body.{Body}
+use Rattle.sp_fit_expr.specs.Around.{Around}
+use Rattle.sp_fit_body.specs.Bodies.{Body}
 use Rattle.sp_fit_body.specs.Test.{slot_is}
 use Rattle.sp_known_kinds.specs.Made.{is_targeted, maybe_targeted, is_made, AreMade, keeps_owner, is_built}
 use Rattle.sp_known_kinds.specs.Kept.{is_kept, SlotsKept}

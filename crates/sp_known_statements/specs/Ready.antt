@@ -14,19 +14,17 @@ use Rattle.sp_typing_stmts.specs.Statements.{element_type}
 use Rattle.sp_bodies.specs.Exprs.{slot_local}
 use Rattle.sp_known_types.specs.Full.{is_full}
 use Rattle.sp_known_literals.specs.Widened.{widens_value}
-use Rattle.sp_fit_expr.specs.declared.sorts.Sort.TheVariants.{Void}
-use Rattle.sp_fit_expr.specs.Around.{layout_in}
+use Rattle.sp_fit_expr.specs.Sorts.{Void}
 use Rattle.sp_fit_expr.specs.Test.{is_sort}
-use Rattle.sp_fit_body.specs.declared.bodies.Returns.{Returns}
-use Rattle.sp_fit_body.specs.declared.bodies.Returns.TheVariants as returns
-use Rattle.sp_fit_body.specs.declared.bodies.Body.{Body}
+use Rattle.sp_fit_body.specs.Bodies.{Returns, Body}
+use Rattle.sp_fit_body.specs.Bodies as returns
 use Rattle.sp_fit_body.specs.Test.{slot_is}
 use Rattle.sp_known_kinds.specs.Made.{is_targeted, maybe_targeted, is_made, owner_kept, keeps_owner, is_built}
 
 -- a body returns a value of the type that is wanted, or nothing; that of a hook returns nothing
 abbrev pub returns_so : Returns → Option Ty → Bool
-returns_so (returns.Function t) (Some u) = same t.now u && is_full u
-returns_so (returns.Function t) None = is_sort t.now Void
+returns_so (returns.Function t) (Some u) = same t u && is_full u
+returns_so (returns.Function t) None = is_sort t Void
 returns_so (returns.Hook each) (Some u) = false
 returns_so (returns.Hook each) None = true
 
@@ -48,7 +46,7 @@ module _ (body : Body) (wanted : Option Ty) where
 
   -- the owner of what is changed is kept in a slot of its type
   abbrev pub owner_ready : Option ℕ → Expr → Bool
-  owner_ready owner e = owner_kept body.around (slot_local (layout_in body.around) owner) e
+  owner_ready owner e = owner_kept body.around (slot_local body.around.places owner) e
 
   -- a local has a slot of its type; a break and a continue that are meant stand in a loop; `stop`, `confirm` and `reject` aren't built
   abbrev pub bare_ready : (in_loop : Bool) → BareOp → Bool

@@ -13,8 +13,8 @@ use Rattle.sp_typed.specs.Exprs.{Expr}
 use Rattle.sp_typed.specs.Stmts.{Stmt, block, more_stmts, no_stmts, while_loop}
 use Rattle.sp_typing.specs.Typing.{leaf_at}
 use Rattle.sp_typing_stmts.specs.Statements.{bare_at, valued_at}
-use Rattle.sp_fit_body.specs.declared.bodies.Returns.TheVariants as returns
-use Rattle.sp_fit_body.specs.declared.bodies.Body.{Body}
+use Rattle.sp_fit_body.specs.Bodies as returns
+use Rattle.sp_fit_body.specs.Bodies.{Body}
 use Rattle.sp_known_statements.specs.Declared.{locals_full_in}
 use Rattle.sp_known_statements.specs.Ready.{returns_so, local_ready, stmt_ready}
 

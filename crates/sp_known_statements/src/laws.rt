@@ -19,7 +19,7 @@ ghost use Rattle.sp_known_bodies.specs.Slots.{IsBlind};
 ghost use Rattle.sp_known_bodies.specs.Decided.{DecidesUnder};
 ghost use Rattle.sp_known_bodies.specs.Trees.{is_body};
 ghost use Rattle.sp_known_literals.specs.Widened.{AreWidened};
-ghost use Rattle.sp_fit_body.specs.declared.bodies.Body.{Body};
+ghost use Rattle.sp_fit_body.specs.Bodies.{Body};
 ghost use Rattle.sp_fit_body.specs.Test.{stmt_passes};
 ghost use Rattle.sp_known_kinds.specs.Made.{AreMade, IsAsked};
 ghost use Rattle.sp_known_kinds.specs.Kept.{OffsetKept, SlotsKept};
@@ -36,7 +36,7 @@ pub fn typing_makes_statements()
         → IsReady body b.result false (typed_body b g slots t).0 }
 {}
 
-/// A statement passes the test before lowering, where it is as typing makes it, of what is built and with its slots, no rule is broken at
+/// A statement passes the test of what fits, where it is as typing makes it, of what is built and with its slots, no rule is broken at
 /// its nodes and at the statements in it, each of its expressions is a value of a full type, but that `add` and `delete` may take the key
 /// of a set, and each local that it declares has a full type. What is asked of the arguments of a call is what the list says of them, and
 /// the body returns a value of the type that is wanted, or nothing.

@@ -22,7 +22,7 @@ use Rattle.sp_list_rules.specs.Lists.{all_tests}
 use Rattle.sp_list_rules.specs.Names.{stmt_names}
 use Rattle.sp_list_rules.specs.Told.{known_in, function_takes, parameter_type}
 use Rattle.sp_list_rules.specs.Bodies.{body_tests}
-use Rattle.sp_emit_expr.specs.declared.around.Places.{Places}
+use Rattle.sp_bodies.specs.Globals.{Layout}
 use Rattle.sp_known_types.specs.Full.{is_full}
 use Rattle.sp_known_types.specs.Clear.{none_hold, any_op}
 use Rattle.sp_known_types.specs.Given.{IsKnown}
@@ -33,12 +33,12 @@ use Rattle.sp_known_bodies.specs.Trees.{is_body}
 use Rattle.sp_whole_list.specs.Whole.{is_known_body, is_known_parameter, is_known_function}
 use Rattle.sp_whole_list.proofs.Modules.{none_found, some_found}
 use Rattle.sp_whole_list.proofs.None.{none_parts, none_all, stmt_clear}
-use Rattle.sp_fit_expr.specs.declared.around.Around.{Around}
+use Rattle.sp_fit_expr.specs.Around.{Around}
 use Rattle.sp_fit_expr.specs.Lists.{is_type}
 use Rattle.sp_fit_expr.specs.Test.{local_is, unit_parameter, seen_parameter}
-use Rattle.sp_fit_body.specs.declared.bodies.Body.{Body}
+use Rattle.sp_fit_body.specs.Bodies.{Body}
 use Rattle.sp_fit_body.specs.Test.{stmt_passes}
-use Rattle.sp_fit_list.specs.inside.Locals.{parameter_types}
+use Rattle.sp_fit_list.specs.Locals.{parameter_types}
 use Rattle.sp_known_kinds.specs.Made.{AreMade, IsAsked}
 use Rattle.sp_known_kinds.specs.Kept.{SlotsKept, OffsetKept, ParametersKept}
 use Rattle.sp_known_statements.specs.Built.{stmt_built}
@@ -84,11 +84,11 @@ takes_full (x ∷ xs) zero k t all e =
     parameter_full x.parameters k t (and_parts (list_all is_known_parameter x.parameters) (is_full x.result && is_known_body x.body) p.0).0 e
 takes_full (x ∷ xs) (suc n) k t all e = takes_full xs n k t (and_parts (is_known_function x) (list_all is_known_function xs) all).1 e
 
-pub calls_asked : (t : Typed) (values : Values) (slots : List ℕ) (places : Places) (locals : List Ty) (unit : Option ℕ) → list_all is_known_function t.functions ≡ true → IsAsked (round_of t places locals unit) (known_in t values slots)
+pub calls_asked : (t : Typed) (values : Values) (slots : List ℕ) (places : Layout) (locals : List Ty) (unit : Option ℕ) → list_all is_known_function t.functions ≡ true → IsAsked (round_of t places locals unit) (known_in t values slots)
 calls_asked t values slots places locals unit all = record { target = λ op u n. refl; full = λ n k u e. takes_full t.functions n k u all e }
 
 -- where a body keeps what it is handed: its parameters, and behind these its slots
-abbrev pub handed : ℕ → Places
+abbrev pub handed : ℕ → Layout
 handed own = record { own = own; current = 0; offset = None; first = own }
 
 module _ (t : Typed) (ps : List Parameter) (slots : List Ty) (unit : Option ℕ) where

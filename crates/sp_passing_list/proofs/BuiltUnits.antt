@@ -1,7 +1,7 @@
 -- The units of a list in which no rule is broken and all is built are built of what has a meaning.
 use Rattle.std.specs.Prelude.{Bool, true, false, ◌&&◌, length}
 use Rattle.std.specs.List.{list_all}
-use Rattle.std.proofs.Common.{ℕ, ◌≡◌, zero, suc, refl, sym, ap, subst, ◌∙◌, List, [], ◌∷◌, Option, Some, None, slice_get}
+use Rattle.std.proofs.Common.{ℕ, ◌≡◌, refl, sym, ap, subst, ◌∙◌, List, [], ◌∷◌, Option, Some, None, slice_get}
 use Rattle.std.proofs.lemmas.Bool.{and_parts, and_from}
 use Rattle.sp_ast.specs.Trees.{Tree, Trees}
 use Rattle.sp_ast.specs.Slots.{is_formed}
@@ -34,42 +34,40 @@ use Rattle.sp_hook_rows.specs.Sites.{sites}
 use Rattle.sp_hook_rows.specs.HookRows.{hook_rows, keys_of}
 use Rattle.sp_hook_rows.specs.Places.{key_at}
 use Rattle.sp_declared_values.specs.Answers.{values}
-use Rattle.sp_list_context.specs.Contexts.{facts, homes_of}
+use Rattle.sp_list_context.specs.Contexts.{facts}
 use Rattle.sp_unit_rows.specs.UnitRows.{inside_unit}
 use Rattle.sp_unbuilt.specs.Fields.{kinds_in_unit, kinds_in_units}
 use Rattle.sp_typed_list.specs.Settled.{Answers}
-use Rattle.sp_typed_list.specs.Lists.{typed_of, hooks_in, units_from}
+use Rattle.sp_typed_list.specs.Lists.{typed_of}
 use Rattle.sp_check_unit.specs.Rules.{Breaks}
-use Rattle.sp_bodies.specs.Units.{is_plain, last_order, module_order, integer_field}
+use Rattle.sp_bodies.specs.Units.{is_plain, last_order, module_order, integer_field, unit_layout}
 use Rattle.sp_bodies_end.specs.Built.{IsThere}
 use Rattle.sp_units_end.specs.Built as built
 use Rattle.sp_emit_unit.specs.Values as literals
-use Rattle.sp_emit_expr.specs.declared.around.Places.{Places}
 use Rattle.sp_whole_list.specs.Whole.{is_known_parameter, is_known_member, is_known_variable, is_known_unit, is_known_function}
-use Rattle.sp_whole_list.proofs.Modules.{none_found, some_found}
 use Rattle.sp_whole_list.proofs.None.{none_parts}
 use Rattle.sp_known_constants.specs.Given.{asked}
 use Rattle.sp_known_constants.proofs.Declarations.{AllOf, at_all}
 use Rattle.sp_known_members.proofs.Built.{nothing, two_parts}
 use Rattle.sp_known_members.proofs.Contexts.{home}
 use Rattle.sp_known_members.proofs.Shapes.{is_unit_sort, unit_tree}
-use Rattle.sp_known_members.proofs.Units.{IsDeclared, all_declared, found_at, fine, items, ps, fields, row_here, row_is, suits, items_are_fine, tests, names}
+use Rattle.sp_known_members.proofs.Units.{found_at, fine, items, ps, fields, row_here, suits, items_are_fine, tests, names}
 use Rattle.sp_passing_list.proofs.BuiltTrees.{IsBuilt, AreBuilt, built_passes}
 use Rattle.sp_known_hooks.proofs.Walks.{unit_passes, type_passes, declared_passes}
-use Rattle.sp_fit_expr.specs.declared.around.Around.{Around}
+use Rattle.sp_fit_expr.specs.Around.{Around}
 use Rattle.sp_fit_expr.specs.Lists.{is_type}
 use Rattle.sp_fit_expr.specs.Test.{parameter_type, parameter_is, expr_passes}
 use Rattle.sp_fit_expr.proofs.Sound.{expr_sound}
-use Rattle.sp_fit_list.specs.inside.Bodies.{HookPasses}
-use Rattle.sp_fit_list.specs.inside.Locals.{unit_types}
-use Rattle.sp_fit_list.specs.inside.Units.{has_member, UnitPasses}
-use Rattle.sp_fit_list.specs.inside.Units as fit
+use Rattle.sp_fit_list.specs.Bodies.{HookPasses}
+use Rattle.sp_fit_list.specs.Locals.{unit_types}
+use Rattle.sp_fit_list.specs.Units.{has_member, unit_around, UnitPasses}
+use Rattle.sp_fit_list.specs.Units as fit
 use Rattle.sp_known_kinds.specs.Made.{AreMade}
 use Rattle.sp_known_kinds.proofs.Names.{parameters_made, self_made}
 use Rattle.sp_known_literals.specs.Widened.{AreWidened}
 use Rattle.sp_passing_list.specs.Built.{unit_built}
 use Rattle.sp_passing_list.specs.Stored.{value_stored, variables_stored, UnitStores}
-use Rattle.sp_passing_list.proofs.Members.{round_of, unit_get}
+use Rattle.sp_passing_list.proofs.UnitRows.{row_found, of_row}
 use Rattle.sp_passing_list.proofs.Names.{home_made, home_widens, parameters_widen, self_widens}
 use Rattle.sp_passing_list.proofs.Bodies.{calls_asked}
 use Rattle.sp_passing_list.proofs.FunctionBodies.{each_at}
@@ -79,10 +77,6 @@ use Rattle.sp_passing_list.proofs.Plain.{no_sinks, no_filters}
 use Rattle.sp_passing_list.proofs.Owned.{AreOwned, module_owned, parameters_owned, self_owned}
 use Rattle.sp_passing_list.proofs.Fields.{AllFields, items_so}
 use Rattle.sp_passing_list.proofs.Units.{ValuePasses, VariablePasses, variables_are, each_passes}
-
--- where the expressions of a unit have what they see
-abbrev pub unit_places : Places
-unit_places = record { own = 0; current = 1; offset = None; first = 3 }
 
 plain_so : (filter : Bool) (sinks : List Sink) → filter ≡ false → sinks ≡ [] → is_plain filter sinks ≡ true
 plain_so filter sinks f s = ap (λ b. is_plain b sinks) f ∙ ap (is_plain false) s
@@ -140,18 +134,16 @@ module _ (list : List Tree) (a : Answers list) (formed_list : list_all is_formed
     inside = inside_unit n own outer
 
     abbrev pub around : Around
-    around = round_of t unit_places unit_types (Some n)
+    around = unit_around t n
 
-    pub row_found : slice_get t.units n ≡ Some the_row
-    row_found =
-        let hs = hooks_in list f (told a.values) a.stored (sites list) (hook_rows list f) in
-        unit_get list f (told a.values) a.stored (sites list) (hook_rows list f) hs n g d at is ∙ ap Some (row_is list a formed_list unbroken n g d (fine list a formed_list unbroken n g d at is sort).1 at is)
+    row_at : slice_get t.units n ≡ Some the_row
+    row_at = row_found list a formed_list unbroken n g d at is sort
 
     -- all that is named round its expressions is kept
     inside_made : AreMade around inside
     inside_made =
-        let outer_made = home_made list a formed_list unbroken unit_places unit_types (Some n) m in
-        let kept = λ (k : ℕ) (p : Parameter) (e : slice_get own k ≡ Some p). seen_behind around 0 k p.ty refl (subst (λ o. parameter_is o k p.ty ≡ true) (sym row_found) (parameter_there own k p e)) in
+        let outer_made = home_made list a formed_list unbroken unit_layout unit_types (Some n) m in
+        let kept = λ (k : ℕ) (p : Parameter) (e : slice_get own k ≡ Some p). seen_behind around 0 k p.ty refl (subst (λ o. parameter_is o k p.ty ≡ true) (sym row_at) (parameter_there own k p e)) in
         self_made around (with_parameters 0 false own outer) (word (word_is.Unit n)) standing_is.Meant (parameters_made around outer 0 false own outer_made kept) (equal_itself n)
 
     inside_wide : AreWidened inside
@@ -169,12 +161,12 @@ module _ (list : List Tree) (a : Answers list) (formed_list : list_all is_formed
         let p = none_parts (all_tests (parameter_tests m) the_row.parameters) _ (tests list a formed_list unbroken n g d at is sort) in
         let q = none_parts (all_tests (order_tests k) the_row.orders) _ p.1 in
         let o = none_parts (all_tests (variable_tests k m the_row.members) the_row.variables) _ q.1 in
-        let right = each_at is_known_unit t.units n the_row row_found known in
+        let right = each_at is_known_unit t.units n the_row row_at known in
         let r = and_parts (list_all is_known_parameter the_row.parameters) _ right in
         let s = and_parts (list_all is_known_member the_row.members) _ r.1 in
         let u = and_parts (list_all is_known_variable the_row.variables) _ s.1 in
-        each_passes around inside inside_made inside_wide inside_owned k m (calls_asked t (values_of t) [] unit_places unit_types (Some n) functions) refl the_row.members the_row.variables (variables_are inside known_fields here)
-        (each_at unit_built t.units n the_row row_found all_built) u.0 y.0 o.0
+        each_passes around inside inside_made inside_wide inside_owned k m (calls_asked t (values_of t) [] unit_layout unit_types (Some n) functions) refl the_row.members the_row.variables (variables_are inside known_fields here)
+        (each_at unit_built t.units n the_row row_at all_built) u.0 y.0 o.0
 
     -- nothing in its tree isn't built
     items_built : AreBuilt here
@@ -187,7 +179,7 @@ module _ (list : List Tree) (a : Answers list) (formed_list : list_all is_formed
     -- its fields
     pub all_fields : AllFields inside (values list f (told a.values)) known_fields (parts the_row.parts)
     all_fields =
-        let k = each_at (λ u. nothing (kinds_in_unit u)) t.units n the_row row_found (each_nothing t.units kinds) in
+        let k = each_at (λ u. nothing (kinds_in_unit u)) t.units n the_row row_at (each_nothing t.units kinds) in
         items_so inside (values list f (told a.values)) known_fields list f m m here (suits list a formed_list unbroken n g d at is sort).1 (items_are_fine list a formed_list unbroken n g d at is sort) items_built k
 
     -- each part is an integer, whatever the byte order
@@ -225,11 +217,9 @@ module _ (list : List Tree) (a : Answers list) (formed_list : list_all is_formed
         by None h is = refl
         by (Some e) h is = and_from (expr_passes around e) (fit.member_is_of (slice_get members v.member) (type_of e)) h is
 
-    row_passes : (types : List (Option Ty)) → UnitStores t types n the_row → UnitPasses t types n the_row
-    row_passes types stores = record {
+    row_passes : UnitStores t n the_row → UnitPasses t n the_row
+    row_passes stores = record {
       plain = plain_so the_row.filter the_row.sinks (no_filters here items_built) (no_sinks known_fields here items_built);
-      around = around;
-      is_around = record { same_list = refl; own = refl; current = refl; offset = refl; first = refl; locals = refl; unit = refl };
       variables = variables_so the_row.members the_row.variables variables_pass stores.variables;
       parts = stores.parts;
     }
@@ -245,38 +235,15 @@ module _ (list : List Tree) (a : Answers list) (formed_list : list_all is_formed
     row_fits : literals.ValuesFit the_row.variables
     row_fits = (values_built the_row.variables variables_pass).1
 
-  -- a unit is the row of its declaration
-  pub record IsOfRow (n : ℕ) (x : TypedUnit) : Type 0 where
-    pub g : ℕ
-    pub d : Declaration
-    pub at : slice_get (all_of sort_is.Unit list) n ≡ Some g
-    pub is : declaration_at list g ≡ Some d
-    pub sort : is_unit_sort (sort_of d.tree) ≡ true
-    pub same : the_row n g d at is sort ≡ x
-
-  rows_end : (h : ℕ) (gs : List ℕ) (n : ℕ) → slice_get gs n ≡ None → slice_get (units_from list f (told a.values) a.stored (sites list) (hook_rows list f) (hooks_in list f (told a.values) a.stored (sites list) (hook_rows list f)) h (homes_of list f (told a.values) (told a.stored) gs)) n ≡ None
-  rows_end h [] n e = refl
-  rows_end h (g ∷ gs) zero e = none_found g (sym e)
-  rows_end h (g ∷ gs) (suc n) e = rows_end (suc h) gs n e
-
-  pub of_row : (n : ℕ) (x : TypedUnit) → slice_get t.units n ≡ Some x → IsOfRow n x
-  of_row n x listed = by (slice_get (all_of sort_is.Unit list) n) refl
-    where
-      by : (o : Option ℕ) → slice_get (all_of sort_is.Unit list) n ≡ o → IsOfRow n x
-      by None e = none_found x (sym (rows_end 0 (all_of sort_is.Unit list) n e) ∙ listed)
-      by (Some g) e =
-          let w = at_all (IsDeclared list) (all_of sort_is.Unit list) n g (all_declared list) e in
-          record { g = g; d = w.0; at = e; is = w.1; sort = w.2; same = some_found (the_row n g w.0 e w.1 w.2) x (sym (row_found n g w.0 e w.1 w.2) ∙ listed) }
-
   -- Units are built, and the literals in the values of their variables are of their types.
   pub units_built : (n : ℕ) (x : TypedUnit) → slice_get t.units n ≡ Some x → built.UnitIsBuilt t n x
-  units_built n x listed = (let r = of_row n x listed in subst (built.UnitIsBuilt t n) r.same (row_built n r.g r.d r.at r.is r.sort))
+  units_built n x listed = (let r = of_row list a formed_list unbroken n x listed in subst (built.UnitIsBuilt t n) r.same (row_built n r.g r.d r.at r.is r.sort))
 
   pub units_fit : (n : ℕ) (x : TypedUnit) → slice_get t.units n ≡ Some x → literals.ValuesFit x.variables
-  units_fit n x listed = (let r = of_row n x listed in subst (λ (y : TypedUnit). literals.ValuesFit y.variables) r.same (row_fits n r.g r.d r.at r.is r.sort))
+  units_fit n x listed = (let r = of_row list a formed_list unbroken n x listed in subst (λ (y : TypedUnit). literals.ValuesFit y.variables) r.same (row_fits n r.g r.d r.at r.is r.sort))
 
   -- Units pass where their variables and fields store what their rows have.
-  pub units_pass : (types : List (Option Ty)) (n : ℕ) (x : TypedUnit) → slice_get t.units n ≡ Some x → UnitStores t types n x → UnitPasses t types n x
-  units_pass types n x listed =
-      let r = of_row n x listed in
-      subst (λ (y : TypedUnit). UnitStores t types n y → UnitPasses t types n y) r.same (row_passes n r.g r.d r.at r.is r.sort types)
+  pub units_pass : (n : ℕ) (x : TypedUnit) → slice_get t.units n ≡ Some x → UnitStores t n x → UnitPasses t n x
+  units_pass n x listed =
+      let r = of_row list a formed_list unbroken n x listed in
+      subst (λ (y : TypedUnit). UnitStores t n y → UnitPasses t n y) r.same (row_passes n r.g r.d r.at r.is r.sort)

@@ -37,9 +37,9 @@ use Rattle.sp_known_constants.proofs.Enums.{test_at}
 use Rattle.sp_known_constants.proofs.Places.{constant_there, constant_fits}
 use Rattle.sp_known_constants.proofs.Rounds.{constant_answered}
 use Rattle.sp_unbroken_list.proofs.Lists.{are_unbroken}
-use Rattle.sp_fit_expr.specs.declared.around.Around.{Around}
+use Rattle.sp_fit_expr.specs.Around.{Around}
 use Rattle.sp_fit_expr.specs.Test.{has_value, constant_is_of}
-use Rattle.sp_emit_expr.specs.declared.around.Places.{Places}
+use Rattle.sp_bodies.specs.Globals.{Layout}
 use Rattle.sp_known_kinds.specs.Kept.{ConstantsKept}
 use Rattle.sp_passing_list.proofs.Members.{round_of, found_below}
 
@@ -91,7 +91,7 @@ module _ (list : List Tree) (f : ℕ → Option Ty) (known : ℕ → Option Answ
   pub constant_listed : (n : ℕ) (x : Constant) → slice_get (typed_constants list f known) n ≡ Some x → n < length (constants list f)
   constant_listed n x at = (let lt = found_below (typed_constants list f known) n x at in let count = as_many (rows list) 0 in omega (arith, lt, count))
 
-module _ (list : List Tree) (a : Answers list) (formed_list : list_all is_formed list ≡ true) (unbroken : (x : Fault) → Breaks list x → ⊥) (places : Places) (locals : List Ty) (unit : Option ℕ) where
+module _ (list : List Tree) (a : Answers list) (formed_list : list_all is_formed list ≡ true) (unbroken : (x : Fault) → Breaks list x → ⊥) (places : Layout) (locals : List Ty) (unit : Option ℕ) where
   abbrev f : ℕ → Option Ty
   f = told a.types
 

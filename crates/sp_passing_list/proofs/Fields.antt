@@ -29,7 +29,7 @@ use Rattle.sp_known_constants.proofs.Fine.{formed, inside, first, rest}
 use Rattle.sp_known_members.proofs.Built.{nothing, two_parts}
 use Rattle.sp_known_members.proofs.Shapes.{no_first, field_parts, field_whole}
 use Rattle.sp_passing_list.proofs.BuiltTrees.{IsBuilt, AreBuilt, built_passes, at_tree}
-use Rattle.sp_fit_list.specs.inside.Units.{is_read}
+use Rattle.sp_fit_list.specs.Units.{is_read}
 use Rattle.sp_passing_list.proofs.Readings.{first_built, rest_built, row_built, orders_alone, no_conversion, counted_reads}
 
 no_word : (text : List ℕ) (m n : ℕ) (o : Option Tree) → nothing (word_tests text m n o) ≡ true → o ≡ None

@@ -59,11 +59,11 @@ use Rattle.sp_unbroken_list.proofs.Split.{declared_names, are_named, are_asked}
 use Rattle.sp_unbroken_list.proofs.Functions.{is_function_sort, whole, IsWhole, shape}
 use Rattle.sp_unbroken_list.proofs.Bodies.{module_told, module_is_known}
 use Rattle.sp_unbroken_list.proofs.Lists.{are_unbroken}
-use Rattle.sp_fit_body.specs.declared.bodies.Body.{Body}
-use Rattle.sp_fit_body.specs.declared.bodies.Returns.TheVariants as returns
+use Rattle.sp_fit_body.specs.Bodies.{Body}
+use Rattle.sp_fit_body.specs.Bodies as returns
 use Rattle.sp_fit_body.specs.Passes.{StmtPasses}
 use Rattle.sp_fit_body.proofs.Sound.{stmt_sound}
-use Rattle.sp_fit_list.specs.inside.Bodies.{FunctionPasses}
+use Rattle.sp_fit_list.specs.Bodies.{FunctionPasses}
 use Rattle.sp_fit_list.proofs.Handed.{locals_listed}
 use Rattle.sp_known_kinds.proofs.Names.{parameters_made}
 use Rattle.sp_known_statements.specs.Ready.{returns_so}
@@ -84,7 +84,7 @@ wanted_is g absent = refl
 wanted_is g (row ts) = refl
 wanted_is g (node form span ts) = refl
 
-gives_back : (g : Names) (result : Tree) → is_full (or_void (written_type g result)) ≡ true → returns_so (returns.Function (record { ref_ptr = (0, 0); now = or_void (written_type g result) })) (written_type g result) ≡ true
+gives_back : (g : Names) (result : Tree) → is_full (or_void (written_type g result)) ≡ true → returns_so (returns.Function (or_void (written_type g result))) (written_type g result) ≡ true
 gives_back g absent full = refl
 gives_back g (row ts) full = (let u = g.type_in (row ts) in and_from (same u u) (is_full u) (same_itself u) full)
 gives_back g (node form span ts) full = (let u = g.type_in (node form span ts) in and_from (same u u) (is_full u) (same_itself u) full)
@@ -139,7 +139,7 @@ module _ (list : List Tree) (a : Answers list) (formed_list : list_all is_formed
       let q2 = none_parts (option_tests (plain_tests m x.result) x.written) (given_tests t values wanted x) q1.1 in
       let q3 = none_parts (end_tests wanted m x.span x.body) (body_tests k wanted m x.body) q2.1 in
       let asks = subst (λ w. none_hold (body_tests k w m x.body) ≡ true) (wanted_is g result) q3.1 in
-      let of : Body = record { around = round; returns = returns.Function (record { ref_ptr = (0, 0); now = x.result }) } in
+      let of : Body = record { around = round; returns = returns.Function x.result } in
       let passes = body_so of inner (body_giving (written_type g result)) k m (types m) (paths m) (known_blind t values slots) seen under (parameters_made round g 0 false parameters (home_made list a formed_list unbroken (handed _) _ None m) (parameters_kept t parameters x.slots None)) (parameters_widen g 0 false parameters (home_widens list a formed_list unbroken m)) (calls_asked t values slots (handed _) _ None known) refl (gives_back g result a2.0) body (block_is m p span name ps result body h) (slots_kept t parameters x.slots None) built_here names asks a2.1 in
       let ranges = (globals_of t).ranges in
       subst (λ (ks : List Kind). StmtPasses t (function_layout x) ks None (OfFunction (kind_of_type ranges x.result)) false x.body) (locals_listed ranges parameters x.slots) (stmt_sound of false x.body passes)

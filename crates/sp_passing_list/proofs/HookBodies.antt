@@ -28,11 +28,10 @@ use Rattle.sp_list_rules.specs.Told.{known_in, values_of}
 use Rattle.sp_list_rules.specs.Bodies.{parameter_tests, priority_tests, body_tests, own_hook_tests}
 use Rattle.sp_body_rules.specs.ExprTests.{is_unmeant}
 use Rattle.sp_running.specs.Types.{kind_of_type}
-use Rattle.sp_bodies.specs.Globals.{globals_of}
+use Rattle.sp_bodies.specs.Globals.{Layout, globals_of}
 use Rattle.sp_bodies.specs.Calls.{has_current, is_foreach}
 use Rattle.sp_code.specs.Shapes.{OfHook}
 use Rattle.sp_program.specs.Routines.{hook_unit, parameter_kinds, slot_kinds}
-use Rattle.sp_emit_expr.specs.declared.around.Places.{Places}
 use Rattle.sp_known_types.specs.Full.{is_full}
 use Rattle.sp_known_types.specs.Clear.{none_hold, any_op}
 use Rattle.sp_known_types.specs.Given.{IsKnown}
@@ -47,14 +46,14 @@ use Rattle.sp_whole_list.proofs.Modules.{none_found}
 use Rattle.sp_whole_list.proofs.Heads.{parameters_full}
 use Rattle.sp_whole_list.proofs.None.{none_parts}
 use Rattle.sp_known_hooks.proofs.Hooks.{is_hook_body, is_hook, inside_known, inside_decides}
-use Rattle.sp_fit_expr.specs.declared.around.Around.{Around}
+use Rattle.sp_fit_expr.specs.Around.{Around}
 use Rattle.sp_fit_expr.specs.Test.{local_is, unit_parameter}
-use Rattle.sp_fit_body.specs.declared.bodies.Returns.TheVariants as returns
+use Rattle.sp_fit_body.specs.Bodies as returns
 use Rattle.sp_fit_body.specs.Passes.{StmtPasses}
 use Rattle.sp_fit_body.specs.Test.{stmt_passes}
 use Rattle.sp_fit_body.proofs.Sound.{stmt_sound}
-use Rattle.sp_fit_list.specs.inside.Locals.{parameter_types}
-use Rattle.sp_fit_list.specs.inside.Bodies.{parameter_layout, current_of, HookBodyPasses, HookPasses}
+use Rattle.sp_fit_list.specs.Locals.{parameter_types}
+use Rattle.sp_fit_list.specs.Bodies.{parameter_layout, current_of, HookBodyPasses, HookPasses}
 use Rattle.sp_fit_list.proofs.Handed.{locals_listed, plain_hook}
 use Rattle.sp_known_kinds.specs.Made.{AreMade, IsAsked}
 use Rattle.sp_known_kinds.specs.Kept.{SlotsKept, OffsetKept, ParametersKept}
@@ -67,7 +66,7 @@ use Rattle.sp_passing_list.proofs.Bodies.{stands_behind, type_is, handed, body_r
 use Rattle.sp_passing_list.proofs.Seen.{self_leaf, no_current, no_own, nothing_taken, run_once, seen_behind}
 
 -- where a body keeps `$$`, an offset, and behind these its slots
-abbrev beside : Places
+abbrev beside : Layout
 beside = record { own = 0; current = 0; offset = Some 1; first = 2 }
 
 -- a body of a hook with `$$` is one
@@ -83,16 +82,16 @@ current_hook list o x has h =
     (sym has)
     h
 
-module _ (t : Typed) (known : list_all is_known_function t.functions ≡ true) (g : Names) (wide : AreWidened g) (made : (places : Places) (locals : List Ty) (unit : Option ℕ) → AreMade (round_of t places locals unit) g) (s : Site) (is_type_tree is_path : Tree → Bool)
+module _ (t : Typed) (known : list_all is_known_function t.functions ≡ true) (g : Names) (wide : AreWidened g) (made : (places : Layout) (locals : List Ty) (unit : Option ℕ) → AreMade (round_of t places locals unit) g) (s : Site) (is_type_tree is_path : Tree → Bool)
     (known_here : (slots : List ℕ) → IsKnown g any_op (known_in t (values_of t) slots) s.«module» is_type_tree is_path) (told_here : (slots : List ℕ) → AreTold g any_op (known_in t (values_of t) slots) s.«module» (values_of t) is_path)
     (units : List Parameter) (something : is_of_nothing s.of ≡ false) (units_full : parameters_full units ≡ true) (current : (is_unmeant (current_standing s.of) || is_full (current_type s.of s.current)) ≡ true)
-    (keeps : (places : Places) (locals : List Ty) (n : ℕ) (p : Parameter) → slice_get units n ≡ Some p → unit_parameter (round_of t places locals (hook_unit s.of)) (hook_unit s.of) n p.ty ≡ true)
+    (keeps : (places : Layout) (locals : List Ty) (n : ℕ) (p : Parameter) → slice_get units n ≡ Some p → unit_parameter (round_of t places locals (hook_unit s.of)) (hook_unit s.of) n p.ty ≡ true)
     (single : is_of_elements s.of ≡ false) where
   abbrev m : ℕ
   m = s.«module»
 
   -- all that is named in a hook is kept, where its own parameters and `$$` are
-  inside_made : (places : Places) (locals : List Ty) (own : List Parameter) → places.own ≡ length own → ParametersKept (round_of t places locals (hook_unit s.of)) 0 own
+  inside_made : (places : Layout) (locals : List Ty) (own : List Parameter) → places.own ≡ length own → ParametersKept (round_of t places locals (hook_unit s.of)) 0 own
       → (is_unmeant (current_standing s.of) || local_is (round_of t places locals (hook_unit s.of)) places.current (current_type s.of s.current)) ≡ true → AreMade (round_of t places locals (hook_unit s.of)) (hook_around s.of s.current units own g)
   inside_made places locals own are kept here =
       let around = round_of t places locals (hook_unit s.of) in

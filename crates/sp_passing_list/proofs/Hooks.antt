@@ -48,9 +48,9 @@ use Rattle.sp_known_hooks.proofs.Contexts.{module_is}
 use Rattle.sp_known_hooks.proofs.Seen.{all_own}
 use Rattle.sp_known_hooks.proofs.Rows.{RowGood, rows_good}
 use Rattle.sp_known_hooks.proofs.Lists.{of_written, own_tests, all_fine, current_full, unit_parameters, env_known, env_told}
-use Rattle.sp_emit_expr.specs.declared.around.Places.{Places}
+use Rattle.sp_bodies.specs.Globals.{Layout}
 use Rattle.sp_fit_expr.specs.Test.{unit_parameter}
-use Rattle.sp_fit_list.specs.inside.Bodies.{current_of, HookPasses}
+use Rattle.sp_fit_list.specs.Bodies.{current_of, HookPasses}
 use Rattle.sp_passing_list.specs.Built.{hook_built}
 use Rattle.sp_passing_list.specs.Hooked.{seen_in}
 use Rattle.sp_passing_list.proofs.Members.{round_of}
@@ -127,7 +127,7 @@ module _ (list : List Tree) (a : Answers list) (formed_list : list_all is_formed
     abbrev own_units : List Parameter
     own_units = parameters_of all_units (unit_of r.of)
 
-    keeps : (places : Places) (kinds : List Ty) (n : ℕ) (p : Parameter) → slice_get own_units n ≡ Some p → unit_parameter (round_of t places kinds (hook_unit r.of)) (hook_unit r.of) n p.ty ≡ true
+    keeps : (places : Layout) (kinds : List Ty) (n : ℕ) (p : Parameter) → slice_get own_units n ≡ Some p → unit_parameter (round_of t places kinds (hook_unit r.of)) (hook_unit r.of) n p.ty ≡ true
     keeps places kinds n p e = unit_keeps list a places kinds (hook_unit r.of) n p (sym (ap (λ u. slice_get (parameters_of all_units u) n) (same_unit r.of)) ∙ e)
 
     whole : is_of_elements r.of ≡ false → is_of_elements r.of ≡ true → is_some (seen r).1 ≡ true

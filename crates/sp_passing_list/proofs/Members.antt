@@ -24,7 +24,7 @@ use Rattle.sp_names.specs.Types.{bitfields}
 use Rattle.sp_typing.specs.declared.context.Member.{Member}
 use Rattle.sp_typing.specs.Contexts.{Around as Names}
 use Rattle.sp_running.specs.Types.{ranges_of}
-use Rattle.sp_bodies.specs.Globals.{range_counts}
+use Rattle.sp_bodies.specs.Globals.{Layout, range_counts}
 use Rattle.sp_around.specs.Members.{UnitMember, members_of, unit_members, declared_unit, numbered, kinds_of, range_name, range_number, bitfield_width, bitfield_ranges, bitfield_tree, tree_of}
 use Rattle.sp_around.specs.Arounds.{stored_by, kind_type, kind_member, some_member, unit_member, width_type, bit_member, member_of}
 use Rattle.sp_list_context.specs.Contexts.{in_module, homes_of, at_home}
@@ -40,21 +40,19 @@ use Rattle.sp_unit_rows.specs.UnitRows.{member_rows, declared_row, unit_row}
 use Rattle.sp_typed_list.specs.Settled.{Answers}
 use Rattle.sp_typed_list.specs.Lists.{calls_of, by_keys, hooks_in, units_from, typed_of}
 use Rattle.sp_whole_list.proofs.Modules.{none_found, some_found}
-use Rattle.sp_fit_expr.specs.declared.around.Around.{Around}
-use Rattle.sp_fit_expr.specs.declared.sorts.Sort.TheVariants.{Unsigned}
-use Rattle.sp_fit_expr.specs.Sorts.{casts}
+use Rattle.sp_fit_expr.specs.Around.{Around}
+use Rattle.sp_fit_expr.specs.Sorts.{Unsigned, casts}
 use Rattle.sp_fit_expr.specs.Lists.{is_type}
 use Rattle.sp_fit_expr.specs.Test.{member_type, member_is}
-use Rattle.sp_emit_expr.specs.declared.around.Places.{Places}
 use Rattle.sp_known_types.specs.Full.{is_unknown}
 use Rattle.sp_known_kinds.specs.Made.{member_made}
 
 -- what stands round the code of an expression of a typed list
-abbrev pub round_of : Typed → Places → List Ty → Option ℕ → Around
+abbrev pub round_of : Typed → Layout → List Ty → Option ℕ → Around
 round_of t places locals unit = record {
-  list = record { ref_ptr = (0, 0); now = t };
+  list = t;
   places = places;
-  locals = record { ref_ptr = (0, 0); now = locals };
+  locals = locals;
   unit = unit;
 }
 
@@ -179,7 +177,7 @@ module _ (list : List Tree) (a : Answers list) where
       by None at h = none_found kind h
       by (Some g) at h = found g (declaration_at list g) at refl h
 
-  module _ (places : Places) (locals : List Ty) (unit : Option ℕ) where
+  module _ (places : Layout) (locals : List Ty) (unit : Option ℕ) where
     abbrev around : Around
     around = round_of t places locals unit
 

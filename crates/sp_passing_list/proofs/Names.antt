@@ -41,7 +41,7 @@ use Rattle.sp_known_types.specs.Given.{is_member_op}
 use Rattle.sp_known_types.proofs.Full.{never}
 use Rattle.sp_known_literals.specs.Widened.{is_widen, widens_value, AreWidened}
 use Rattle.sp_whole_list.proofs.Modules.{member_op}
-use Rattle.sp_emit_expr.specs.declared.around.Places.{Places}
+use Rattle.sp_bodies.specs.Globals.{Layout}
 use Rattle.sp_known_kinds.specs.Made.{AreMade}
 use Rattle.sp_known_kinds.proofs.Names.{module_made}
 use Rattle.sp_passing_list.proofs.Functions.{gives, takes}
@@ -146,7 +146,7 @@ module _ (list : List Tree) (a : Answers list) (formed_list : list_all is_formed
   pub home_widens : (m : ℕ) → AreWidened (home m)
   home_widens m = module_widens list (facts list f (told a.values) (told a.stored)) m
 
-  pub home_made : (places : Places) (locals : List Ty) (unit : Option ℕ) (m : ℕ) → AreMade (round_of t places locals unit) (home m)
+  pub home_made : (places : Layout) (locals : List Ty) (unit : Option ℕ) (m : ℕ) → AreMade (round_of t places locals unit) (home m)
   home_made places locals unit m =
       module_made (round_of t places locals unit) list (facts list f (told a.values) (told a.stored)) m (constants_kept list a formed_list unbroken places locals unit) (gives list a formed_list unbroken) (takes list a formed_list unbroken)
       (members_made list a places locals unit)

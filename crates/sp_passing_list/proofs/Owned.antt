@@ -37,7 +37,7 @@ use Rattle.sp_around.specs.Methods.{base_ten, utf8, replace, left_out_of}
 use Rattle.sp_around.specs.Arounds.{Facts, declared_at, meaning_at, left_out_by, around as module_names}
 use Rattle.sp_made_nodes.specs.Makes.{Makes}
 use Rattle.sp_made_nodes.proofs.Nodes.{typed_holds}
-use Rattle.sp_fit_expr.specs.declared.around.Around.{Around}
+use Rattle.sp_fit_expr.specs.Around.{Around}
 use Rattle.sp_fit_expr.specs.Test.{is_sort}
 use Rattle.sp_around.specs.Methods.{method_gives}
 use Rattle.sp_known_types.proofs.Full.{never}

@@ -32,7 +32,7 @@ use Rattle.sp_bodies.specs.Units.{IntegerForm, only_orders, unless_other, intege
 use Rattle.sp_known_types.proofs.Full.{never}
 use Rattle.sp_known_members.proofs.Built.{nothing}
 use Rattle.sp_passing_list.proofs.BuiltTrees.{IsBuilt, AreBuilt, built_passes, at_tree}
-use Rattle.sp_fit_list.specs.inside.Units.{is_read}
+use Rattle.sp_fit_list.specs.Units.{is_read}
 
 -- parts of what is built
 parts_built : (form : Form) (span : Span) (ts : Trees) → IsBuilt (node form span ts) → AreBuilt ts

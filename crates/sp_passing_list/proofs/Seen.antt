@@ -18,13 +18,13 @@ use Rattle.sp_typing_heads.specs.Events.{event_tells, are_told, fits, is_of_sink
 use Rattle.sp_typing_heads.specs.Hooks.{self_type, self_standing, current_standing}
 use Rattle.sp_list_rules.specs.Names.{is_of_nothing}
 use Rattle.sp_body_rules.specs.ExprTests.{is_unmeant}
-use Rattle.sp_emit_expr.specs.declared.around.Places.{Places}
+use Rattle.sp_bodies.specs.Globals.{Layout}
 use Rattle.sp_bodies.specs.Calls.{has_current, is_foreach}
 use Rattle.sp_program.specs.Routines.{hook_unit}
 use Rattle.sp_known_types.proofs.Full.{never}
-use Rattle.sp_fit_expr.specs.declared.around.Around.{Around}
-use Rattle.sp_fit_expr.specs.Test.{is_unit, local_is, unit_parameter, seen_parameter}
-use Rattle.sp_fit_list.specs.inside.Bodies.{is_each_unit, is_empty, takes_nothing}
+use Rattle.sp_fit_expr.specs.Around.{Around}
+use Rattle.sp_fit_expr.specs.Test.{is_unit, local_is, unit_parameter, seen_parameter, parameter_type, parameter_is}
+use Rattle.sp_fit_list.specs.Bodies.{is_each_unit, is_empty, takes_nothing}
 use Rattle.sp_solver.specs.Told.{told}
 use Rattle.sp_names.specs.declared.rows.Declaration.{Declaration}
 use Rattle.sp_names.specs.declared.sort.DeclSort.TheVariants as sort_is
@@ -39,7 +39,6 @@ use Rattle.sp_typed_list.specs.Settled.{Answers}
 use Rattle.sp_typed_list.specs.Lists.{typed_of}
 use Rattle.sp_whole_list.proofs.Modules.{none_found}
 use Rattle.sp_fit_expr.specs.Lists.{is_type}
-use Rattle.sp_fit_expr.specs.Test.{parameter_type, parameter_is}
 use Rattle.sp_passing_list.proofs.Members.{round_of, unit_found}
 
 pub equal_itself : (n : ℕ) → (n == n) ≡ true
@@ -135,7 +134,7 @@ module _ (list : List Tree) (a : Answers list) where
   units_get (g ∷ gs) zero = refl
   units_get (g ∷ gs) (suc u) = units_get gs u
 
-  pub unit_keeps : (places : Places) (locals : List Ty) (unit : Option ℕ) (n : ℕ) (p : Parameter) → slice_get (parameters_of all_units unit) n ≡ Some p → unit_parameter (round_of t places locals unit) unit n p.ty ≡ true
+  pub unit_keeps : (places : Layout) (locals : List Ty) (unit : Option ℕ) (n : ℕ) (p : Parameter) → slice_get (parameters_of all_units unit) n ≡ Some p → unit_parameter (round_of t places locals unit) unit n p.ty ≡ true
   unit_keeps places locals None n p e = none_found p e
   unit_keeps places locals (Some u) n p e = by (slice_get (all_of sort_is.Unit list) u) refl (sym (ap (λ ps. slice_get ps n) (units_get (all_of sort_is.Unit list) u)) ∙ e)
     where

@@ -30,7 +30,7 @@ use Rattle.sp_whole_list.specs.Whole.{is_known_if, is_known_variable}
 use Rattle.sp_whole_list.proofs.None.{none_parts, none_all, expr_clear}
 use Rattle.sp_known_constants.proofs.Declarations.{AllOf, both_of}
 use Rattle.sp_known_units.proofs.Values.{target_value}
-use Rattle.sp_fit_expr.specs.declared.around.Around.{Around}
+use Rattle.sp_fit_expr.specs.Around.{Around}
 use Rattle.sp_fit_expr.specs.Test.{expr_passes}
 use Rattle.sp_known_kinds.specs.Made.{AreMade, IsAsked as CallsAsked, is_built}
 use Rattle.sp_known_kinds.specs.Kept.{OffsetKept}

@@ -1,5 +1,5 @@
--- Rows on which the definitions are run: a variable without a value, one with one that isn't built, a body that confirms, types of
--- bodies where no field has one, and variables with members of the types of their values and of others.
+-- Rows on which the definitions are run: a variable without a value, one with one that isn't built, a body that confirms,
+-- and variables with members of the types of their values and of others.
 use Rattle.std.specs.Prelude.{ℕ, ◌≡◌, true, false, [], ◌∷◌, Option, Some, None, refl}
 use Rattle.sp_base.specs.declared.places.Span.{Span}
 use Rattle.sp_types.specs.declared.words.Word.TheVariants as word_is
@@ -15,7 +15,6 @@ use Rattle.sp_typed_units.specs.declared.declarations.Variable.{Variable}
 use Rattle.sp_typing.specs.Typing.{leaf_at, no_call}
 use Rattle.sp_typing_stmts.specs.Statements.{bare_at}
 use Rattle.sp_passing_list.specs.Built.{value_built, hook_built}
-use Rattle.sp_passing_list.specs.Hooked.{types_from}
 use Rattle.sp_passing_list.specs.Stored.{variables_stored}
 
 abbrev here : Span
@@ -40,10 +39,6 @@ confirming = record { «module» = 0; span = here; of = hook_of.Nothing; fits = 
 
 not_built : hook_built confirming ≡ false
 not_built = refl
-
--- two bodies of hooks in a list without units
-no_fields : types_from [] 0 (confirming ∷ confirming ∷ []) ≡ None ∷ None ∷ []
-no_fields = refl
 
 -- `var x: T = True;`, where T is the type of its member, and where it has no value
 abbrev member : Ty → Member

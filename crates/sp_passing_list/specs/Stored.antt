@@ -1,6 +1,5 @@
 -- Units whose variables and fields store what their rows have for their members.
 use Rattle.std.specs.Prelude.{◌≡◌, ℕ, Bool, true, ◌&&◌, List, [], ◌∷◌, Option, Some, None, slice_get}
-use Rattle.sp_types.specs.Types.{Ty}
 use Rattle.sp_typed.specs.Exprs.{Expr, type_of}
 use Rattle.sp_typed_units.specs.declared.declarations.Member.{Member}
 use Rattle.sp_typed_units.specs.declared.declarations.Typed.{Typed}
@@ -8,7 +7,7 @@ use Rattle.sp_typed_units.specs.declared.declarations.Unit.{Unit as TypedUnit}
 use Rattle.sp_typed_units.specs.declared.declarations.Variable.{Variable}
 use Rattle.sp_typed_units.specs.Parts.{parts}
 use Rattle.sp_bodies.specs.Units.{last_order, module_order}
-use Rattle.sp_fit_list.specs.inside.Units.{has_member, member_is_of, parts_pass}
+use Rattle.sp_fit_list.specs.Units.{has_member, member_is_of, parts_pass}
 
 -- a value, if there is one, is of the type of a member
 abbrev pub value_stored : Option Member → Option Expr → Bool
@@ -22,6 +21,6 @@ variables_stored members (v ∷ vs) = has_member (slice_get members v.member) &&
 
 -- The variables of the unit u are so; its fields store integers in members of integers, and the bodies of their hooks are ones of this
 -- unit that see such integers.
-pub record UnitStores (list : Typed) (types : List (Option Ty)) (u : ℕ) (x : TypedUnit) : Type 0 where
+pub record UnitStores (list : Typed) (u : ℕ) (x : TypedUnit) : Type 0 where
   pub variables : variables_stored x.members x.variables ≡ true
-  pub parts : parts_pass list.hooks types u x.members (last_order (module_order x.«module» None list.orders) x.orders) (parts x.parts) ≡ true
+  pub parts : parts_pass list u x.members (last_order (module_order x.«module» None list.orders) x.orders) (parts x.parts) ≡ true

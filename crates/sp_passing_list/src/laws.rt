@@ -1,4 +1,4 @@
-// What passes the test before lowering.
+// What passes the test of what fits.
 ghost use Rattle.std.specs.Prelude.{◌≡◌, ℕ, List, Option, Some, None, slice_get};
 ghost use Rattle.sp_ast.specs.Trees.{Tree};
 ghost use Rattle.sp_types.specs.Types.{Ty};
@@ -16,24 +16,29 @@ ghost use Rattle.sp_units_end.specs.Built.{UnitIsBuilt};
 ghost use Rattle.sp_unbroken_list.specs.Given.{AreFormed, IsUnbroken};
 ghost use Rattle.sp_fit_expr.specs.Passes.{ConstantsFit};
 ghost use Rattle.sp_fit_list.specs.Passes.{Bodies, ListPasses};
-ghost use Rattle.sp_fit_list.specs.inside.Bodies.{FunctionPasses, HookPasses};
+ghost use Rattle.sp_fit_list.specs.Bodies.{FunctionPasses, HookPasses};
+ghost use Rattle.sp_field_places.specs.Apart.{AreApart};
 ghost use Rattle.sp_passing_list.specs.Built.{IsBuilt};
-ghost use Rattle.sp_passing_list.specs.Hooked.{AreHooked, body_types};
-ghost use Rattle.sp_passing_list.specs.Stored.{UnitStores};
 
 use sp_stored_types::none_is_passed_over;
 
-/// In a list in which no rule is broken and all is built, each function passes the test before lowering, and so does each hook, where
-/// `$$` is of the type that the hook sees.
+/// In a list in which no rule is broken and all is built, its bodies and the values of its variables are built of nodes that are built.
+pub fn lists_are_built()
+    ensures { (texts : Texts) (list : List Tree) (a : Answers list) → AreFormed list
+        → IsUnbroken list → first_unbuilt texts list (typed_of list a) ≡ None
+        → IsBuilt (typed_of list a) }
+{
+    none_is_passed_over();
+}
+
+/// In such a list each function passes the test of what fits, and so does each hook, where `$$` is of the type that the hook sees.
 pub fn bodies_pass()
     ensures functions { (texts : Texts) (list : List Tree) (a : Answers list) → AreFormed list
         → IsUnbroken list → first_unbuilt texts list (typed_of list a) ≡ None
-        → IsBuilt (typed_of list a)
         → (f : ℕ) (x : Function) → slice_get (typed_of list a).functions f ≡ Some x
         → FunctionPasses (typed_of list a) x }
     ensures hooks { (texts : Texts) (list : List Tree) (a : Answers list) → AreFormed list
         → IsUnbroken list → first_unbuilt texts list (typed_of list a) ≡ None
-        → IsBuilt (typed_of list a)
         → (h : ℕ) (x : Hook) → slice_get (typed_of list a).hooks h ≡ Some x
         → (o : Option Ty) × HookPasses (typed_of list a) o x }
 {
@@ -44,11 +49,10 @@ pub fn bodies_pass()
 pub fn bodies_are_built()
     ensures built { (texts : Texts) (list : List Tree) (a : Answers list) → AreFormed list
         → IsUnbroken list → first_unbuilt texts list (typed_of list a) ≡ None
-        → IsBuilt (typed_of list a)
         → Bodies (typed_of list a) (StmtIsBuilt (globals_of (typed_of list a)) (typed_of list a).functions) }
     ensures literals { (texts : Texts) (list : List Tree) (a : Answers list) → AreFormed list
         → IsUnbroken list → first_unbuilt texts list (typed_of list a) ≡ None
-        → IsBuilt (typed_of list a) → Bodies (typed_of list a) StmtLiteralsFit }
+        → Bodies (typed_of list a) StmtLiteralsFit }
 {
     none_is_passed_over();
 }
@@ -58,12 +62,10 @@ pub fn bodies_are_built()
 pub fn units_are_built()
     ensures built { (texts : Texts) (list : List Tree) (a : Answers list) → AreFormed list
         → IsUnbroken list → first_unbuilt texts list (typed_of list a) ≡ None
-        → IsBuilt (typed_of list a)
         → (u : ℕ) (x : TypedUnit) → slice_get (typed_of list a).units u ≡ Some x
         → UnitIsBuilt (typed_of list a) u x }
     ensures values { (texts : Texts) (list : List Tree) (a : Answers list) → AreFormed list
         → IsUnbroken list → first_unbuilt texts list (typed_of list a) ≡ None
-        → IsBuilt (typed_of list a)
         → (u : ℕ) (x : TypedUnit) → slice_get (typed_of list a).units u ≡ Some x
         → ValuesFit x.variables }
 {
@@ -76,15 +78,12 @@ pub fn constants_fit()
         → ConstantsFit (typed_of list a) }
 {}
 
-/// Such a list passes, where each body of a hook hangs on a field that stores what the body sees as `$$`, and the variables and fields of
-/// its units store what their rows have.
+/// Such a list passes, where the fields of each unit stand at places of their own, so that each body of a hook hangs on one field alone or
+/// on fields of one name.
 pub fn lists_pass()
     ensures { (texts : Texts) (list : List Tree) (a : Answers list) → AreFormed list
         → IsUnbroken list → first_unbuilt texts list (typed_of list a) ≡ None
-        → IsBuilt (typed_of list a) → AreHooked list a
-        → ((u : ℕ) (x : TypedUnit) → slice_get (typed_of list a).units u ≡ Some x
-        → UnitStores (typed_of list a) (body_types (typed_of list a)) u x)
-        → ListPasses (typed_of list a) }
+        → AreApart list → ListPasses (typed_of list a) }
 {
     none_is_passed_over();
 }

@@ -1,5 +1,5 @@
-//! Tests of types, faults and typed lists: what expressions are made of, which unit runs, what fits, and the program of a
-//! list. They stand in a crate of their own, so that the crates that they ask are proved once.
+//! Tests of types, faults and typed lists: what expressions are made of, which unit runs, and the program of a list. They stand
+//! in a crate of their own, so that the crates that they ask are proved once.
 #![tactic(auto)]
 
 #[cfg(test)]
@@ -8,8 +8,6 @@ mod choices;
 mod exprs;
 #[cfg(test)]
 mod faults;
-#[cfg(test)]
-mod fits;
 #[cfg(test)]
 mod programs;
 #[cfg(test)]

@@ -6,6 +6,8 @@ use Rattle.sp_command.specs.declared.refusal.Refusal.{Refusal}
 use Rattle.sp_load.specs.declared.sources.Source.{Source}
 use Rattle.sp_typed_units.specs.declared.declarations.Typed.{Typed}
 use Rattle.sp_typed_units.specs.declared.declarations.Unit.{Unit as TypedUnit}
+use Rattle.sp_unbuilt.specs.Unbuilt.{Texts, first_unbuilt}
+use Rattle.sp_fit_list.specs.Passes.{ListPasses}
 use Rattle.sp_code.specs.declared.program.Program.{Program}
 use Rattle.sp_choose.specs.Choices.{chosen}
 use Rattle.sp_session.specs.Session as session
@@ -30,6 +32,10 @@ abbrev pub IsHindered : List Source → List Tree → Typed → Unready → Type
 IsHindered ss ts t Unready.NoParser = ⊥
 IsHindered ss ts t (Unready.Unbuilt r) = CannotRun ss ts t r
 IsHindered ss ts t Unready.NoMemory = Unit {0}
+
+-- where all of the list is built, it passes
+abbrev pub PassesWhereBuilt : List Tree → Typed → Type 0
+PassesWhereBuilt ts t = (texts : Texts) → first_unbuilt texts ts t ≡ None → ListPasses t
 
 -- a program runs a unit of a list, within whatever limits
 abbrev pub AlwaysRuns : Typed → Program → ℕ → Type 0

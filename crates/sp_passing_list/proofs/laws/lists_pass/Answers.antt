@@ -4,5 +4,5 @@ use Rattle.sp_passing_list.proofs.Whole.{whole_passes}
 use Rattle.sp_passing_list.proofs.laws.lists_pass.Goals as goal
 
 pub returns : goal.returns
-returns c = λ texts list a formed unbroken all built hooked units.
-    whole_passes texts list a formed unbroken c.none_is_passed_over.ensures all built members_are_listed functions_are_entered currents_are_listed hooked units
+returns c = λ texts list a formed unbroken all apart.
+    whole_passes texts list a formed unbroken c.none_is_passed_over.ensures all members_are_listed functions_are_entered currents_are_listed apart

@@ -1,4 +1,0 @@
-pub mod Locals
-pub mod Stored
-pub mod Bodies
-pub mod Units
