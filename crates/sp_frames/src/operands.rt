@@ -46,6 +46,7 @@ impl Operands {
         self.items.is_empty()
     }
 
+    #[inline(always)]
     pub fn push(&mut self, x: Value) -> Result<(), NoMemory>
         ensures { OnOk result (self.new ≡ x ∷ self.old) }
     {
@@ -54,6 +55,7 @@ impl Operands {
     }
 
     /// Takes the value on top. Takes no memory.
+    #[inline(always)]
     pub fn pop(&mut self) -> Value
         requires { 0 < length self.old }
         ensures { self.old ≡ result ∷ self.new }

@@ -16,7 +16,7 @@ use Rattle.sp_code_ends.specs.Ending.{steps_left, whole, CanAct}
 use Rattle.sp_code_ends.proofs.Windows.{base_is_within, window_of_whole, window_steps_fall}
 use Rattle.sp_machine.specs.declared.machine.Stop.{Stop}
 use Rattle.sp_machine.specs.declared.machine.Stop.TheVariants as stop_is
-use Rattle.sp_machine.specs.Plain.{no_tokens, close_of, reads_of, Does}
+use Rattle.sp_machine.specs.Plain.{no_tokens, close_of, reads_of, Leads, Does}
 use Rattle.sp_machine.specs.Safe.{IsSafe}
 use Rattle.sp_machine.specs.declared.in_place.Slot.{Slot}
 use Rattle.sp_machine.specs.InPlace.{IsStored, IsPut, behind, with_slot}
@@ -136,6 +136,14 @@ module _ (p : Plain) (w : Held) (is_ended : Bool) where
       → IfOk r (Advanced p (reads_of w is_ended) w old new before after)
   advanced_ok (Ok stop) turns old new before after safe h = advanced turns stop old new before after safe h
   advanced_ok (Err e) turns old new before after safe h = h
+
+  -- so is one that tells nothing
+  pub advanced_alone : Turns p → (old : List What) (before after : Config) (n : Next) → IsSafe p w before → step p (reads_of w is_ended) before ≡ n → Leads after n
+      → Advanced p (reads_of w is_ended) w old old before after stop_is.GoesOn
+  advanced_alone turns old before after (Goes es d) safe e h =
+      advanced turns stop_is.GoesOn old old before after safe (subst (Does stop_is.GoesOn old old before after) (sym e) (sym (append-nil old) ∙ ap (λ l. old ++ l) (sym h.0), h.1))
+  advanced_alone turns old before after (Waits m) safe e h = absurd h
+  advanced_alone turns old before after (Over how st) safe e h = absurd h
 
   -- some steps, behind which no more are left
   came_along : Turns p → (old : List What) (c d : Config) (es : List What) → IsSafe p w c → Comes p (reads_of w is_ended) c es d

@@ -37,8 +37,8 @@ pub(crate) enum Slot {
 }
 
 /// Whether an instruction can change a container, or joins bytes or texts.
-pub(crate) fn may_change(instr: Instr) -> bool
-    ensures { result ≡ may_change instr }
+pub(crate) fn may_change(instr: &Instr) -> bool
+    ensures { result ≡ may_change instr.now }
 {
     match instr {
         Instr::Binary(_) => true,
@@ -102,8 +102,8 @@ fn last_of(vector: &mut Value) -> Result<Value, NoMemory>
 impl Machine {
     /// The slot in which the code from an address on stores what is on top.
     pub(crate) fn slot_from(&self, p: &Program, at: usize) -> Option<Slot>
-        requires within { at + 1 < 2 ^ 64 }
-        ensures { IfSome result (λ slot. IsStored p.now.code.items at slot × IsSlot slot (state_of self.now)) }
+        ensures { IfSome result (λ slot. IsStored p.now.code.items at slot × IsSlot slot (state_of self.now)
+            × (at + 1 + 1 < 2 ^ 64)) }
     {
         match p.code.get(at) {
             Some(Instr::Store(l)) => self.local_slot(*l),
@@ -372,39 +372,24 @@ impl Machine {
         limits: &Limits,
         window: &Window,
         is_ended: bool,
-        instr: Instr,
+        instr: &Instr,
         slot: Slot,
     ) -> Result<(), NoMemory>
         requires running { self.old.mode ≡ Running }
         requires within { self.old.pc + 1 + 1 + 1 < 2 ^ 64 }
         requires there { IsSlot slot (state_of self.old) }
-        requires changes { IsTrue (may_change instr) }
-        requires can { Can (plain_of limits.now p.now) (Some instr) self.old.operands (state_of self.old) }
+        requires changes { IsTrue (may_change instr.now) }
+        requires can { Can (plain_of limits.now p.now) (Some instr.now) self.old.operands (state_of self.old) }
         ensures { OnOk result (IsPut slot (self.old.pc + 1) (act (plain_of limits.now p.now) (reads_of window.now is_ended)
-            (Some instr) self.old.pc self.old.operands self.old.stack (state_of self.old)) (plain self.new)) }
+            (Some instr.now) self.old.pc self.old.operands self.old.stack (state_of self.old)) (plain self.new)) }
     {
         match instr {
-            Instr::Binary(op) => self.binary_in(op, slot),
-            Instr::Lib(called) => self.call_method_in(called, slot),
+            Instr::Binary(op) => self.binary_in(*op, slot),
+            Instr::Lib(called) => self.call_method_in(*called, slot),
             Instr::SetIndex => self.set_index_in(slot),
             Instr::AddKey => self.add_key_in(slot),
             Instr::DeleteKey => self.delete_key_in(slot),
             _ => unreachable!(),
-        }
-    }
-
-    /// The instruction at hand and the slot in which the code stores what it gives, where it may change a container.
-    pub(crate) fn change_at_hand(&self, p: &Program) -> Option<(Instr, Slot)>
-        ensures { IfSome result (λ found. (slice_get p.now.code.items self.now.pc ≡ Some found.0)
-            × IsTrue (may_change found.0) × IsStored p.now.code.items (self.now.pc + 1) found.1
-            × IsSlot found.1 (state_of self.now) × (self.now.pc + 1 + 1 + 1 < 2 ^ 64)) }
-    {
-        match p.code.get(self.pc) {
-            Some(instr) if may_change(*instr) => match self.slot_from(p, self.pc + 1) {
-                Some(slot) => Some((*instr, slot)),
-                None => None,
-            },
-            _ => None,
         }
     }
 }

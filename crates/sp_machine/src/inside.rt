@@ -44,11 +44,11 @@ fn is_push(called: Method) -> bool
 }
 
 /// Whether an instruction changes a container and gives nothing beside it.
-fn changes_inside(instr: Instr) -> bool
-    ensures { result ≡ changes_inside instr }
+fn changes_inside(instr: &Instr) -> bool
+    ensures { result ≡ changes_inside instr.now }
 {
     match instr {
-        Instr::Lib(called) => is_push(called),
+        Instr::Lib(called) => is_push(*called),
         Instr::AddKey => true,
         Instr::DeleteKey => true,
         _ => false,
@@ -264,22 +264,22 @@ impl Machine {
         limits: &Limits,
         window: &Window,
         is_ended: bool,
-        instr: Instr,
+        instr: &Instr,
         slot: Slot,
     ) -> Result<(), NoMemory>
         requires running { self.old.mode ≡ Running }
         requires within { self.old.pc + 1 + 1 + 1 + 1 < 2 ^ 64 }
         requires there { IsSlot slot (state_of self.old) }
-        requires changes { IsTrue (changes_inside instr) }
-        requires can { Can (plain_of limits.now p.now) (Some instr) self.old.operands (state_of self.old) }
+        requires changes { IsTrue (changes_inside instr.now) }
+        requires can { Can (plain_of limits.now p.now) (Some instr.now) self.old.operands (state_of self.old) }
         requires below { CanPut (self.old.pc + 1) (act (plain_of limits.now p.now) (reads_of window.now is_ended)
-            (Some instr) self.old.pc self.old.operands self.old.stack (state_of self.old)) }
+            (Some instr.now) self.old.pc self.old.operands self.old.stack (state_of self.old)) }
         ensures { OnOk result (IsPutInside slot (self.old.pc + 1) (act (plain_of limits.now p.now)
-            (reads_of window.now is_ended) (Some instr) self.old.pc self.old.operands self.old.stack
+            (reads_of window.now is_ended) (Some instr.now) self.old.pc self.old.operands self.old.stack
             (state_of self.old)) (plain self.new)) }
     {
         match instr {
-            Instr::Lib(called) => self.call_inside(called, slot),
+            Instr::Lib(called) => self.call_inside(*called, slot),
             Instr::AddKey => self.add_key_inside(slot),
             Instr::DeleteKey => self.delete_key_inside(slot),
             _ => unreachable!(),
@@ -293,7 +293,7 @@ impl Machine {
         limits: &Limits,
         window: &Window,
         is_ended: bool,
-        instr: Instr,
+        instr: &Instr,
         slot: Slot,
     ) -> Result<(), NoMemory>
         requires running { self.old.mode ≡ Running }
@@ -301,8 +301,8 @@ impl Machine {
         requires turns { Turns (plain_of limits.now p.now) }
         requires within { self.old.pc + 1 + 1 + 1 + 1 < 2 ^ 64 }
         requires there { IsSlot slot (state_of self.old) }
-        requires changes { IsTrue (changes_inside instr) }
-        requires instr { slice_get p.now.code.items self.old.pc ≡ Some instr }
+        requires changes { IsTrue (changes_inside instr.now) }
+        requires instr { slice_get p.now.code.items self.old.pc ≡ Some instr.now }
         requires put { slice_get p.now.code.items (self.old.pc + 1) ≡ Some does.SetIndex }
         requires stored { IsStored p.now.code.items (self.old.pc + 1 + 1) slot }
         ensures { OnOk result ((told : List What) → Advanced (plain_of limits.now p.now)
@@ -312,21 +312,19 @@ impl Machine {
         Ok(())
     }
 
-    /// The instruction at hand and the slot in which the code stores the container that it changes a part of.
-    pub(crate) fn inside_at_hand(&self, p: &Program) -> Option<(Instr, Slot)>
-        ensures { IfSome result (λ found. (slice_get p.now.code.items self.now.pc ≡ Some found.0)
-            × IsTrue (changes_inside found.0) × (slice_get p.now.code.items (self.now.pc + 1) ≡ Some does.SetIndex)
-            × IsStored p.now.code.items (self.now.pc + 1 + 1) found.1 × IsSlot found.1 (state_of self.now)
+    /// The slot in which the code stores the container of which an instruction at hand changes a part.
+    pub(crate) fn slot_inside(&self, p: &Program, instr: &Instr) -> Option<Slot>
+        requires within { self.now.pc + 1 < 2 ^ 64 }
+        ensures { IfSome result (λ slot. IsTrue (changes_inside instr.now)
+            × (slice_get p.now.code.items (self.now.pc + 1) ≡ Some does.SetIndex)
+            × IsStored p.now.code.items (self.now.pc + 1 + 1) slot × IsSlot slot (state_of self.now)
             × (self.now.pc + 1 + 1 + 1 + 1 < 2 ^ 64)) }
     {
-        match p.code.get(self.pc) {
-            Some(instr) if changes_inside(*instr) => match p.code.get(self.pc + 1) {
-                Some(Instr::SetIndex) => match self.slot_from(p, self.pc + 1 + 1) {
-                    Some(slot) => Some((*instr, slot)),
-                    None => None,
-                },
-                _ => None,
-            },
+        if !changes_inside(instr) {
+            return None;
+        }
+        match p.code.get(self.pc + 1) {
+            Some(Instr::SetIndex) => self.slot_from(p, self.pc + 1 + 1),
             _ => None,
         }
     }

@@ -82,6 +82,7 @@ impl Machine {
     }
 
     /// Ends an instruction that gives a value.
+    #[inline(always)]
     pub(crate) fn push_next(&mut self, value: Value) -> Result<(), NoMemory>
         requires running { self.old.mode ≡ Running }
         requires within { self.old.pc + 1 < 2 ^ 64 }

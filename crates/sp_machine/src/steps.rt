@@ -1,14 +1,18 @@
 // Steps of the machine.
-ghost use Rattle.std.specs.Prelude.{◌≡◌, ◌+◌, ◌≤◌, ◌<◌, ◌^◌, IfOk, Some, slice_get};
+ghost use Rattle.std.specs.Prelude.{◌≡◌, ◌≢◌, ◌+◌, ◌≤◌, ◌<◌, ◌^◌, [], List, IfOk, OnOk, IsTrue, IsFalse, Some, slice_get};
+ghost use Rattle.sp_events.specs.declared.event.What.{What as Told};
 ghost use Rattle.sp_code.specs.Can.{Can};
 ghost use Rattle.sp_code.specs.Machine.{act, step};
 ghost use Rattle.sp_code.specs.Programs.{plain_of};
-ghost use Rattle.sp_machine.specs.declared.machine.Mode.TheVariants.{Running};
-ghost use Rattle.sp_machine.specs.Plain.{state_of, plain, reads_of, Does};
-ghost use Rattle.sp_machine.specs.Safe.{IsSafe};
-ghost use Rattle.sp_machine.specs.Ran.{Ran, Advanced};
 ghost use Rattle.sp_code.specs.Turns.{Turns};
+ghost use Rattle.sp_machine.specs.declared.machine.Mode.TheVariants.{Running};
+ghost use Rattle.sp_machine.specs.declared.machine.Stop.TheVariants.{GoesOn};
+ghost use Rattle.sp_machine.specs.InPlace.{may_change};
+ghost use Rattle.sp_machine.specs.Plain.{state_of, plain, reads_of, Leads, Does};
+ghost use Rattle.sp_machine.specs.Ran.{Ran, Advanced};
+ghost use Rattle.sp_machine.specs.Safe.{IsSafe};
 
+use crate::in_place::may_change;
 use crate::machine::{Machine, Mode, Stop};
 use crate::tables::{body_at, unit_at};
 use sp_base::{Limits, NoMemory};
@@ -18,13 +22,14 @@ use sp_window::Window;
 use std::mem;
 
 impl Machine {
-    /// One instruction.
+    /// One instruction, unless it can change a container.
+    #[inline(always)]
     #[tactic(auto, using(crate::proofs::Entries::body_there, crate::proofs::Entries::unit_there))]
     fn act(
         &mut self,
         p: &Program,
         limits: &Limits,
-        instr: Instr,
+        instr: &Instr,
         window: &Window,
         is_ended: bool,
         told: &mut Vec<What>,
@@ -32,12 +37,13 @@ impl Machine {
         requires running { self.old.mode ≡ Running }
         requires within { self.old.pc + 1 < 2 ^ 64 }
         requires base { window.now.base ≤ self.old.place }
-        requires can { Can (plain_of limits.now p.now) (Some instr) self.old.operands (state_of self.old) }
+        requires keeps { IsFalse (may_change instr.now) }
+        requires can { Can (plain_of limits.now p.now) (Some instr.now) self.old.operands (state_of self.old) }
         ensures { IfOk result (λ r. Does r told.old.items told.new.items (plain self.old) (plain self.new)
-            (act (plain_of limits.now p.now) (reads_of window.now is_ended) (Some instr) self.old.pc self.old.operands
+            (act (plain_of limits.now p.now) (reads_of window.now is_ended) (Some instr.now) self.old.pc self.old.operands
             self.old.stack (state_of self.old))) }
     {
-        match instr {
+        match *instr {
             Instr::Const(c) => self.constant(p, c)?,
             Instr::Load(l) => self.load(l)?,
             Instr::Store(l) => self.store(l),
@@ -47,18 +53,14 @@ impl Machine {
             Instr::HasField(m) => self.has_field(m)?,
             Instr::SetField(m) => self.set_field(m),
             Instr::Unary(op) => self.unary(op)?,
-            Instr::Binary(op) => self.binary(op)?,
             Instr::Cast(to) => self.cast(to)?,
             Instr::MakeTuple(n) => self.make_tuple(n)?,
             Instr::MakeVector(n) => self.make_vector(n)?,
             Instr::MakeSet(n) => self.make_set(n)?,
             Instr::MakeMap(n) => self.make_map(n)?,
             Instr::Index => self.index()?,
-            Instr::SetIndex => self.set_index()?,
             Instr::Size => self.size()?,
             Instr::Lib(called) => self.call_method(called)?,
-            Instr::AddKey => self.add_key()?,
-            Instr::DeleteKey => self.delete_key()?,
             Instr::Pop => self.drop_top(),
             Instr::Dup => self.duplicate()?,
             Instr::Jump(to) => self.pc = to as usize,
@@ -77,12 +79,70 @@ impl Machine {
             Instr::Hook(h) => self.run_hook(p, limits, body_at(p, h), told)?,
             Instr::Offset => self.offset()?,
             Instr::ReadInt(form) => return self.read_integer(form, window, is_ended),
+            Instr::Binary(_) | Instr::SetIndex | Instr::AddKey | Instr::DeleteKey => unreachable!(),
         }
         Ok(Stop::GoesOn)
     }
 
-    /// The instruction at which a machine stands.
-    #[tactic(auto, using(crate::proofs::Safety::safe_can, crate::proofs::Safety::never_past, crate::proofs::Safety::safe_base))]
+    /// One instruction that can change a container.
+    fn act_on_container(
+        &mut self,
+        p: &Program,
+        limits: &Limits,
+        window: &Window,
+        is_ended: bool,
+        instr: &Instr,
+    ) -> Result<(), NoMemory>
+        requires running { self.old.mode ≡ Running }
+        requires within { self.old.pc + 1 < 2 ^ 64 }
+        requires changes { IsTrue (may_change instr.now) }
+        requires can { Can (plain_of limits.now p.now) (Some instr.now) self.old.operands (state_of self.old) }
+        ensures { OnOk result (Leads (plain self.new) (act (plain_of limits.now p.now) (reads_of window.now is_ended)
+            (Some instr.now) self.old.pc self.old.operands self.old.stack (state_of self.old))) }
+    {
+        match *instr {
+            Instr::Binary(op) => self.binary(op),
+            Instr::Lib(called) => self.call_method(called),
+            Instr::SetIndex => self.set_index(),
+            Instr::AddKey => self.add_key(),
+            Instr::DeleteKey => self.delete_key(),
+            _ => unreachable!(),
+        }
+    }
+
+    /// An instruction that can change a container; where the code behind it stores what it gives, that too, at once. Whatever was told
+    /// before, nothing more is.
+    fn change_and_store(
+        &mut self,
+        p: &Program,
+        limits: &Limits,
+        window: &Window,
+        is_ended: bool,
+        instr: &Instr,
+    ) -> Result<(), NoMemory>
+        requires running { self.old.mode ≡ Running }
+        requires within { self.old.pc + 1 < 2 ^ 64 }
+        requires safe { IsSafe (plain_of limits.now p.now) window.now (plain self.old) }
+        requires turns { Turns (plain_of limits.now p.now) }
+        requires instr { slice_get p.now.code.items self.old.pc ≡ Some instr.now }
+        requires changes { IsTrue (may_change instr.now) }
+        ensures { OnOk result ((told : List Told) → Advanced (plain_of limits.now p.now)
+            (reads_of window.now is_ended) window.now told told (plain self.old) (plain self.new) GoesOn) }
+    {
+        if let Some(slot) = self.slot_from(p, self.pc + 1) {
+            self.change(p, limits, window, is_ended, instr, slot)?;
+            return Ok(());
+        }
+        if let Some(slot) = self.slot_inside(p, instr) {
+            self.advance_inside(p, limits, window, is_ended, instr, slot)?;
+            return Ok(());
+        }
+        self.act_on_container(p, limits, window, is_ended, instr)?;
+        Ok(())
+    }
+
+    /// The instruction at which a machine stands, with what is done at once with it.
+    #[tactic(auto, using(crate::proofs::Safety::safe_base))]
     fn go(
         &mut self,
         p: &Program,
@@ -93,40 +153,45 @@ impl Machine {
     ) -> Result<Stop, NoMemory>
         requires running { self.old.mode ≡ Running }
         requires safe { IsSafe (plain_of limits.now p.now) window.now (plain self.old) }
-        ensures { IfOk result (λ r. Does r told.old.items told.new.items (plain self.old) (plain self.new)
-            (step (plain_of limits.now p.now) (reads_of window.now is_ended) (plain self.old))) }
+        requires turns { Turns (plain_of limits.now p.now) }
+        ensures { IfOk result (Advanced (plain_of limits.now p.now) (reads_of window.now is_ended) window.now
+            told.old.items told.new.items (plain self.old) (plain self.new)) }
     {
         match p.code.get(self.pc) {
-            Some(instr) => self.act(p, limits, *instr, window, is_ended, told),
+            Some(instr) => {
+                if may_change(instr) {
+                    self.change_and_store(p, limits, window, is_ended, instr)?;
+                    return Ok(Stop::GoesOn);
+                }
+                self.act(p, limits, instr, window, is_ended, told)
+            }
             None => unreachable!(),
         }
     }
 
-    /// One step, as the plain machine does it. A safe machine finds all that the instruction wants.
-    /// After an error its content is unstated.
-    #[tactic(auto, using(crate::proofs::Safety::safe_leaving, crate::proofs::Safety::safe_returning, crate::proofs::Quiet::quiet_ok))]
-    pub fn step(
+    /// Takes a frame off by the end that a machine has come to. A safe machine finds the frame that the end takes off.
+    #[tactic(auto, using(crate::proofs::Safety::safe_leaving, crate::proofs::Safety::safe_returning))]
+    fn take_off(
         &mut self,
         p: &Program,
         limits: &Limits,
         window: &Window,
         is_ended: bool,
-        told: &mut Vec<What>,
     ) -> Result<Stop, NoMemory>
+        requires ends { self.old.mode ≢ Running }
         requires safe { IsSafe (plain_of limits.now p.now) window.now (plain self.old) }
-        ensures { IfOk result (λ r. Does r told.old.items told.new.items (plain self.old) (plain self.new)
+        ensures { IfOk result (λ r. Does r [] [] (plain self.old) (plain self.new)
             (step (plain_of limits.now p.now) (reads_of window.now is_ended) (plain self.old))) }
     {
         match mem::replace(&mut self.mode, Mode::Running) {
-            Mode::Running => self.go(p, limits, window, is_ended, told),
+            Mode::Running => unreachable!(),
             Mode::Leaving => self.leave(),
             Mode::Returning(value) => self.return_from(value),
             Mode::Failing(error) => self.fail_from(error),
         }
     }
 
-    /// One step; or a change of a container and the steps that store it, at once.
-    #[tactic(auto, using(crate::proofs::Running::advanced_ok))]
+    /// A step, or several at once.
     fn advance(
         &mut self,
         p: &Program,
@@ -140,18 +205,10 @@ impl Machine {
         ensures { IfOk result (Advanced (plain_of limits.now p.now) (reads_of window.now is_ended) window.now
             told.old.items told.new.items (plain self.old) (plain self.new)) }
     {
-        if let Mode::Running = self.mode {
-            if let Some((instr, slot)) = self.change_at_hand(p) {
-                self.change(p, limits, window, is_ended, instr, slot)?;
-                return Ok(Stop::GoesOn);
-            }
-            if let Some((instr, slot)) = self.inside_at_hand(p) {
-                self.advance_inside(p, limits, window, is_ended, instr, slot)?;
-                return Ok(Stop::GoesOn);
-            }
-            return self.go(p, limits, window, is_ended, told);
+        match self.mode {
+            Mode::Running => self.go(p, limits, window, is_ended, told),
+            _ => self.take_off(p, limits, window, is_ended),
         }
-        self.step(p, limits, window, is_ended, told)
     }
 
     /// Steps until the machine waits for more of its input, or all is over. A safe machine whose code

@@ -13,7 +13,7 @@ pub change_inside-requires-clause-can : goal.change_inside-requires-clause-can
 change_inside-requires-clause-can c =
     let m = c.args.self.now in
     let p = plain_of c.args.limits.now c.args.p.now in
-    safe_can p c.args.window.now m.pc m.operands m.stack (state_of m) c.args.instr
+    safe_can p c.args.window.now m.pc m.operands m.stack (state_of m) c.args.instr.now
     (subst (λ mode. IsSafe p c.args.window.now (plain_in mode m)) c.requires.running c.requires.safe) c.requires.instr
 
 pub change_inside-requires-clause-below : goal.change_inside-requires-clause-below
@@ -22,7 +22,7 @@ change_inside-requires-clause-below c =
     let p = plain_of c.args.limits.now c.args.p.now in
     let w = c.args.window.now in
     let reads = reads_of w c.args.is_ended in
-    can_put p w c.args.is_ended (m.pc + 1) (At m.pc m.operands m.stack (state_of m)) (act p reads (Some c.args.instr) m.pc m.operands m.stack (state_of m))
+    can_put p w c.args.is_ended (m.pc + 1) (At m.pc m.operands m.stack (state_of m)) (act p reads (Some c.args.instr.now) m.pc m.operands m.stack (state_of m))
     (subst (λ mode. IsSafe p w (plain_in mode m)) c.requires.running c.requires.safe)
     (ap (λ o. act p reads o m.pc m.operands m.stack (state_of m)) c.requires.instr) c.requires.put
 
@@ -35,5 +35,5 @@ returns c = λ told.
     let after = plain c.change_inside.new.self in
     subst (λ mode. Advanced p reads w told told (plain_in mode m) after GoesOn) (sym c.requires.running)
     (advanced_inside p w c.args.is_ended c.requires.turns c.args.slot (m.pc + 1) told (At m.pc m.operands m.stack (state_of m)) after
-    (act p reads (Some c.args.instr) m.pc m.operands m.stack (state_of m)) (subst (λ mode. IsSafe p w (plain_in mode m)) c.requires.running c.requires.safe)
+    (act p reads (Some c.args.instr.now) m.pc m.operands m.stack (state_of m)) (subst (λ mode. IsSafe p w (plain_in mode m)) c.requires.running c.requires.safe)
     (ap (λ o. act p reads o m.pc m.operands m.stack (state_of m)) c.requires.instr) c.requires.put c.requires.stored c.in_ok-change_inside.ensures)

@@ -4,6 +4,7 @@ use Rattle.sp_code.specs.Machine.{act, step}
 use Rattle.sp_code.specs.Programs.{plain_of}
 use Rattle.sp_machine.specs.Plain.{state_of, plain, plain_in, reads_of, Does}
 use Rattle.sp_machine.specs.Safe.{IsSafe}
+use Rattle.sp_machine.proofs.Running.{advanced_ok}
 use Rattle.sp_machine.proofs.Safety.{safe_can, never_past, looked_up, past_all}
 use Rattle.sp_machine.proofs.machine.Machine.go.Goals as goal
 
@@ -35,5 +36,6 @@ returns c =
     let there = plain c.act.new.self in
     let code = c.args.p.now.code.items in
     let found = looked_up code m.pc c.in-Some.instr.now (subst (λ l. m.pc < length l) c.deref.ensures.value c.in-Some.ensures.lookup.3.0) (c.in-Some.ensures.lookup.1 ∙ ap (λ l. get_or l m.pc c.in-Some.instr.now) c.deref.ensures.value) in
-    subst (λ mode. IfOk c.act.result (λ r. Does r old new here there (step p reads (plain_in mode m)))) (sym c.requires.running)
-    (subst (λ o. IfOk c.act.result (λ r. Does r old new here there (act p reads o m.pc m.operands m.stack (state_of m)))) (sym found) c.act.ensures)
+    advanced_ok p c.args.window.now c.args.is_ended c.act.result c.requires.turns old new here there c.requires.safe
+    (subst (λ mode. IfOk c.act.result (λ r. Does r old new here there (step p reads (plain_in mode m)))) (sym c.requires.running)
+    (subst (λ o. IfOk c.act.result (λ r. Does r old new here there (act p reads o m.pc m.operands m.stack (state_of m)))) (sym found) c.act.ensures))
