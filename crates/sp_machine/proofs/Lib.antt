@@ -9,3 +9,4 @@ pub mod Spots
 pub mod Running
 pub mod Quiet
 pub mod Nested
+pub mod Pairs

@@ -3,9 +3,10 @@
 ghost use Rattle.std.specs.Prelude.{◌≡◌, ◌≢◌, ◌↔◌, ◌+◌, ◌<◌, ◌≤◌, ◌^◌, ◌∷◌, [], length, take, drop, true, slice_get, IsTrue, Ok, Some, OnOk, IfOk, IfSome};
 ghost use Rattle.sp_words.specs.Methods.{arity, changes};
 ghost use Rattle.sp_words.specs.declared.methods.Method.TheVariants as of;
+ghost use Rattle.sp_words.specs.declared.operators.BinaryOp.TheVariants as is_op;
 ghost use Rattle.sp_value.specs.Val.{void};
 ghost use Rattle.sp_value.specs.Changes.{IsSet, IsKeyed, IsVector, items_of, with_member, without_key};
-ghost use Rattle.sp_operators.specs.Operands.{are_added, are_joined, takes};
+ghost use Rattle.sp_operators.specs.Operands.{are_joined, takes};
 ghost use Rattle.sp_operators.specs.Operators.{added, binary};
 ghost use Rattle.sp_methods.specs.Methods.{method, suits};
 ghost use Rattle.sp_methods.specs.Taken.{popped};
@@ -23,7 +24,7 @@ use crate::rows::{Spot, spot_of};
 use sp_base::{Limits, NoMemory, PKind};
 use sp_code::{Instr, Program};
 use sp_lib::pop_back;
-use sp_operators::{ValueFault, add, binary};
+use sp_operators::ValueFault;
 use sp_value::{Level, Value};
 use sp_window::Window;
 use sp_words::{BinaryOp, Method};
@@ -137,6 +138,7 @@ impl Machine {
         }
     }
 
+    #[inline(always)]
     pub(crate) fn set_slot(&mut self, slot: Slot, value: Value)
         requires there { IsSlot slot (state_of self.old) }
         ensures rest { self.new ≡ record self.old { locals = self.new.locals; instances = self.new.instances } }
@@ -150,6 +152,7 @@ impl Machine {
     }
 
     /// Stores a value, and goes on behind that.
+    #[inline(always)]
     fn store_in(&mut self, slot: Slot, value: Value)
         requires running { self.old.mode ≡ Running }
         requires within { self.old.pc + 1 + 1 + 1 < 2 ^ 64 }
@@ -291,33 +294,37 @@ impl Machine {
         Ok(())
     }
 
-    /// Joins or adds two operands.
+    /// Joins two operands.
     #[tactic(auto, using(crate::proofs::InPlace::given_up))]
-    fn add_in(&mut self, left: Value, right: &Value, slot: Slot) -> Result<(), NoMemory>
+    fn join_in(&mut self, slot: Slot) -> Result<(), NoMemory>
         requires running { self.old.mode ≡ Running }
         requires within { self.old.pc + 1 + 1 + 1 < 2 ^ 64 }
         requires there { IsSlot slot (state_of self.old) }
-        requires taken { IsTrue (are_added left right.now) }
-        ensures { OnOk result (IsPut slot (self.old.pc + 1) (put (added left right.now) (self.old.pc + 1)
-            self.old.operands self.old.stack (state_of self.old)) (plain self.new)) }
+        requires operands { 1 < length self.old.operands }
+        requires joined { IsTrue (are_joined (second self.old.operands) (top self.old.operands)) }
+        ensures { OnOk result (IsPut slot (self.old.pc + 1) (put
+            (added (second self.old.operands) (top self.old.operands)) (self.old.pc + 1)
+            (below_top (below_top self.old.operands)) self.old.stack (state_of self.old)) (plain self.new)) }
     {
-        if joins(&left, right) {
-            self.set_slot(slot, Value::void());
-            let all = joined(left, right)?;
-            self.store_in(slot, all);
-            return Ok(());
-        }
-        match add(left, right) {
-            Ok(sum) => {
-                self.store_in(slot, sum);
-                Ok(())
-            }
-            Err(ValueFault::Run(kind)) => {
-                self.fails(kind);
-                Ok(())
-            }
-            Err(ValueFault::NoMemory) => Err(NoMemory),
-        }
+        let right = self.operands.pop();
+        let left = self.operands.pop();
+        self.set_slot(slot, Value::void());
+        let all = joined(left, &right)?;
+        self.store_in(slot, all);
+        Ok(())
+    }
+
+    /// Whether the operator puts one of the two operands on top behind the other.
+    fn is_join(&self, op: BinaryOp) -> bool
+        requires { 1 < length self.now.operands }
+        ensures { IsTrue result → (op ≡ is_op.Add)
+            × IsTrue (are_joined (second self.now.operands) (top self.now.operands)) }
+    {
+        let BinaryOp::Add = op else {
+            return false;
+        };
+        let two = self.operands.on_top(2);
+        joins(&two[0], &two[1])
     }
 
     fn binary_in(&mut self, op: BinaryOp, slot: Slot) -> Result<(), NoMemory>
@@ -330,12 +337,13 @@ impl Machine {
             (binary op (second self.old.operands) (top self.old.operands)) (self.old.pc + 1)
             (below_top (below_top self.old.operands)) self.old.stack (state_of self.old)) (plain self.new)) }
     {
-        let right = self.operands.pop();
-        let left = self.operands.pop();
-        if let BinaryOp::Add = op {
-            return self.add_in(left, &right, slot);
+        if self.is_join(op) {
+            return self.join_in(slot);
         }
-        match binary(op, &left, &right) {
+        let found = self.operated(op);
+        let _right = self.operands.pop();
+        let _left = self.operands.pop();
+        match found {
             Ok(found) => {
                 self.store_in(slot, found);
                 Ok(())

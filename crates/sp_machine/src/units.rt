@@ -9,6 +9,7 @@ ghost use Rattle.sp_machine.specs.declared.machine.Mode.TheVariants.{Running};
 ghost use Rattle.sp_machine.specs.Plain.{state_of, plain, Leads};
 
 use crate::machine::Machine;
+use crate::values::copy_of;
 use sp_base::{NoMemory, PKind};
 use sp_numbers::Width;
 use sp_value::Value;
@@ -22,7 +23,7 @@ impl Machine {
         ensures { OnOk result (plain self.new ≡ At (self.old.pc + 1)
             (parameter_of (state_of self.old) n ∷ self.old.operands) self.old.stack (state_of self.old)) }
     {
-        let value = self.instances[self.own].parameters()[n as usize].copy()?;
+        let value = copy_of(&self.instances[self.own].parameters()[n as usize])?;
         self.push_next(value)
     }
 
@@ -42,7 +43,7 @@ impl Machine {
     {
         match unit.as_unit() {
             Some(n) => match self.instances[n].member(m as usize) {
-                Some(value) => Ok(Some(value.copy()?)),
+                Some(value) => Ok(Some(copy_of(value)?)),
                 None => Ok(None),
             },
             None => Ok(None),

@@ -1,7 +1,8 @@
 // Instructions on values.
-ghost use Rattle.std.specs.Prelude.{◌≡◌, ◌+◌, ◌<◌, ◌^◌, ◌∷◌, [], length, IsTrue, OnOk, slice_get};
-ghost use Rattle.sp_operators.specs.Operands.{takes, takes_one, has_size, is_cast};
+ghost use Rattle.std.specs.Prelude.{◌≡◌, ◌+◌, ◌<◌, ◌^◌, ◌∷◌, [], length, IsTrue, IfOk, OnOk, slice_get};
+ghost use Rattle.sp_operators.specs.Operands.{takes, takes_memory, takes_one, has_size, is_cast};
 ghost use Rattle.sp_operators.specs.Operators.{binary, unary, cast};
+ghost use Rattle.sp_operators.specs.Outcomes.{Answers};
 ghost use Rattle.sp_running.specs.States.{local_of, set_local};
 ghost use Rattle.sp_running.specs.Values.{size_value};
 ghost use Rattle.sp_code.specs.Can.{top, second, below_top};
@@ -13,7 +14,21 @@ use crate::machine::Machine;
 use sp_base::NoMemory;
 use sp_code::Program;
 use sp_operators::{PlainType, ValueFault, binary, cast, size, unary};
+use sp_value::{Level, Value};
 use sp_words::{BinaryOp, UnaryOp};
+
+/// A copy of a value. Those that are copied most, and take no memory, are looked at first.
+#[inline(always)]
+pub(crate) fn copy_of(value: &Value) -> Result<Value, NoMemory>
+    ensures { IfOk result (λ copy. copy ≡ value.now) }
+{
+    match value.level() {
+        Level::Uint(width, n) => Ok(Value::uint(width, n)),
+        Level::Bool(b) => Ok(Value::bool(b)),
+        Level::Unit(n) => Ok(Value::unit(n)),
+        _ => value.copy(),
+    }
+}
 
 impl Machine {
     pub(crate) fn constant(&mut self, p: &Program, c: u32) -> Result<(), NoMemory>
@@ -23,7 +38,7 @@ impl Machine {
         ensures { OnOk result (plain self.new ≡ At (self.old.pc + 1) (const_of p.now.consts c ∷ self.old.operands)
             self.old.stack (state_of self.old)) }
     {
-        let value = p.consts.as_slice()[c as usize].copy()?;
+        let value = copy_of(&p.consts.as_slice()[c as usize])?;
         self.push_next(value)
     }
 
@@ -34,7 +49,7 @@ impl Machine {
         ensures { OnOk result (plain self.new ≡ At (self.old.pc + 1)
             (local_of (state_of self.old) l ∷ self.old.operands) self.old.stack (state_of self.old)) }
     {
-        let value = self.locals[l as usize].copy()?;
+        let value = copy_of(&self.locals[l as usize])?;
         self.push_next(value)
     }
 
@@ -70,6 +85,17 @@ impl Machine {
         }
     }
 
+    /// What an operator makes of the two operands on top.
+    pub(crate) fn operated(&self, op: BinaryOp) -> Result<Value, ValueFault>
+        requires operands { 1 < length self.now.operands }
+        requires taken { IsTrue (takes op (second self.now.operands) (top self.now.operands)) }
+        ensures { Answers (takes_memory op (second self.now.operands) (top self.now.operands))
+            (binary op (second self.now.operands) (top self.now.operands)) result }
+    {
+        let two = self.operands.on_top(2);
+        binary(op, &two[0], &two[1])
+    }
+
     pub(crate) fn binary(&mut self, op: BinaryOp) -> Result<(), NoMemory>
         requires running { self.old.mode ≡ Running }
         requires within { self.old.pc + 1 < 2 ^ 64 }
@@ -79,9 +105,10 @@ impl Machine {
             (binary op (second self.old.operands) (top self.old.operands)) (self.old.pc + 1)
             (below_top (below_top self.old.operands)) self.old.stack (state_of self.old))) }
     {
-        let right = self.operands.pop();
-        let left = self.operands.pop();
-        match binary(op, &left, &right) {
+        let found = self.operated(op);
+        let _right = self.operands.pop();
+        let _left = self.operands.pop();
+        match found {
             Ok(found) => self.push_next(found),
             Err(ValueFault::Run(kind)) => {
                 self.fails(kind);
