@@ -1,6 +1,7 @@
-// What the checker answers to a list, in the form of the lines.
+// What the checker answers to a list, and the first construct of it that isn't built, in the form of the lines.
+use crate::texts::ListTexts;
 use sp_ast::Module;
-use sp_base::{MKind, Place, Span, place_of};
+use sp_base::{Diag, MKind, Place, Span, place_of};
 use sp_check_unit::check;
 use sp_lex::{ReadFault, lex};
 use sp_read_unit::read_module;
@@ -15,13 +16,12 @@ fn place(text: &str, at: u32) -> Place {
     place_of(text.as_bytes(), at)
 }
 
-/// A refusal of a module, by its place in the list.
-fn refusal(
+/// Where a slice of a module begins, with the module by its place in the list.
+fn place_in(
     alloc: Global,
     texts: &[String],
     module: usize,
     span: Span,
-    kind: MKind,
 ) -> Result<String, AllocError> {
     let text = match texts.get(module) {
         Some(text) => text.as_str(),
@@ -31,9 +31,22 @@ fn refusal(
     let module = module.saturating_add(1);
     let line = place.line;
     let col = place.col;
+    format!(in alloc; "{module}:{line}:{col}")
+}
+
+/// A refusal of a module.
+fn refusal(
+    alloc: Global,
+    texts: &[String],
+    module: usize,
+    span: Span,
+    kind: MKind,
+) -> Result<String, AllocError> {
+    let place = place_in(alloc, texts, module, span)?;
+    let place = place.as_str();
     let number = kind.number();
     let name = kind.name();
-    format!(in alloc; "{module}:{line}:{col}: M{number} {name}")
+    format!(in alloc; "{place}: M{number} {name}")
 }
 
 /// The module of a text.
@@ -63,14 +76,41 @@ fn checked(alloc: Global, modules: &[Module]) -> Result<(), CheckFault> {
     Ok(())
 }
 
-/// The answer to a list of these texts.
-pub fn answer(alloc: Global, texts: &[String]) -> Result<String, AllocError> {
+/// The answer of the checker to a list of these texts.
+pub fn checker_answer(alloc: Global, texts: &[String]) -> Result<String, AllocError> {
     let modules = match modules_of(alloc, texts)? {
         Ok(modules) => modules,
         Err(unread) => return Ok(unread),
     };
     match checked(alloc, modules.as_slice()) {
         Ok(()) => format!(in alloc; "ok"),
+        Err(CheckFault::Diag(diag)) => {
+            refusal(alloc, texts, diag.module as usize, diag.span, diag.kind)
+        }
+        Err(CheckFault::NoMemory) => Err(AllocError),
+    }
+}
+
+/// The first construct of the modules that isn't built.
+fn unbuilt(
+    alloc: Global,
+    texts: &[String],
+    modules: &[Module],
+) -> Result<Option<Diag>, CheckFault> {
+    let checked = check(alloc, modules)?;
+    let texts = ListTexts::new(alloc, texts)?;
+    Ok(checked.unbuilt(&texts))
+}
+
+/// Where the first construct stands that isn't built, in a list of these texts.
+pub fn unbuilt_answer(alloc: Global, texts: &[String]) -> Result<String, AllocError> {
+    let modules = match modules_of(alloc, texts)? {
+        Ok(modules) => modules,
+        Err(unread) => return Ok(unread),
+    };
+    match unbuilt(alloc, texts, modules.as_slice()) {
+        Ok(Some(diag)) => place_in(alloc, texts, diag.module as usize, diag.span),
+        Ok(None) => format!(in alloc; "built"),
         Err(CheckFault::Diag(diag)) => {
             refusal(alloc, texts, diag.module as usize, diag.span, diag.kind)
         }

@@ -1,10 +1,20 @@
 // Lists of modules as the lines write them.
 use std::alloc::{AllocError, Global};
 
-/// A list: the line on which it begins, the answer that is wanted, and the texts of its modules.
+/// What is asked of a list.
+#[derive(Clone, Copy)]
+pub enum Question {
+    /// The answer of the checker.
+    Checker,
+    /// The first construct that isn't built.
+    Unbuilt,
+}
+
+/// A list: the line on which it begins, what is asked, the answer that is wanted, and the texts of its modules.
 #[derive(Drop)]
 pub struct List {
     line: u64,
+    question: Question,
     wanted: String,
     texts: Vec<String>,
 }
@@ -12,6 +22,10 @@ pub struct List {
 impl List {
     pub fn line(&self) -> u64 {
         self.line
+    }
+
+    pub fn question(&self) -> Question {
+        self.question
     }
 
     pub fn wanted(&self) -> &str {
@@ -52,11 +66,17 @@ impl Lists {
     }
 
     /// Begins a list of one module.
-    fn begin_list(&mut self, alloc: Global, wanted: &str) -> Result<(), AllocError> {
+    fn begin_list(
+        &mut self,
+        alloc: Global,
+        question: Question,
+        wanted: &str,
+    ) -> Result<(), AllocError> {
         let mut texts = Vec::new(alloc);
         texts.push(String::new(alloc))?;
         self.lists.push(List {
             line: self.lines,
+            question,
             wanted: String::from_str(alloc, wanted)?,
             texts,
         })?;
@@ -67,7 +87,10 @@ impl Lists {
     pub fn add_line(&mut self, alloc: Global, line: &str) -> Result<(), AllocError> {
         self.lines = self.lines.saturating_add(1);
         if let Some(wanted) = line.strip_prefix("@ ") {
-            return self.begin_list(alloc, wanted);
+            return self.begin_list(alloc, Question::Checker, wanted);
+        }
+        if let Some(wanted) = line.strip_prefix("@? ") {
+            return self.begin_list(alloc, Question::Unbuilt, wanted);
         }
         if let Some(list) = self.lists.last_mut() {
             if line == "@" {

@@ -1,21 +1,26 @@
-// Reads lists of modules with the answers that the checker must have, and tells which have another. A line of `@` and an
-// answer begins a list, and a line of `@` alone a further module of it; all other lines are the texts of the modules. What
-// stands before the first list is for readers. The answer is `ok`, or the refusal as `MODULE:LINE:COLUMN: NUMBER NAME`,
-// modules counted from 1 in the order of the list.
+// Reads lists of modules with the answers that they must have, and tells which have another. A line of `@` and an answer begins a list
+// that the checker is asked about: `ok`, or the refusal as `MODULE:LINE:COLUMN: NUMBER NAME`, modules counted from 1 in the order of the
+// list. A line of `@?` and an answer begins one whose first construct that isn't built is asked for: `built`, or its place as
+// `MODULE:LINE:COLUMN`, or a refusal. A line of `@` alone begins a further module of a list; all other lines are the texts of the modules.
+// What stands before the first list is for readers.
 #![tactic(auto)]
 
 mod answers;
 mod lists;
+mod texts;
 
-use answers::answer;
-use lists::{List, Lists};
+use answers::{checker_answer, unbuilt_answer};
+use lists::{List, Lists, Question};
 use std::alloc::{AllocError, Global};
 use std::io;
 
 /// The line that tells of a list that is answered otherwise.
 fn difference(alloc: Global, list: &List) -> Result<Option<String>, AllocError> {
     let wanted = list.wanted();
-    let got = answer(alloc, list.texts())?;
+    let got = match list.question() {
+        Question::Checker => checker_answer(alloc, list.texts())?,
+        Question::Unbuilt => unbuilt_answer(alloc, list.texts())?,
+    };
     if got.as_str() == wanted {
         return Ok(None);
     }

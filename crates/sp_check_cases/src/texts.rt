@@ -22,7 +22,7 @@ impl ListTexts {
 }
 
 impl Texts for ListTexts {
-    ghost use Rattle.sp_unbuilt_cases.specs.Texts.{text_at};
+    ghost use Rattle.sp_check_cases.specs.Texts.{text_at};
 
     ghost texts = { λ l n. text_at l.texts.items n };
 
