@@ -13,7 +13,7 @@ use Rattle.sp_program.specs.Whole.{starter_at, IsCompiled}
 use Rattle.sp_whole_program.proofs.Programs.{starters_are_last}
 use Rattle.sp_list_runs.specs.Runs.{AlwaysRuns}
 use Rattle.sp_list_runs.specs.Laws.{UnitsAreRunnable, UnitsTakeNone, RunnableUnitsRun}
-use Rattle.sp_fit_list.specs.Passes.{ListPasses}
+use Rattle.sp_list_laws.specs.fit_list.Passes.{ListPasses}
 use Rattle.machine_bench.specs.Starts.{IsOnly, StartsAt}
 
 -- the literals of a list that passes fit

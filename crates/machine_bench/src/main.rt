@@ -9,7 +9,7 @@
 #![tactic(auto)]
 
 ghost use Rattle.std.specs.Prelude.{IfOk};
-ghost use Rattle.sp_fit_list.specs.Passes.{ListPasses};
+ghost use Rattle.sp_list_laws.specs.fit_list.Passes.{ListPasses};
 ghost use Rattle.sp_program.specs.Whole.{IsCompiled};
 
 mod programs;

@@ -1,6 +1,6 @@
 // The program of a list.
 ghost use Rattle.std.specs.Prelude.{IfOk};
-ghost use Rattle.sp_fit_list.specs.Passes.{ListPasses};
+ghost use Rattle.sp_list_laws.specs.fit_list.Passes.{ListPasses};
 ghost use Rattle.sp_program.specs.Whole.{IsCompiled};
 
 use sp_base::NoMemory;

@@ -1,6 +1,6 @@
 // Runs of the only unit of a list.
 ghost use Rattle.std.specs.Prelude.{◌≡◌, ◌+◌, length, IsTrue, IfSome};
-ghost use Rattle.sp_fit_list.specs.Passes.{ListPasses};
+ghost use Rattle.sp_list_laws.specs.fit_list.Passes.{ListPasses};
 ghost use Rattle.sp_program.specs.Whole.{IsCompiled};
 ghost use Rattle.machine_bench.specs.Starts.{IsOnly, StartsAt};
 

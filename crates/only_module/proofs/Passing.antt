@@ -6,9 +6,9 @@ use Rattle.sp_scope.specs.Rules.{IsTyped}
 use Rattle.sp_typed_list.specs.Settled.{Answers}
 use Rattle.sp_typed_list.specs.Lists.{typed_of}
 use Rattle.sp_unbuilt.specs.Unbuilt.{Texts, first_unbuilt}
-use Rattle.sp_unbroken_list.specs.Given.{AreFormed, IsUnbroken}
-use Rattle.sp_field_places.specs.Apart.{AreApart}
-use Rattle.sp_fit_list.specs.Passes.{ListPasses}
+use Rattle.sp_list_laws.specs.unbroken_list.Given.{AreFormed, IsUnbroken}
+use Rattle.sp_list_laws.specs.field_places.Apart.{AreApart}
+use Rattle.sp_list_laws.specs.fit_list.Passes.{ListPasses}
 use Rattle.only_module.specs.Passing.{PassesWhereBuilt}
 
 -- what is said of all lists

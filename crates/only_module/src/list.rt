@@ -1,19 +1,17 @@
 // The typed list of the text of a module that is the only one.
 ghost use Rattle.std.specs.Prelude.{IsTrue, IfOk, IfSome};
-ghost use Rattle.sp_field_places.specs.Apart.{fields_apart, AreApart};
-ghost use Rattle.sp_fit_list.specs.Passes.{ListPasses};
+ghost use Rattle.sp_list_laws.specs.field_places.Apart.{fields_apart, AreApart};
+ghost use Rattle.sp_list_laws.specs.fit_list.Passes.{ListPasses};
 ghost use Rattle.only_module.specs.Passing.{PassesWhereBuilt};
 
 use sp_ast::Module;
 use sp_base::NoMemory;
 use sp_check_unit::check;
-use sp_field_places::modules_are_apart;
 use sp_lex::{ReadFault, lex};
-use sp_passing_list::lists_pass;
+use sp_list_laws::{lists_pass, modules_are_apart, modules_are_formed};
 use sp_read_unit::read_module;
 use sp_scope::CheckFault;
 use sp_typed_units::Typed;
-use sp_unbroken_list::modules_are_formed;
 use sp_unbuilt::{Texts, unbuilt};
 use std::alloc::Global;
 

@@ -5,7 +5,7 @@
 
 ghost use Rattle.std.specs.Prelude.{◌≡◌, ◌≤◌, ◌^◌, Some, None, length, IfOk, IfSome};
 ghost use Rattle.sp_choose.specs.Choices.{chosen};
-ghost use Rattle.sp_fit_list.specs.Passes.{ListPasses};
+ghost use Rattle.sp_list_laws.specs.fit_list.Passes.{ListPasses};
 ghost use Rattle.sp_driver.specs.inside.Ready.{AlwaysRuns, RunsWhatIsChosen};
 
 use only_module::list_of;

@@ -16,7 +16,7 @@ use Rattle.sp_lower_unit.specs.Units.{kinds_over, starter_kinds}
 use Rattle.sp_program.specs.Whole.{IsCompiled}
 use Rattle.sp_list_runs.specs.Laws.{CompiledListsRun}
 use Rattle.sp_lower.specs.Literals.{ListLiteralsFit}
-use Rattle.sp_fit_list.specs.Passes.{ListPasses}
+use Rattle.sp_list_laws.specs.fit_list.Passes.{ListPasses}
 use Rattle.sp_base.specs.declared.bytes.NoMemory.{NoMemory}
 use Rattle.sp_choose.specs.Choices.{takes_nothing, is_parser, is_asked, chosen}
 use Rattle.sp_choose.specs.Laws.{asked_at, IsAskedAt}

@@ -11,8 +11,8 @@ ghost use Rattle.sp_driver.specs.inside.Ready.{PassesWhereBuilt};
 use sp_base::Text;
 use sp_command::directories_of;
 use sp_io::Modules;
+use sp_list_laws::loaded_lists_pass;
 use sp_load::{Loaded, load};
-use sp_loaded_lists::loaded_lists_pass;
 use sp_read_file::Unread;
 use std::alloc::Global;
 

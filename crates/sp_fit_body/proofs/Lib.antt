@@ -1,3 +1,0 @@
-mod OfKinds
-mod Straight
-pub mod Sound

@@ -1,3 +1,0 @@
-pub mod Handed
-mod Parts
-pub mod Whole

@@ -1,6 +1,0 @@
-use Rattle.sp_known_kinds.proofs.Operations.{joined, place_so}
-use Rattle.sp_known_kinds.proofs.laws.places_pass.Goals as goal
-
-pub returns : goal.returns
-returns c = λ around k m owner e asked offset built made clear right widened owners change kept.
-    place_so around k m asked offset e (joined around k m e built made clear right widened owners) change owner kept

@@ -1,6 +1,0 @@
-use Rattle.sp_known_members.proofs.CanRead.{units_read}
-use Rattle.sp_known_units.proofs.Units.{units_known}
-use Rattle.sp_known_units.proofs.laws.units_are_known.Goals as goal
-
-pub returns : goal.returns
-returns c = λ list a formed unbroken. units_known list a formed unbroken (units_read list a formed unbroken) c.none_is_passed_over.ensures

@@ -1,0 +1,6 @@
+pub mod OfSorts
+pub mod OfTypes
+pub mod Leaves
+pub mod Forms
+pub mod OfValues
+pub mod Sound

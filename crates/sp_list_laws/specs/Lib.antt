@@ -1,0 +1,17 @@
+pub mod fit_expr
+pub mod fit_body
+pub mod fit_list
+pub mod made_nodes
+pub mod known_types
+pub mod known_values
+pub mod known_bodies
+pub mod whole_list
+pub mod known_constants
+pub mod unbroken_list
+pub mod known_members
+pub mod known_literals
+pub mod known_kinds
+pub mod known_statements
+pub mod field_places
+pub mod passing_list
+pub mod loaded_lists
