@@ -1,0 +1,4 @@
+pub mod Passing
+pub mod Compiled
+pub mod Starts
+pub mod Chosen
