@@ -1,3 +1,1 @@
-pub mod Fed
-pub mod Ready
 pub mod Listed
