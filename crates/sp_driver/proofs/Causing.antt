@@ -2,9 +2,9 @@
 use Rattle.std.specs.Prelude.{◌⊎◌}
 use Rattle.std.proofs.Common.{◌≡◌, ◌≢◌, ◌<◌, ℕ, sym, ◌∙◌, refl, arith, inl, inr, ⊎_elim}
 use Rattle.sp_read_file.specs.declared.unread.Unread.{Unread}
-use Rattle.sp_run.specs.declared.exits.RunExit.{RunExit}
-use Rattle.sp_compile.specs.declared.unready.Unready.{Unready}
 use Rattle.sp_driver.specs.declared.exits.Exit.{Exit}
+use Rattle.sp_driver.specs.declared.exits.RunExit.{RunExit}
+use Rattle.sp_driver.specs.declared.exits.Unready.{Unready}
 use Rattle.sp_driver.specs.Causes.{Counts, IsCausedBy}
 use Rattle.sp_driver.specs.Driver.{Faults, Messages, ExitCause, Reported, status_of}
 

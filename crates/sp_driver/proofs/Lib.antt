@@ -1,4 +1,7 @@
 pub mod Causing
+pub mod Puts
+pub mod Readying
+pub mod Runs
 pub mod Says
 pub mod Wanting
 pub mod Wholes

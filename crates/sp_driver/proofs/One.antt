@@ -13,10 +13,9 @@ use Rattle.sp_typed_units.specs.declared.declarations.Typed.{Typed}
 use Rattle.sp_typed_list.specs.Settled.{Answers}
 use Rattle.sp_typed_list.specs.Lists.{typed_list}
 use Rattle.sp_driver_words.specs.Words.{Words}
-use Rattle.sp_compile.specs.declared.unready.Unready.{Unready}
-use Rattle.sp_compile.specs.Lists.{IsUnready, IsChosen}
+use Rattle.sp_driver.specs.declared.exits.Unready.{Unready}
 use Rattle.sp_driver.specs.Driver.{run_meaning, unready_status, unready_message}
-use Rattle.sp_driver.specs.Lists.{IsListed}
+use Rattle.sp_driver.specs.Lists.{IsListed, IsUnready, IsChosen}
 use Rattle.sp_driver.specs.Options.{options_of}
 use Rattle.sp_driver.specs.Whole.{Answer, tells, run_answer, IsRefusal, IsRun, IsAnswer}
 

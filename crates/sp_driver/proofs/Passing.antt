@@ -9,7 +9,7 @@ use Rattle.sp_load.specs.declared.loaded.Loaded.{Loaded}
 use Rattle.sp_scope.specs.Rules.{IsTyped}
 use Rattle.sp_unbuilt.specs.Unbuilt.{first_unbuilt}
 use Rattle.sp_list_laws.specs.loaded_lists.Laws.{LoadedListsPass}
-use Rattle.sp_compile.specs.Ready.{PassesWhereBuilt}
+use Rattle.sp_driver.specs.inside.Ready.{PassesWhereBuilt}
 
 pub loaded_passes : LoadedListsPass → (files : Files) (names directories : List (List ℕ)) (r : Result Loaded Unread)
     → IfOk r (λ l. (fs : List ModuleFile) × IsLoaded files names directories fs × (l.sources.items ≡ sources_of fs) × (l.modules.items ≡ trees_of fs))

@@ -9,14 +9,13 @@ use Rattle.sp_load.specs.declared.sources.Source.{Source}
 use Rattle.sp_scope.specs.Rules.{IsTyped}
 use Rattle.sp_typed_units.specs.declared.declarations.Typed.{Typed}
 use Rattle.sp_driver_words.specs.Words.{Words, words_of}
-use Rattle.sp_run.specs.declared.exits.RunExit.{RunExit}
-use Rattle.sp_run.specs.Run.{Runs}
-use Rattle.sp_compile.specs.declared.unready.Unready.{Unready}
-use Rattle.sp_compile.specs.Lists.{IsUnready, IsChosen}
 use Rattle.sp_driver.specs.declared.exits.Exit.{Exit}
+use Rattle.sp_driver.specs.declared.exits.RunExit.{RunExit}
+use Rattle.sp_driver.specs.declared.exits.Unready.{Unready}
 use Rattle.sp_driver.specs.Driver.{Faults, Objects, IsUntouched, Says, ExitCause, run_meaning}
-use Rattle.sp_driver.specs.Lists.{IsListed}
+use Rattle.sp_driver.specs.Lists.{IsListed, IsUnready, IsChosen}
 use Rattle.sp_driver.specs.Options.{options_of}
+use Rattle.sp_driver.specs.Run.{Runs}
 use Rattle.sp_driver.specs.inside.Listed.{IsRunOf, IsRunCause}
 
 module _ (words : List (List ℕ)) (files : Files) (before after : Objects) (w : Words) (ss : List Source) (ts : List Tree) (t : Typed) (found : words_of words ≡ Some w)

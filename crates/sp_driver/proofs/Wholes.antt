@@ -11,16 +11,16 @@ use Rattle.sp_command.specs.Refusals.{refusal_text}
 use Rattle.sp_read_file.specs.declared.unread.Unread.{Unread}
 use Rattle.sp_front.specs.Lists.{Files}
 use Rattle.sp_driver_words.specs.Words.{Words, words_of}
-use Rattle.sp_run.specs.declared.exits.RunExit.{RunExit}
-use Rattle.sp_run.specs.declared.options.RunOptions.{RunOptions}
-use Rattle.sp_run.specs.Shown.{shown}
-use Rattle.sp_run.specs.Run.{Runs, IsTakenWhole, IsWhole}
-use Rattle.sp_run.proofs.Runs.{shown-append, run_whole, run_long}
-use Rattle.sp_compile.specs.declared.unready.Unready.{Unready}
 use Rattle.sp_driver.specs.declared.exits.Exit.{Exit}
+use Rattle.sp_driver.specs.declared.exits.RunExit.{RunExit}
+use Rattle.sp_driver.specs.declared.exits.Unready.{Unready}
+use Rattle.sp_driver.specs.declared.options.RunOptions.{RunOptions}
 use Rattle.sp_driver.specs.Options.{options_of}
 use Rattle.sp_driver.specs.Driver.{Objects, Messages, Says, Reported, run_meaning, status_of, message_of, unready_status, unready_message, run_status, run_message}
+use Rattle.sp_driver.specs.Run.{Runs, IsTakenWhole, IsWhole}
+use Rattle.sp_driver.specs.Shown.{shown}
 use Rattle.sp_driver.specs.Whole.{Answer, tells, stand_status, ended_answer, long_answer, run_answer, IsAnswer, IsAnswered}
+use Rattle.sp_driver.proofs.Runs.{shown-append, run_whole, run_long}
 
 -- the exits at which nothing failed and there was memory
 abbrev pub IsCalm : ℕ → Type 0

@@ -12,19 +12,18 @@ use Rattle.sp_front.specs.declared.entries.ModuleFile.{ModuleFile}
 use Rattle.sp_front.specs.inside.Follow.{IsRefusedBy}
 use Rattle.sp_load.specs.Loads.{IsLoadRefused, sources_of, trees_of}
 use Rattle.sp_typed_units.specs.declared.declarations.Typed.{Typed}
+use Rattle.sp_session.specs.Units.{unit_meaning}
 use Rattle.sp_driver_words.specs.Words.{Words, words_of}
-use Rattle.sp_run.specs.declared.exits.RunExit.{RunExit}
-use Rattle.sp_run.specs.Runnable.{meaning_within}
-use Rattle.sp_run.specs.Run.{Runs, RunCause}
-use Rattle.sp_compile.specs.declared.unready.Unready.{Unready}
-use Rattle.sp_compile.specs.Lists.{IsUnready, IsChosen}
 use Rattle.sp_driver.specs.declared.exits.Exit.{Exit}
-use Rattle.sp_driver.specs.Lists.{IsListed}
-use Rattle.sp_driver.specs.Options.{options_of}
+use Rattle.sp_driver.specs.declared.exits.RunExit.{RunExit}
+use Rattle.sp_driver.specs.declared.exits.Unready.{Unready}
+use Rattle.sp_driver.specs.Lists.{IsListed, IsUnready, IsChosen}
+use Rattle.sp_driver.specs.Options.{limits_of, options_of}
+use Rattle.sp_driver.specs.Run.{Runs, RunCause}
 
 -- what a run has to show: the meaning of the unit with this number, within the limits of the words
 abbrev pub run_meaning : Words → Typed → ℕ → UnitMeaning
-run_meaning w t u = meaning_within w.turns t u
+run_meaning w t u = unit_meaning t (limits_of w.turns) u
 
 -- how often the modules, the input and the output failed
 pub record Faults : Type 0 where

@@ -1,7 +1,11 @@
 pub mod Causes
 pub mod Driver
+pub mod Lines
 pub mod Lists
 pub mod Options
+pub mod Parts
 pub mod Rows
+pub mod Run
+pub mod Shown
 pub mod Whole
 pub mod inside

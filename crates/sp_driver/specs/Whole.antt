@@ -11,13 +11,12 @@ use Rattle.sp_front.specs.declared.entries.ModuleFile.{ModuleFile}
 use Rattle.sp_load.specs.Loads.{IsLoadRefused, sources_of, trees_of}
 use Rattle.sp_typed_units.specs.declared.declarations.Typed.{Typed}
 use Rattle.sp_driver_words.specs.Words.{Words, words_of}
-use Rattle.sp_run.specs.declared.options.RunOptions.{RunOptions}
-use Rattle.sp_run.specs.Shown.{run_lines}
-use Rattle.sp_compile.specs.declared.unready.Unready.{Unready}
-use Rattle.sp_compile.specs.Lists.{IsUnready, IsChosen}
-use Rattle.sp_driver.specs.Lists.{IsListed}
+use Rattle.sp_driver.specs.declared.exits.Unready.{Unready}
+use Rattle.sp_driver.specs.declared.options.RunOptions.{RunOptions}
+use Rattle.sp_driver.specs.Lists.{IsListed, IsUnready, IsChosen}
 use Rattle.sp_driver.specs.Options.{options_of}
 use Rattle.sp_driver.specs.Driver.{run_meaning, unready_status, unready_message}
+use Rattle.sp_driver.specs.Shown.{run_lines}
 
 -- a status, the bytes on the output, and those on the output for messages
 pub record Answer : Type 0 where

@@ -2,22 +2,23 @@
 ghost use Rattle.std.specs.Prelude.{◌≡◌, ◌≤◌, ◌<◌, ◌-◌, ◌^◌, Some, option_map, IfOk, IfSome};
 ghost use Rattle.sp_driver_words.specs.Wants.{wanted_words, AreInRange};
 ghost use Rattle.sp_driver_words.specs.Words.{Words, words_of};
-ghost use Rattle.sp_compile.specs.Ready.{PassesWhereBuilt};
 ghost use Rattle.sp_driver.specs.Causes.{IsCausedBy};
 ghost use Rattle.sp_driver.specs.Whole.{IsAnswered};
 ghost use Rattle.sp_driver.specs.Options.{options_of};
 ghost use Rattle.sp_driver.specs.inside.Listed.{IsRunOf, IsRunCause};
-ghost use Rattle.sp_driver.specs.Driver.{Says, ExitCause, Reported, Ended, status_of, message_of};
+ghost use Rattle.sp_driver.specs.inside.Ready.{PassesWhereBuilt};
+ghost use Rattle.sp_driver.specs.Driver.{Says, ExitCause, Reported, Ended, status_of, unread_status, unready_status, run_status, message_of, unread_message, unready_message, run_message};
 
-use crate::exits::Exit;
+use crate::compile::compile;
+use crate::exits::{Exit, RunExit, Unready};
 use crate::loading::load_list;
+use crate::options::RunOptions;
+use crate::run::run_unit;
 use sp_base::{ByteList, NoMemory, Text};
-use sp_compile::{Unready, compile};
 use sp_driver_words::{Wanted, words_wanted};
 use sp_io::{Modules, Out, OutFault, Source, put_all};
 use sp_load::Loaded;
 use sp_read_file::Unread;
-use sp_run::{RunExit, RunOptions, Runnable, run_unit};
 use std::alloc::Global;
 
 fn options_of(wanted: &Wanted<'_>) -> RunOptions
@@ -59,13 +60,9 @@ fn run_list<S: Source, O: Out>(
 {
     match compile(alloc, wanted.unit, list) {
         Ok(compiled) => {
-            let runnable = Runnable {
-                list: &list.typed,
-                program: &compiled.program,
-                unit: compiled.unit,
-            };
             let options = options_of(wanted);
-            Exit::Ran(run_unit(alloc, &runnable, wanted.turns, options, input, out))
+            let turns = wanted.turns;
+            Exit::Ran(run_unit(alloc, &list.typed, &compiled, turns, options, input, out))
         }
         Err(unready) => Exit::Unready(unready),
     }

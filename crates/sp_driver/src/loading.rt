@@ -6,7 +6,7 @@ ghost use Rattle.sp_front.specs.declared.entries.ModuleFile.{ModuleFile as File}
 ghost use Rattle.sp_front.specs.inside.Follow.{IsRefusedBy};
 ghost use Rattle.sp_load.specs.Loads.{IsLoaded, IsLoadRefused, sources_of, trees_of};
 ghost use Rattle.sp_scope.specs.Rules.{IsTyped};
-ghost use Rattle.sp_compile.specs.Ready.{PassesWhereBuilt};
+ghost use Rattle.sp_driver.specs.inside.Ready.{PassesWhereBuilt};
 
 use sp_base::Text;
 use sp_command::directories_of;

@@ -4,11 +4,11 @@ use Rattle.sp_ast.specs.Trees.{Tree}
 use Rattle.sp_load.specs.declared.sources.Source.{Source}
 use Rattle.sp_typed_units.specs.declared.declarations.Typed.{Typed}
 use Rattle.sp_driver_words.specs.Words.{Words}
-use Rattle.sp_run.specs.Run.{Runs, RunCause}
-use Rattle.sp_compile.specs.Lists.{IsUnready, IsChosen}
 use Rattle.sp_driver.specs.declared.exits.Exit.{Exit}
 use Rattle.sp_driver.specs.Driver.{run_meaning}
+use Rattle.sp_driver.specs.Lists.{IsUnready, IsChosen}
 use Rattle.sp_driver.specs.Options.{options_of}
+use Rattle.sp_driver.specs.Run.{Runs, RunCause}
 
 -- no unit of it runs, and nothing was taken and put; or one ran
 abbrev pub IsRunOf : Words → List Source → List Tree → Typed → (left_before left_after held_before held_after : Option (List ℕ)) → Exit → Type 0

@@ -1,5 +1,0 @@
-use Rattle.sp_compile.proofs.Readying.{passing_runs}
-use Rattle.sp_compile.proofs.compiling.program_of.Goals as goal
-
-pub returns : goal.returns
-returns c = passing_runs c.compiled_lists_run.ensures c.args.list.now c.lower.result c.lower.ensures c.requires
