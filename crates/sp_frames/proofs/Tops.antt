@@ -1,6 +1,6 @@
 -- The top of a stack that is kept with its top last.
 use Rattle.std.proofs.Common.{◌≡◌, ℕ, ◌+◌, ◌-◌, ◌<◌, ◌≤◌, List, [], ◌∷◌, ◌++◌, length, get_or, take, drop, reverse, refl, sym, ap, ◌∙◌, arith}
-use Rattle.std.proofs.lemmas.List.{reverse-append, reverse-reverse, length-reverse, take-append-drop, length-drop, take_all, take_more, drop_more}
+use Rattle.std.proofs.lemmas.List.{reverse-append, reverse-reverse, length-reverse, take-append-drop, length-drop, length-take-le, drop-take, take_all, take_more, drop_more}
 use Rattle.std.proofs.Math.Seq.{take-append_seam, drop-append_seam}
 
 module _ {A : Type 0} where
@@ -19,14 +19,22 @@ module _ {A : Type 0} where
       let l : n ≤ length xs = omega (arith, length-reverse xs, ap length e, h) in
       g ∙ ap (λ k. drop (k - n) xs) f ∙ (tops n xs l).0 ∙ ap (λ l. reverse (take n l)) e
 
-  pub top_left : (n len : ℕ) (xs ys zs : List A) → reverse xs ≡ ys → len ≡ length xs → n ≤ length ys → zs ≡ take (len - n) xs → reverse zs ≡ drop n ys
-  top_left n len xs ys zs e f h g =
-      let l : n ≤ length xs = omega (arith, length-reverse xs, ap length e, h) in
-      ap reverse (g ∙ ap (λ k. take (k - n) xs) f) ∙ (tops n xs l).1 ∙ ap (drop n) e
+  -- what is left is kept in so many slots
+  pub top_left : (n h : ℕ) (xs ys zs : List A) → reverse xs ≡ ys → h ≡ length xs → n ≤ length ys → zs ≡ take (h - n) xs → reverse (take (h - n) zs) ≡ drop n ys
+  top_left n h xs ys zs e f l g =
+      let fewer : n ≤ length xs = omega (arith, length-reverse xs, ap length e, l) in
+      let all : take (h - n) zs ≡ zs = take_all (h - n) zs (omega (arith, ap length g, length-take-le (h - n) xs (omega (arith, f)))) in
+      ap reverse (all ∙ g ∙ ap (λ k. take (k - n) xs) f) ∙ (tops n xs fewer).1 ∙ ap (drop n) e
 
-  pub top_lent : (n len : ℕ) (xs ys : List A) → reverse xs ≡ ys → len ≡ length xs → n ≤ length ys → take (length xs - (len - n)) (drop (len - n) xs) ≡ reverse (take n ys)
-  top_lent n len xs ys e f h =
-      take_all (length xs - (len - n)) (drop (len - n) xs) (omega (arith, length-drop (len - n) xs)) ∙ top_taken n len xs ys (drop (len - n) xs) e f h refl
+  -- the first h slots are those of a stack
+  pub first_slots : (h : ℕ) (xs : List A) → h ≤ length xs → h ≡ length (take h xs)
+  first_slots h xs l = sym (length-take-le h xs l)
+
+  pub top_lent : (n h : ℕ) (xs lent ys : List A) → lent ≡ xs → reverse (take h xs) ≡ ys → h ≤ length xs → n ≤ length ys → take (h - (h - n)) (drop (h - n) lent) ≡ reverse (take n ys)
+  top_lent n h xs lent ys same e l g =
+      let whole : (h - n) + (h - (h - n)) ≡ h = omega arith in
+      ap (λ zs. take (h - (h - n)) (drop (h - n) zs)) same ∙ sym (drop-take (h - n) (h - (h - n)) xs) ∙ ap (λ k. drop (h - n) (take k xs)) whole
+      ∙ top_taken n h (take h xs) ys (drop (h - n) (take h xs)) e (first_slots h xs l) g refl
 
   -- one more is taken off a stack of which k were taken, whose top is x
   above : (k : ℕ) (xs ys rest : List A) (x : A) → k < length xs → ys ≡ drop k xs → ys ≡ x ∷ rest → get_or xs k x ∷ drop (k + 1) xs ≡ x ∷ rest

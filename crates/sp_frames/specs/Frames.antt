@@ -1,5 +1,5 @@
 -- Frames as plain data.
-use Rattle.std.specs.Prelude.{List, [], ◌∷◌, reverse}
+use Rattle.std.specs.Prelude.{List, [], ◌∷◌}
 use Rattle.sp_base.specs.declared.places.ParseError.{ParseError}
 use Rattle.sp_running.specs.States.{Error}
 use Rattle.sp_running.specs.Scopes.{Called, Scope, InUnit, InParts, InFailing, InCall}
@@ -21,10 +21,10 @@ error_of e = record { kind = e.kind; text = e.text; place = e.offset; level = 0;
 
 -- the open construct, the address behind it, and the operands below it, the top first
 abbrev pub frame_of : Frame → plain.Frame
-frame_of (Unit keeps instance start own locals to operands) = record { scope = InUnit keeps instance start own locals; to = to; below = reverse operands }
+frame_of (Unit keeps instance start own locals to operands) = record { scope = InUnit keeps instance start own locals; to = to; below = operands }
 frame_of (Parts failing ending) = record { scope = InParts failing; to = ending; below = [] }
 frame_of (Failing error ending) = record { scope = InFailing (error_of error); to = ending; below = [] }
-frame_of (Call callee own locals to operands) = record { scope = InCall (called callee) own locals; to = to; below = reverse operands }
+frame_of (Call callee own locals to operands) = record { scope = InCall (called callee) own locals; to = to; below = operands }
 
 abbrev pub frames_of : List Frame → List plain.Frame
 frames_of [] = []

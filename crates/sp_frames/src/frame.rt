@@ -1,4 +1,5 @@
 // Open constructs.
+use crate::operands::Operands;
 use sp_base::ParseError;
 use sp_value::Values;
 
@@ -12,7 +13,7 @@ pub enum Callee {
 }
 
 /// An open construct, with what is outside it: the number of the instance at hand, the locals, the address
-/// at which the code goes on behind it, and the operands below its value, the top last.
+/// at which the code goes on behind it, and the operands below its value.
 #[derive(Drop)]
 pub enum Frame {
     /// A unit: whether the bytes from its start on are kept, the number of its instance, and its start.
@@ -23,7 +24,7 @@ pub enum Frame {
         own: u64,
         locals: Values,
         to: u64,
-        operands: Values,
+        operands: Operands,
     },
     /// The parts of a unit: the addresses of what runs where they fail, and of what runs behind them.
     Parts {
@@ -41,6 +42,6 @@ pub enum Frame {
         own: u64,
         locals: Values,
         to: u64,
-        operands: Values,
+        operands: Operands,
     },
 }

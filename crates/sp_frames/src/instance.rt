@@ -46,7 +46,7 @@ impl Instance {
           members = replicate members None;
         }) }
     {
-        let mut unset = Vec::new(alloc);
+        let mut unset = Vec::with_capacity(alloc, members)?;
         for _ in 0..members {
             unset.push(None)?;
         }
@@ -92,6 +92,7 @@ impl Instance {
     }
 
     /// Sets a member. Takes no memory.
+    #[inline(always)]
     pub fn set_member(&mut self, m: usize, value: Value)
         requires { m < length self.old.members }
         ensures { self.new ≡ with_member m value self.old }

@@ -5,15 +5,19 @@ ghost use Rattle.sp_code.specs.Can.{top, below_top};
 use sp_base::NoMemory;
 use sp_value::{Value, Values};
 use std::marker::Model;
+use std::mem;
 
 /// The operands of the body that runs, seen with their top first.
 #[derive(Drop)]
 pub struct Operands {
-    items: Vec<Value>,
+    /// The operands, the top last, and behind them what was taken off: void.
+    slots: Vec<Value>,
+    /// How many operands there are.
+    height: usize,
 }
 
 impl Model for Operands {
-    ghost use Rattle.std.specs.Prelude.{List, reverse};
+    ghost use Rattle.std.specs.Prelude.{List, ◌≤◌, length, reverse, take};
     ghost use Rattle.std.specs.Coded.{codes};
     ghost use Rattle.sp_value.specs.Val.{Val};
     ghost use Rattle.sp_value.specs.contracts.value.Value as value_row;
@@ -22,7 +26,9 @@ impl Model for Operands {
 
     ghost coded = { Prim.hlevel (codes, value_row.the_row.coded) };
 
-    ghost view = { λ o. reverse o.items.items };
+    ghost view = { λ o. reverse (take o.height o.slots.items) };
+
+    ghost invariant = { λ o. o.height ≤ length o.slots.items };
 }
 
 impl Operands {
@@ -30,27 +36,62 @@ impl Operands {
     pub fn new(items: Vec<Value>) -> Operands
         ensures { result ≡ reverse items.items }
     {
-        Operands { items }
+        let height = items.len();
+        Operands {
+            slots: items,
+            height,
+        }
     }
 
     /// The values, the top last. Takes no memory.
     pub fn into_vec(self) -> Vec<Value>
         ensures { reverse result.items ≡ self }
     {
-        self.items
+        let mut items = self.slots;
+        items.truncate(self.height);
+        items
+    }
+
+    /// Takes all values off. Takes no memory.
+    pub fn clear(&mut self)
+        ensures { self.new ≡ [] }
+    {
+        if self.height > 0 {
+            self.slots.clear();
+            self.height = 0;
+        }
+    }
+
+    /// How many values it has room for.
+    pub(crate) fn room(&self) -> usize {
+        self.slots.capacity()
     }
 
     pub fn is_empty(&self) -> bool
         ensures { IsTrue result ↔ (self.now ≡ []) }
     {
-        self.items.is_empty()
+        self.height == 0
     }
 
     #[inline(always)]
     pub fn push(&mut self, x: Value) -> Result<(), NoMemory>
         ensures { OnOk result (self.new ≡ x ∷ self.old) }
     {
-        self.items.push(x)?;
+        if self.height < self.slots.len() {
+            self.slots[self.height] = x;
+            self.height += 1;
+            return Ok(());
+        }
+        self.push_slot(x)
+    }
+
+    /// Puts a value on top where each slot holds an operand.
+    fn push_slot(&mut self, x: Value) -> Result<(), NoMemory>
+        ensures { OnOk result (self.new ≡ x ∷ self.old) }
+    {
+        self.slots.truncate(self.height);
+        self.slots.push(x)?;
+        self.height += 1;
         Ok(())
     }
 
@@ -60,10 +101,8 @@ impl Operands {
         requires { 0 < length self.old }
         ensures { self.old ≡ result ∷ self.new }
     {
-        match self.items.pop() {
-            Some(x) => x,
-            None => unreachable!(),
-        }
+        self.height -= 1;
+        mem::replace(&mut self.slots[self.height], Value::void())
     }
 
     /// The value on top.
@@ -71,15 +110,16 @@ impl Operands {
         requires { 0 < length self.now }
         ensures { result.now ≡ top self.now }
     {
-        &self.items[self.items.len() - 1]
+        &self.slots[self.height - 1]
     }
 
     /// The `n` values on top, the lowest first.
+    #[inline(always)]
     pub fn on_top(&self, n: usize) -> &[Value]
         requires { n ≤ length self.now }
         ensures { result.now ≡ reverse (take n self.now) }
     {
-        &self.items[self.items.len() - n..]
+        &self.slots[self.height - n..self.height]
     }
 
     /// Takes the `n` values on top into a list that is empty, the lowest first. It takes no memory where the list has room.
@@ -104,8 +144,10 @@ impl Operands {
         ensures taken { IfOk result (λ values. values.items ≡ reverse (take n self.old)) }
         ensures left { OnOk result (self.new ≡ drop n self.old) }
     {
-        let at = self.items.len() - n;
-        let values = self.items.split_off(at)?;
+        let at = self.height - n;
+        self.slots.truncate(self.height);
+        self.height = at;
+        let values = self.slots.split_off(at)?;
         Ok(values)
     }
 }

@@ -10,3 +10,4 @@ pub mod Running
 pub mod Quiet
 pub mod Nested
 pub mod Pairs
+pub mod Quick

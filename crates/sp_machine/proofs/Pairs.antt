@@ -1,5 +1,5 @@
 -- The two values on top of a stack, as a slice with the lower one first.
-use Rattle.std.proofs.Common.{◌≡◌, ◌<◌, List, [], ◌∷◌, length, reverse, take, refl, sym, ap, ◌∙◌, arith}
+use Rattle.std.proofs.Common.{◌≡◌, ◌<◌, List, [], ◌∷◌, length, reverse, take, refl, ap, ◌∙◌, arith}
 use Rattle.std.specs.Prelude.{get_or}
 use Rattle.sp_value.specs.Val.{Val}
 use Rattle.sp_code.specs.Can.{top, second}

@@ -12,6 +12,7 @@ ghost use Rattle.sp_machine.specs.Plain.{state_of, plain, Leads, Does};
 ghost use Rattle.sp_machine.specs.Bodies.{body_of, unit_of, InnermostIsNoCall, InnermostIsNoUnit};
 
 use crate::machine::{Machine, Mode, Stop};
+use crate::values::copy_of;
 use sp_base::{Limits, NoMemory, PKind, ParseError};
 use sp_code::{BodyCode, BodyOf, UnitCode};
 use sp_frames::{Callee, Frame, Instance, Operands};
@@ -53,7 +54,7 @@ fn append_copies(values: &mut Vec<Value>, others: &[Value]) -> Result<(), NoMemo
     ensures { OnOk result (values.new.items ≡ values.old.items ++ others.now) }
 {
     for value in others {
-        values.push(value.copy()?)?;
+        values.push(copy_of(value)?)?;
     }
     Ok(())
 }
@@ -82,11 +83,8 @@ impl Machine {
         let taken = self.operands.take_top_in(body.takes as usize, room)?;
         let inner = with_copies(taken, body.fresh.as_slice())?;
         let locals = Values::new(mem::replace(&mut self.locals, inner));
-        let list = self.spare.take();
-        let operands = Values::new(mem::replace(
-            &mut self.operands,
-            Operands::new(list),
-        ).into_vec());
+        let stack = self.spare.take_stack();
+        let operands = mem::replace(&mut self.operands, stack);
         self.stack.push(Frame::Call {
             callee,
             own: self.own as u64,
@@ -144,11 +142,8 @@ impl Machine {
         let instance = Instance::new(alloc, u, self.place, parameters, unit.members.len())?;
         let inner = with_copies(self.spare.take(), unit.fresh.as_slice())?;
         let locals = Values::new(mem::replace(&mut self.locals, inner));
-        let list = self.spare.take();
-        let operands = Values::new(mem::replace(
-            &mut self.operands,
-            Operands::new(list),
-        ).into_vec());
+        let stack = self.spare.take_stack();
+        let operands = mem::replace(&mut self.operands, stack);
         let number = self.instances.len();
         self.instances.push(instance)?;
         self.stack.push(Frame::Unit {
@@ -189,20 +184,20 @@ impl Machine {
     }
 
     /// Goes on outside a frame: the instance at hand, the locals, the address, and the operands there.
-    fn leave_to(&mut self, own: u64, locals: Values, to: u64, operands: Values)
+    fn leave_to(&mut self, own: u64, locals: Values, to: u64, operands: Operands)
         ensures outside { self.new ≡ record self.old {
           own = own;
           locals = self.new.locals;
           pc = to;
-          operands = reverse operands;
+          operands = operands;
           spare = self.new.spare;
         } }
         ensures locals { self.new.locals.items ≡ locals }
     {
         let freed = mem::replace(&mut self.locals, locals.into_vec());
         self.spare.give(freed);
-        let used = mem::replace(&mut self.operands, Operands::new(operands.into_vec()));
-        self.spare.give(used.into_vec());
+        let used = mem::replace(&mut self.operands, operands);
+        self.spare.give_stack(used);
         self.own = own as usize;
         self.pc = to as usize;
     }
@@ -211,9 +206,9 @@ impl Machine {
     fn go_on_at(&mut self, to: u64)
         ensures { self.new ≡ record self.old { mode = Running; pc = to; operands = []; spare = self.new.spare } }
     {
-        let list = self.spare.take();
-        let used = mem::replace(&mut self.operands, Operands::new(list));
-        self.spare.give(used.into_vec());
+        let stack = self.spare.take_stack();
+        let used = mem::replace(&mut self.operands, stack);
+        self.spare.give_stack(used);
         self.mode = Mode::Running;
         self.pc = to as usize;
     }

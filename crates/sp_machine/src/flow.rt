@@ -13,6 +13,7 @@ use sp_base::{Limits, NoMemory, PKind, ParseError, Text};
 use sp_value::{Level, Value};
 
 /// The truth that a value is.
+#[inline(always)]
 pub(crate) fn truth(value: &Value) -> bool
     requires { IsBool value.now }
     ensures { result ≡ truth_of value.now }
@@ -35,6 +36,7 @@ fn text_of(alloc: std::alloc::Global, value: &Value) -> Result<Option<Text>, NoM
 
 impl Machine {
     /// Counts a turn, unless that passes the limit.
+    #[inline(always)]
     pub(crate) fn count_turn(&mut self, limits: &Limits) -> bool
         requires running { self.old.mode ≡ Running }
         ensures counted { result ≡ nat_lt self.old.count limits.now.turns }
@@ -51,6 +53,7 @@ impl Machine {
         }
     }
 
+    #[inline(always)]
     pub(crate) fn turn(&mut self, limits: &Limits)
         requires running { self.old.mode ≡ Running }
         requires within { self.old.pc + 1 < 2 ^ 64 }
@@ -63,6 +66,7 @@ impl Machine {
         }
     }
 
+    #[inline(always)]
     pub(crate) fn jump_not(&mut self, to: u32)
         requires running { self.old.mode ≡ Running }
         requires within { self.old.pc + 1 < 2 ^ 64 }

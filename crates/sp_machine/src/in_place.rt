@@ -102,6 +102,7 @@ fn last_of(vector: &mut Value) -> Result<Value, NoMemory>
 
 impl Machine {
     /// The slot in which the code from an address on stores what is on top.
+    #[inline(always)]
     pub(crate) fn slot_from(&self, p: &Program, at: usize) -> Option<Slot>
         ensures { IfSome result (λ slot. IsStored p.now.code.items at slot × IsSlot slot (state_of self.now)
             × (at + 1 + 1 < 2 ^ 64)) }
@@ -116,6 +117,7 @@ impl Machine {
         }
     }
 
+    #[inline(always)]
     fn local_slot(&self, l: u32) -> Option<Slot>
         ensures { IfSome result (λ slot. (slot ≡ slot_is.Local l) × IsSlot slot (state_of self.now)) }
     {
@@ -126,6 +128,7 @@ impl Machine {
         }
     }
 
+    #[inline(always)]
     fn member_slot(&self, m: u32) -> Option<Slot>
         ensures { IfSome result (λ slot. (slot ≡ slot_is.Member m) × IsSlot slot (state_of self.now)) }
     {
@@ -153,7 +156,7 @@ impl Machine {
 
     /// Stores a value, and goes on behind that.
     #[inline(always)]
-    fn store_in(&mut self, slot: Slot, value: Value)
+    pub(crate) fn store_in(&mut self, slot: Slot, value: Value)
         requires running { self.old.mode ≡ Running }
         requires within { self.old.pc + 1 + 1 + 1 < 2 ^ 64 }
         requires there { IsSlot slot (state_of self.old) }
@@ -315,6 +318,7 @@ impl Machine {
     }
 
     /// Whether the operator puts one of the two operands on top behind the other.
+    #[inline(always)]
     fn is_join(&self, op: BinaryOp) -> bool
         requires { 1 < length self.now.operands }
         ensures { IsTrue result → (op ≡ is_op.Add)
@@ -324,9 +328,13 @@ impl Machine {
             return false;
         };
         let two = self.operands.on_top(2);
+        if two[0].as_uint().is_some() {
+            return false;
+        }
         joins(&two[0], &two[1])
     }
 
+    #[inline(always)]
     fn binary_in(&mut self, op: BinaryOp, slot: Slot) -> Result<(), NoMemory>
         requires running { self.old.mode ≡ Running }
         requires within { self.old.pc + 1 + 1 + 1 < 2 ^ 64 }
@@ -374,6 +382,7 @@ impl Machine {
     }
 
     /// Does the instruction, and stores what it gives in the slot, or fails as it does.
+    #[inline(always)]
     pub(crate) fn change(
         &mut self,
         p: &Program,

@@ -1,6 +1,7 @@
 // Steps of the machine.
-ghost use Rattle.std.specs.Prelude.{◌≡◌, ◌≢◌, ◌+◌, ◌≤◌, ◌<◌, ◌^◌, [], List, IfOk, OnOk, IsTrue, IsFalse, Some, slice_get};
+ghost use Rattle.std.specs.Prelude.{◌≡◌, ◌≢◌, ◌+◌, ◌≤◌, ◌<◌, ◌^◌, [], List, IfOk, IfSome, OnOk, IsTrue, IsFalse, Some, slice_get};
 ghost use Rattle.sp_events.specs.declared.event.What.{What as Told};
+ghost use Rattle.sp_code.specs.declared.instr.Instr.TheVariants.{GetField, ReadInt, SelfUnit};
 ghost use Rattle.sp_code.specs.Can.{Can};
 ghost use Rattle.sp_code.specs.Machine.{act, step};
 ghost use Rattle.sp_code.specs.Programs.{plain_of};
@@ -16,10 +17,21 @@ use crate::in_place::may_change;
 use crate::machine::{Machine, Mode, Stop};
 use crate::tables::{body_at, unit_at};
 use sp_base::{Limits, NoMemory};
-use sp_code::{Instr, Program};
+use sp_code::{Instr, IntForm, Program};
 use sp_events::What;
 use sp_window::Window;
 use std::mem;
+
+/// The member that the code at an address gives of a unit.
+#[inline(always)]
+fn field_at(p: &Program, at: usize) -> Option<u32>
+    ensures { IfSome result (λ m. (slice_get p.now.code.items at ≡ Some (GetField m)) × (at + 1 < 2 ^ 64)) }
+{
+    match p.code.get(at) {
+        Some(Instr::GetField(m)) => Some(*m),
+        _ => None,
+    }
+}
 
 impl Machine {
     /// One instruction, unless it can change a container.
@@ -141,7 +153,95 @@ impl Machine {
         Ok(())
     }
 
+    /// The unit at hand and a member of it at once, where that is what the code gives.
+    #[inline(always)]
+    fn member_at_once(
+        &mut self,
+        p: &Program,
+        limits: &Limits,
+        window: &Window,
+        is_ended: bool,
+    ) -> Result<bool, NoMemory>
+        requires running { self.old.mode ≡ Running }
+        requires within { self.old.pc + 1 < 2 ^ 64 }
+        requires safe { IsSafe (plain_of limits.now p.now) window.now (plain self.old) }
+        requires turns { Turns (plain_of limits.now p.now) }
+        requires instr { slice_get p.now.code.items self.old.pc ≡ Some SelfUnit }
+        ensures did { IfOk result (λ did. IsTrue did → (told : List Told) → Advanced (plain_of limits.now p.now)
+            (reads_of window.now is_ended) window.now told told (plain self.old) (plain self.new) GoesOn) }
+        ensures not { IfOk result (λ did. IsFalse did → self.new ≡ self.old) }
+    {
+        match field_at(p, self.pc + 1) {
+            Some(m) => {
+                self.get_own(m)?;
+                Ok(true)
+            }
+            None => Ok(false),
+        }
+    }
+
+    /// An integer that is stored at once, where its bytes are there and the code stores it.
+    #[inline(always)]
+    fn integer_at_once(
+        &mut self,
+        p: &Program,
+        limits: &Limits,
+        window: &Window,
+        is_ended: bool,
+        form: IntForm,
+    ) -> bool
+        requires running { self.old.mode ≡ Running }
+        requires within { self.old.pc + 1 < 2 ^ 64 }
+        requires safe { IsSafe (plain_of limits.now p.now) window.now (plain self.old) }
+        requires turns { Turns (plain_of limits.now p.now) }
+        requires instr { slice_get p.now.code.items self.old.pc ≡ Some (ReadInt form) }
+        requires base { window.now.base ≤ self.old.place }
+        ensures did { IsTrue result → (told : List Told) → Advanced (plain_of limits.now p.now)
+            (reads_of window.now is_ended) window.now told told (plain self.old) (plain self.new) GoesOn }
+        ensures not { IsFalse result → self.new ≡ self.old }
+    {
+        let Some(to) = self.integer_end(form, window) else {
+            return false;
+        };
+        match self.slot_from(p, self.pc + 1) {
+            Some(slot) => {
+                self.read_in(slot, form, to, window, is_ended);
+                true
+            }
+            None => false,
+        }
+    }
+
+    /// The instruction with those behind it, where they cost less together; or nothing.
+    #[inline(always)]
+    fn at_once(
+        &mut self,
+        p: &Program,
+        limits: &Limits,
+        window: &Window,
+        is_ended: bool,
+        instr: &Instr,
+    ) -> Result<bool, NoMemory>
+        requires running { self.old.mode ≡ Running }
+        requires within { self.old.pc + 1 < 2 ^ 64 }
+        requires safe { IsSafe (plain_of limits.now p.now) window.now (plain self.old) }
+        requires turns { Turns (plain_of limits.now p.now) }
+        requires instr { slice_get p.now.code.items self.old.pc ≡ Some instr.now }
+        requires base { window.now.base ≤ self.old.place }
+        requires keeps { IsFalse (may_change instr.now) }
+        ensures did { IfOk result (λ did. IsTrue did → (told : List Told) → Advanced (plain_of limits.now p.now)
+            (reads_of window.now is_ended) window.now told told (plain self.old) (plain self.new) GoesOn) }
+        ensures not { IfOk result (λ did. IsFalse did → self.new ≡ self.old) }
+    {
+        match *instr {
+            Instr::SelfUnit => self.member_at_once(p, limits, window, is_ended),
+            Instr::ReadInt(form) => Ok(self.integer_at_once(p, limits, window, is_ended, form)),
+            _ => Ok(false),
+        }
+    }
+
     /// The instruction at which a machine stands, with what is done at once with it.
+    #[inline(always)]
     #[tactic(auto, using(crate::proofs::Safety::safe_base))]
     fn go(
         &mut self,
@@ -161,6 +261,9 @@ impl Machine {
             Some(instr) => {
                 if may_change(instr) {
                     self.change_and_store(p, limits, window, is_ended, instr)?;
+                    return Ok(Stop::GoesOn);
+                }
+                if self.at_once(p, limits, window, is_ended, instr)? {
                     return Ok(Stop::GoesOn);
                 }
                 self.act(p, limits, instr, window, is_ended, told)
@@ -192,6 +295,7 @@ impl Machine {
     }
 
     /// A step, or several at once.
+    #[inline(always)]
     fn advance(
         &mut self,
         p: &Program,

@@ -27,6 +27,7 @@ impl Machine {
         self.push_next(value)
     }
 
+    #[inline(always)]
     pub(crate) fn self_unit(&mut self) -> Result<(), NoMemory>
         requires running { self.old.mode ≡ Running }
         requires within { self.old.pc + 1 < 2 ^ 64 }
@@ -34,6 +35,28 @@ impl Machine {
             self.old.stack (state_of self.old)) }
     {
         self.push_next(Value::unit(self.own))
+    }
+
+    /// Gives the unit at hand, and at once a member of it in its place, which is set.
+    #[inline(always)]
+    pub(crate) fn get_own(&mut self, m: u32) -> Result<(), NoMemory>
+        requires running { self.old.mode ≡ Running }
+        requires within { self.old.pc + 1 + 1 < 2 ^ 64 }
+        requires there { HasMember (state_of self.old) (unit self.old.own) m }
+        ensures { OnOk result (Leads (plain self.new) (push_set (member_of (state_of self.old) (unit self.old.own) m)
+            (self.old.pc + 1 + 1) self.old.operands self.old.stack (state_of self.old))) }
+    {
+        match self.instances[self.own].member(m as usize) {
+            Some(value) => {
+                let found = copy_of(value)?;
+                self.pc += 1;
+                self.push_next(found)
+            }
+            None => {
+                self.fails(PKind::Unset);
+                Ok(())
+            }
+        }
     }
 
     /// A copy of what a member of a unit holds; that of void is unset.
@@ -50,6 +73,7 @@ impl Machine {
         }
     }
 
+    #[inline(always)]
     pub(crate) fn get_field(&mut self, m: u32) -> Result<(), NoMemory>
         requires running { self.old.mode ≡ Running }
         requires within { self.old.pc + 1 < 2 ^ 64 }
@@ -96,6 +120,7 @@ impl Machine {
         self.push_next(Value::bool(is_set))
     }
 
+    #[inline(always)]
     pub(crate) fn set_field(&mut self, m: u32)
         requires running { self.old.mode ≡ Running }
         requires within { self.old.pc + 1 < 2 ^ 64 }

@@ -1,5 +1,10 @@
 // Instructions on values.
-ghost use Rattle.std.specs.Prelude.{◌≡◌, ◌+◌, ◌<◌, ◌^◌, ◌∷◌, [], length, IsTrue, IfOk, OnOk, slice_get};
+ghost use Rattle.std.specs.Prelude.{◌≡◌, ◌+◌, ◌<◌, ◌^◌, ◌∷◌, [], length, IsTrue, IfOk, IfSome, OnOk, Ok, Some, slice_get};
+ghost use Rattle.sp_words.specs.declared.operators.BinaryOp.TheVariants.{Add};
+ghost use Rattle.sp_numbers.specs.Numbers.{width_bits};
+ghost use Rattle.sp_numbers.specs.declared.width.Width.TheVariants.{W64};
+ghost use Rattle.sp_value.specs.Parts.{number_in};
+ghost use Rattle.sp_value.specs.Val.{uint};
 ghost use Rattle.sp_operators.specs.Operands.{takes, takes_memory, takes_one, has_size, is_cast};
 ghost use Rattle.sp_operators.specs.Operators.{binary, unary, cast};
 ghost use Rattle.sp_operators.specs.Outcomes.{Answers};
@@ -13,24 +18,98 @@ ghost use Rattle.sp_machine.specs.Plain.{state_of, plain, Leads};
 use crate::machine::Machine;
 use sp_base::NoMemory;
 use sp_code::Program;
+use sp_numbers::Width;
 use sp_operators::{PlainType, ValueFault, binary, cast, size, unary};
-use sp_value::{Level, Value};
+use sp_value::Value;
 use sp_words::{BinaryOp, UnaryOp};
 
-/// A copy of a value. Those that are copied most, and take no memory, are looked at first.
+/// Whether a number has no more bits than a width, as all numbers of values have.
 #[inline(always)]
+fn fits(width: Width, n: u64) -> bool
+    ensures { IsTrue result → (n < 2 ^ width_bits width) }
+{
+    match width {
+        Width::W8 => n < 1 << 8,
+        Width::W16 => n < 1 << 16,
+        Width::W32 => n < 1 << 32,
+        Width::W64 => true,
+    }
+}
+
+/// A copy of a value. Unsigned numbers, which are copied most, are looked at first.
+#[inline(always)]
+#[tactic(auto, using(crate::proofs::Quick::number_is))]
 pub(crate) fn copy_of(value: &Value) -> Result<Value, NoMemory>
     ensures { IfOk result (λ copy. copy ≡ value.now) }
 {
-    match value.level() {
-        Level::Uint(width, n) => Ok(Value::uint(width, n)),
-        Level::Bool(b) => Ok(Value::bool(b)),
-        Level::Unit(n) => Ok(Value::unit(n)),
-        _ => value.copy(),
+    if let (Some(n), Some(width)) = (value.as_uint(), value.width()) {
+        if fits(width, n) {
+            return Ok(Value::uint(width, n));
+        }
+    }
+    value.copy()
+}
+
+/// What an operator makes of two unsigned numbers, where that is soon seen.
+#[inline(always)]
+#[tactic(auto, using(crate::proofs::Quick::numbers_cmp))]
+fn quick(op: BinaryOp, a: &Value, b: &Value) -> Option<Value>
+    ensures { IfSome result (λ found. binary op a.now b.now ≡ Ok found) }
+{
+    let (Some(m), Some(n)) = (a.as_uint(), b.as_uint()) else {
+        return None;
+    };
+    match op {
+        BinaryOp::Equal => Some(Value::bool(m.cmp(&n).is_eq())),
+        BinaryOp::NotEqual => Some(Value::bool(m.cmp(&n).is_ne())),
+        BinaryOp::Less => Some(Value::bool(m.cmp(&n).is_lt())),
+        BinaryOp::LessEqual => Some(Value::bool(m.cmp(&n).is_le())),
+        BinaryOp::Greater => Some(Value::bool(m.cmp(&n).is_gt())),
+        BinaryOp::GreaterEqual => Some(Value::bool(m.cmp(&n).is_ge())),
+        BinaryOp::Add => quick_sum(a, m, b, n),
+        _ => None,
+    }
+}
+
+/// The sum of two numbers of 64 bits, if it has no more.
+#[inline(always)]
+fn sum_of(m: u64, n: u64) -> Option<Value>
+    ensures { IfSome result (λ sum. binary Add (uint W64 m) (uint W64 n) ≡ Ok sum) }
+{
+    match m.checked_add(n) {
+        Some(sum) => Some(Value::uint(Width::W64, sum)),
+        None => None,
+    }
+}
+
+/// The sum of two values that are these numbers, if both have 64 bits and it has no more.
+#[inline(always)]
+#[tactic(auto, using(crate::proofs::Quick::sum_is))]
+fn quick_sum(a: &Value, m: u64, b: &Value, n: u64) -> Option<Value>
+    requires left { number_in a.now ≡ Some m }
+    requires right { number_in b.now ≡ Some n }
+    ensures { IfSome result (λ sum. binary Add a.now b.now ≡ Ok sum) }
+{
+    match (a.width(), b.width()) {
+        (Some(Width::W64), Some(Width::W64)) => sum_of(m, n),
+        _ => None,
+    }
+}
+
+/// What an operator makes of two values.
+#[inline(always)]
+fn of_two(op: BinaryOp, a: &Value, b: &Value) -> Result<Value, ValueFault>
+    requires { IsTrue (takes op a.now b.now) }
+    ensures { Answers (takes_memory op a.now b.now) (binary op a.now b.now) result }
+{
+    match quick(op, a, b) {
+        Some(found) => Ok(found),
+        None => binary(op, a, b),
     }
 }
 
 impl Machine {
+    #[inline(always)]
     pub(crate) fn constant(&mut self, p: &Program, c: u32) -> Result<(), NoMemory>
         requires running { self.old.mode ≡ Running }
         requires within { self.old.pc + 1 < 2 ^ 64 }
@@ -42,6 +121,7 @@ impl Machine {
         self.push_next(value)
     }
 
+    #[inline(always)]
     pub(crate) fn load(&mut self, l: u32) -> Result<(), NoMemory>
         requires running { self.old.mode ≡ Running }
         requires within { self.old.pc + 1 < 2 ^ 64 }
@@ -53,6 +133,7 @@ impl Machine {
         self.push_next(value)
     }
 
+    #[inline(always)]
     pub(crate) fn store(&mut self, l: u32)
         requires running { self.old.mode ≡ Running }
         requires within { self.old.pc + 1 < 2 ^ 64 }
@@ -86,6 +167,7 @@ impl Machine {
     }
 
     /// What an operator makes of the two operands on top.
+    #[inline(always)]
     pub(crate) fn operated(&self, op: BinaryOp) -> Result<Value, ValueFault>
         requires operands { 1 < length self.now.operands }
         requires taken { IsTrue (takes op (second self.now.operands) (top self.now.operands)) }
@@ -93,9 +175,10 @@ impl Machine {
             (binary op (second self.now.operands) (top self.now.operands)) result }
     {
         let two = self.operands.on_top(2);
-        binary(op, &two[0], &two[1])
+        of_two(op, &two[0], &two[1])
     }
 
+    #[inline(always)]
     pub(crate) fn binary(&mut self, op: BinaryOp) -> Result<(), NoMemory>
         requires running { self.old.mode ≡ Running }
         requires within { self.old.pc + 1 < 2 ^ 64 }

@@ -7,8 +7,8 @@ use Rattle.sp_code.specs.Can.{top, second}
 use Rattle.sp_machine.proofs.Pairs.{below, on_top}
 use Rattle.sp_machine.proofs.machine.Machine.operated.Goals as goal
 
-pub binary-requires : goal.binary-requires
-binary-requires c =
+pub of_two-requires : goal.of_two-requires
+of_two-requires c =
     let vs = c.args.self.now.operands in
     let two = c.on_top-two.result.now in
     subst (λ x. IsTrue (takes c.args.op x c.index-two-1.result)) (sym (below vs two c.index-two-0.result c.on_top-two.ensures c.requires.operands c.index-two-0.is))
@@ -18,5 +18,5 @@ pub returns : goal.returns
 returns c =
     let vs = c.args.self.now.operands in
     let two = c.on_top-two.result.now in
-    subst (λ x. Answers (takes_memory c.args.op x (top vs)) (binary c.args.op x (top vs)) c.binary.result) (below vs two c.index-two-0.result c.on_top-two.ensures c.requires.operands c.index-two-0.is)
-    (subst (λ y. Answers (takes_memory c.args.op c.index-two-0.result y) (binary c.args.op c.index-two-0.result y) c.binary.result) (on_top vs two c.index-two-1.result c.on_top-two.ensures c.requires.operands c.index-two-1.is) c.binary.ensures)
+    subst (λ x. Answers (takes_memory c.args.op x (top vs)) (binary c.args.op x (top vs)) c.of_two.result) (below vs two c.index-two-0.result c.on_top-two.ensures c.requires.operands c.index-two-0.is)
+    (subst (λ y. Answers (takes_memory c.args.op c.index-two-0.result y) (binary c.args.op c.index-two-0.result y) c.of_two.result) (on_top vs two c.index-two-1.result c.on_top-two.ensures c.requires.operands c.index-two-1.is) c.of_two.ensures)
