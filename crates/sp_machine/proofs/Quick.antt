@@ -1,5 +1,6 @@
 -- Numbers that are looked at first.
-use Rattle.std.proofs.Common.{◌≡◌, ℕ, Some, None, Ok, sym, ap, ◌∙◌}
+use Rattle.std.proofs.Common.{◌≡◌, ℕ, List, [], ◌∷◌, length, Some, None, Ok, sym, ap, ◌∙◌, arith}
+use Rattle.std.specs.Prelude.{get_or}
 use Rattle.std.specs.Ordering.{nat_cmp}
 use Rattle.sp_words.specs.declared.operators.BinaryOp.TheVariants.{Add}
 use Rattle.sp_numbers.specs.declared.width.Width.{Width}
@@ -7,7 +8,10 @@ use Rattle.sp_numbers.specs.declared.width.Width.TheVariants.{W64}
 use Rattle.sp_value.specs.Val.{Val, void, bool, uint, int, bytes, str, enum, bits, tuple, vector, set, map, unit, place}
 use Rattle.sp_value.specs.Order.{val_cmp}
 use Rattle.sp_value.specs.Parts.{number_in, width_in}
+use Rattle.sp_events.specs.Tree as told
 use Rattle.sp_operators.specs.Operators.{binary}
+use Rattle.sp_running.specs.States.{Instance}
+use Rattle.sp_running.specs.Telling.{Names, value_tree, value_trees}
 
 -- an unsigned integer with a number
 record Number (v : Val) (n : ℕ) : Type 0 where
@@ -47,3 +51,9 @@ pub sum_is : (a b : Val) (m n : ℕ) (sum : Val) → number_in a ≡ Some m → 
     → binary Add (uint W64 m) (uint W64 n) ≡ Ok sum → binary Add a b ≡ Ok sum
 sum_is a b m n sum e f g h is =
     ap (λ v. binary Add v b) (sym (number_is a W64 m e f)) ∙ ap (λ v. binary Add (uint W64 m) v) (sym (number_is b W64 n g h)) ∙ is
+
+-- a number that is told alone
+pub number_told : (names : Names) (xs : List Instance) (vs : List Val) (v : Val) (n : ℕ) → length vs ≡ 1 → v ≡ get_or vs 0 v → number_in v ≡ Some n → value_trees names xs vs ≡ told.uint n ∷ []
+number_told names xs [] v n l g e = absurd (omega (arith, l))
+number_told names xs (x ∷ []) v n l g e = ap (λ v. value_tree names xs v ∷ []) (sym g ∙ (is_number v n e).is)
+number_told names xs (x ∷ y ∷ ys) v n l g e = absurd (omega (arith, l))

@@ -60,9 +60,13 @@ fn append_copies(values: &mut Vec<Value>, others: &[Value]) -> Result<(), NoMemo
 }
 
 /// These values, and behind them copies of others.
+#[inline(always)]
 fn with_copies(values: Vec<Value>, others: &[Value]) -> Result<Vec<Value>, NoMemory>
     ensures { IfOk result (λ all. all.items ≡ values.items ++ others.now) }
 {
+    if others.is_empty() {
+        return Ok(values);
+    }
     let mut all = values;
     append_copies(&mut all, others)?;
     Ok(all)

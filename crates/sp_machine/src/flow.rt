@@ -84,6 +84,7 @@ impl Machine {
         }
     }
 
+    #[inline(always)]
     pub(crate) fn returns(&mut self)
         requires operand { 0 < length self.old.operands }
         ensures { plain self.new ≡ Ending (Returned (top self.old.operands)) self.old.stack (state_of self.old) }

@@ -1,6 +1,7 @@
 // Instructions that tell something.
 ghost use Rattle.std.specs.Prelude.{◌≡◌, ◌+◌, ◌<◌, ◌≤◌, ◌^◌, ◌∷◌, ◌++◌, [], length, take, drop, reverse, OnOk, IfOk, IsTrue, Some};
 ghost use Rattle.sp_events.specs.declared.event.What.{What as Told};
+ghost use Rattle.sp_events.specs.Tree.{uint};
 ghost use Rattle.sp_running.specs.Telling.{value_trees};
 ghost use Rattle.sp_code.specs.Machine.{At, Goes, hook_event, hook_next};
 ghost use Rattle.sp_code.specs.Programs.{names_of, name_of, told_of};
@@ -12,8 +13,10 @@ use crate::calls::callee_where;
 use crate::machine::Machine;
 use sp_base::{Limits, NoMemory, Text};
 use sp_code::{BodyCode, BodyOf, Program};
-use sp_events::What;
+use sp_events::{Node, Tree, Trees, What};
+use sp_frames::Instance;
 use sp_tell::value_trees;
+use sp_value::Value;
 use std::alloc::Global;
 
 /// The name of the hook that a body is of; that of a function is empty.
@@ -34,6 +37,35 @@ fn told_count(of: &BodyOf) -> u32
         BodyOf::Function => 0,
         BodyOf::Hook { told, .. } => *told,
     }
+}
+
+/// A number as the only value that is told.
+fn number_alone(alloc: Global, n: u64) -> Result<Trees, NoMemory>
+    ensures { IfOk result (λ trees. trees ≡ uint n ∷ []) }
+{
+    let mut trees = Vec::with_capacity(alloc, 1)?;
+    trees.push(Tree {
+        node: Node::Uint(n),
+    })?;
+    Ok(Trees::new(trees))
+}
+
+/// Values as they are told. A number alone, which most fields with a hook store, is looked at first.
+#[tactic(auto, using(crate::proofs::Quick::number_told))]
+fn trees_of(
+    alloc: Global,
+    p: &Program,
+    instances: &[Instance],
+    values: &[Value],
+) -> Result<Trees, NoMemory>
+    ensures { IfOk result (λ trees. trees ≡ value_trees (names_of p.now) instances.now values.now) }
+{
+    if values.len() == 1 {
+        if let Some(n) = values[0].as_uint() {
+            return number_alone(alloc, n);
+        }
+    }
+    value_trees(alloc, p, instances, values)
 }
 
 impl Machine {
@@ -69,7 +101,7 @@ impl Machine {
         let name = name(alloc, &body.of)?;
         let values = self.operands.on_top(body.takes as usize);
         let count = (told_count(&body.of) as usize).min(values.len());
-        let args = value_trees(alloc, p, self.instances.as_slice(), &values[..count])?;
+        let args = trees_of(alloc, p, self.instances.as_slice(), &values[..count])?;
         Ok(What::Hook { name, args })
     }
 
