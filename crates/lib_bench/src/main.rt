@@ -5,7 +5,7 @@
 ghost use Rattle.std.specs.Prelude.{IfOk, IsTrue};
 ghost use Rattle.sp_value.specs.Changes.{IsVector, IsMap};
 
-use sp_base::NoMemory;
+use sp_base::{NoMemory, or_drop};
 use sp_lib::{
     back, decode, encode, front, get, lower, pop_back, push_back, split, split1, starts_with, sub,
     to_int, to_int_order, to_uint, to_uint_order, upper,
@@ -119,7 +119,7 @@ fn filled(alloc: Global, count: u64) -> Result<Value, NoMemory>
 {
     let mut vector = Value::vector(Vec::new(alloc))?;
     for n in 0..count {
-        push_back(&mut vector, Value::uint(Width::W64, n))?;
+        or_drop!(push_back(&mut vector, Value::uint(Width::W64, n)); vector);
     }
     Ok(vector)
 }
@@ -131,7 +131,11 @@ fn last_number(vector: &mut Value) -> u64 {
         _ => return 0,
     }
     match pop_back(vector) {
-        Ok(item) => item.as_uint().unwrap_or(0),
+        Ok(item) => {
+            let number = item.as_uint().unwrap_or(0);
+            drop(item);
+            number
+        }
         Err(_) => 0,
     }
 }
@@ -143,12 +147,17 @@ fn popped(alloc: Global, count: u64) -> Result<u64, NoMemory> {
     for _ in 0..count {
         all = all.wrapping_add(last_number(&mut vector));
     }
+    drop(vector);
     Ok(all)
 }
 
 fn number_of(item: Result<Value, ValueFault>) -> u64 {
     match item {
-        Ok(item) => item.as_uint().unwrap_or(0),
+        Ok(item) => {
+            let number = item.as_uint().unwrap_or(0);
+            drop(item);
+            number
+        }
         Err(_) => 0,
     }
 }
@@ -169,6 +178,7 @@ fn ends(alloc: Global, count: u64) -> Result<u64, NoMemory> {
     for _ in 0..count {
         all = all.wrapping_add(two_numbers(&vector));
     }
+    drop(vector);
     Ok(all)
 }
 
@@ -176,14 +186,24 @@ fn ends(alloc: Global, count: u64) -> Result<u64, NoMemory> {
 fn got(alloc: Global, count: u64, first: u64) -> Result<u64, NoMemory> {
     let mut map = Value::map(Vec::new(alloc))?;
     for n in 0..count {
-        map.insert(Value::uint(Width::W64, n), Value::uint(Width::W64, n))?;
+        or_drop!(map.insert(Value::uint(Width::W64, n), Value::uint(Width::W64, n)); map);
     }
     let mut all = 0_u64;
     for n in 0..count {
         let key = Value::uint(Width::W64, n.wrapping_add(first));
         all = all.wrapping_add(number_of(get(&map, &key, Some(&key))));
+        drop(key);
     }
+    drop(map);
     Ok(all)
+}
+
+/// The size of a vector to which so many items were appended.
+fn pushed(alloc: Global, count: u64) -> Result<usize, NoMemory> {
+    let vector = filled(alloc, count)?;
+    let size = vector.size().unwrap_or(0);
+    drop(vector);
+    Ok(size)
 }
 
 fn run(alloc: Global, line: &str) -> Result<usize, NoMemory> {
@@ -192,7 +212,7 @@ fn run(alloc: Global, line: &str) -> Result<usize, NoMemory> {
     };
     let count = count.parse::<u64>().unwrap_or(0);
     match name {
-        "push_back" => Ok(filled(alloc, count)?.size().unwrap_or(0)),
+        "push_back" => pushed(alloc, count),
         "pop_back" => Ok(popped(alloc, count)? as usize),
         "ends" => Ok(ends(alloc, count)? as usize),
         "get" => Ok(got(alloc, count, 0)? as usize),

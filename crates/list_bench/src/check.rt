@@ -2,6 +2,7 @@
 // it asks the rules on names alone.
 use crate::module::module_of;
 use sp_ast::Module;
+use sp_base::or_drop;
 use sp_check_unit::check;
 use sp_lex::ReadFault;
 use sp_scope::{CheckFault, resolve};
@@ -14,14 +15,14 @@ fn read_all(alloc: Global, source: &[u8]) -> Result<Vec<Module>, ReadFault> {
     let mut from: usize = 0;
     for (i, byte) in source.iter().enumerate() {
         if *byte == 0 {
-            let module = module_of(alloc, source.get(from..i).unwrap_or(&[]))?;
-            list.push(module).map_err(|_| ReadFault::NoMemory)?;
+            let module = or_drop!(module_of(alloc, source.get(from..i).unwrap_or(&[])); list);
+            or_drop!(list.push(module).map_err(|_| ReadFault::NoMemory); list);
             from = i.saturating_add(1);
         }
     }
     if from < source.len() {
-        let module = module_of(alloc, source.get(from..).unwrap_or(&[]))?;
-        list.push(module).map_err(|_| ReadFault::NoMemory)?;
+        let module = or_drop!(module_of(alloc, source.get(from..).unwrap_or(&[])); list);
+        or_drop!(list.push(module).map_err(|_| ReadFault::NoMemory); list);
     }
     Ok(list)
 }
@@ -29,9 +30,9 @@ fn read_all(alloc: Global, source: &[u8]) -> Result<Vec<Module>, ReadFault> {
 /// Checks a list, or its names alone.
 fn checked(alloc: Global, list: &[Module], names: bool) -> Result<(), CheckFault> {
     if names {
-        let _ = resolve(alloc, list)?;
+        drop(resolve(alloc, list)?);
     } else {
-        let _ = check(alloc, list)?;
+        drop(check(alloc, list)?);
     }
     Ok(())
 }
@@ -40,17 +41,22 @@ fn checked(alloc: Global, list: &[Module], names: bool) -> Result<(), CheckFault
 pub fn run(rt: &HostRuntime, source: &[u8]) -> io::Result<()> {
     let names = env::args(rt)?.skip(2).any(|word| word.as_str() == "names");
     match read_all(rt.alloc(), source) {
-        Ok(list) => match checked(rt.alloc(), &list, names) {
-            Ok(()) => println!(rt; "{} modules", list.len()),
-            Err(CheckFault::Diag(diag)) => println!(rt;
-                "module {}, byte {}: M{} {}",
-                diag.module,
-                diag.span.from,
-                diag.kind.number(),
-                diag.kind.name()
-            ),
-            Err(CheckFault::NoMemory) => println!(rt; "out of memory"),
-        },
+        Ok(list) => {
+            let found = checked(rt.alloc(), &list, names);
+            let count = list.len();
+            drop(list);
+            match found {
+                Ok(()) => println!(rt; "{count} modules"),
+                Err(CheckFault::Diag(diag)) => println!(rt;
+                    "module {}, byte {}: M{} {}",
+                    diag.module,
+                    diag.span.from,
+                    diag.kind.number(),
+                    diag.kind.name()
+                ),
+                Err(CheckFault::NoMemory) => println!(rt; "out of memory"),
+            }
+        }
         Err(ReadFault::Diag(span, kind)) => {
             println!(rt; "byte {}: M{} {}", span.from, kind.number(), kind.name())
         }

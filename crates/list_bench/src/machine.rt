@@ -16,7 +16,7 @@ use crate::LONGEST;
 use crate::module::list_of;
 use crate::programs::compiled;
 use runs::{Sizes, Sum, run_only};
-use sp_base::NoMemory;
+use sp_base::{NoMemory, or_drop};
 use sp_code::Program;
 use sp_typed_units::Typed;
 use std::alloc::Global;
@@ -70,7 +70,7 @@ fn compiled_often(alloc: Global, list: &Typed, times: u64) -> Result<Program, No
     ensures { IfOk result (λ program. IsCompiled list.now program) }
 {
     for _ in 1..times {
-        let _program = compiled(alloc, list)?;
+        drop(compiled(alloc, list)?);
     }
     compiled(alloc, list)
 }
@@ -109,19 +109,16 @@ fn measure(rt: &HostRuntime, asked: Words, list: &Typed, input: &[u8]) -> io::Re
     let Ok(program) = compiled_often(rt.alloc(), list, asked.times) else {
         return println!(rt; "out of memory");
     };
-    let middle = clock(rt)?;
+    let middle = or_drop!(clock(rt); program);
     let Ok(sum) = run_only(rt.alloc(), list, &program, asked.sizes, input) else {
+        drop(program);
         return println!(rt; "out of memory");
     };
-    let running = clock(rt)?.saturating_sub(middle);
-    say(
-        rt,
-        asked,
-        program.code.len(),
-        middle.saturating_sub(start),
-        sum,
-        running,
-    )
+    let end = or_drop!(clock(rt); program);
+    let code = program.code.len();
+    drop(program);
+    let compiling = middle.saturating_sub(start);
+    say(rt, asked, code, compiling, sum, end.saturating_sub(middle))
 }
 
 /// Says what came of the runs of a source.
@@ -132,7 +129,11 @@ pub fn run(rt: &HostRuntime, source: &[u8]) -> io::Result<()> {
         return println!(rt; "out of memory");
     };
     match found {
-        Some(list) => measure(rt, asked, &list, input),
+        Some(list) => {
+            let said = measure(rt, asked, &list, input);
+            drop(list);
+            said
+        }
         None => println!(rt; "no module that is run"),
     }
 }

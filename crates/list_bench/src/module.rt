@@ -5,7 +5,7 @@ ghost use Rattle.sp_list_laws.specs.fit_list.Passes.{ListPasses};
 ghost use Rattle.list_bench.specs.Passing.{PassesWhereBuilt};
 
 use sp_ast::Module;
-use sp_base::NoMemory;
+use sp_base::{NoMemory, or_drop};
 use sp_check_unit::check;
 use sp_lex::{ReadFault, lex};
 use sp_list_laws::{lists_pass, modules_are_apart, modules_are_formed};
@@ -59,7 +59,10 @@ fn built(text: &[u8], modules: &[Module], list: Typed) -> Option<Typed>
     ensures { IfSome result ListPasses }
 {
     match unbuilt(&OnlyText { text }, modules, &list) {
-        Some(_) => None,
+        Some(_) => {
+            drop(list);
+            None
+        }
         None => Some(list),
     }
 }
@@ -82,8 +85,10 @@ pub fn list_of(alloc: Global, text: &[u8]) -> Result<Option<Typed>, NoMemory>
     match module_of(alloc, text) {
         Ok(module) => {
             let mut modules = Vec::new(alloc);
-            modules.push(module)?;
-            passing(alloc, text, &modules)
+            or_drop!(modules.push(module); modules);
+            let found = passing(alloc, text, &modules);
+            drop(modules);
+            found
         }
         Err(ReadFault::Diag(..)) => Ok(None),
         Err(ReadFault::NoMemory) => Err(NoMemory),

@@ -8,7 +8,7 @@ ghost use Rattle.list_bench.specs.Chosen.{AlwaysRuns, RunsWhatIsChosen};
 
 use crate::module::list_of;
 use crate::programs::compiled;
-use sp_base::{ByteList, Limits, NoMemory};
+use sp_base::{ByteList, Limits, NoMemory, or_drop};
 use sp_choose::chosen;
 use sp_code::Program;
 use sp_events::Events;
@@ -115,9 +115,10 @@ fn run_flows(alloc: Global, wanted: &Wanted<'_>, lines: &mut Lines) -> Result<u6
     for _ in 0..wanted.flows {
         lines.clear();
         events.clear();
-        run_flow(alloc, wanted, &mut events, lines)?;
+        or_drop!(run_flow(alloc, wanted, &mut events, lines); events);
         all = all.wrapping_add(lines.as_slice().len() as u64);
     }
+    drop(events);
     Ok(all)
 }
 
@@ -151,7 +152,11 @@ fn answer(alloc: Global, text: &[u8], lines: &mut Lines) -> Result<Option<u64>, 
         return Ok(None);
     };
     match list_of(alloc, asked.module.as_bytes())? {
-        Some(list) => run_list(alloc, &list, asked, lines),
+        Some(list) => {
+            let all = run_list(alloc, &list, asked, lines);
+            drop(list);
+            all
+        }
         None => Ok(None),
     }
 }

@@ -1,5 +1,5 @@
 // The words and the files of a call.
-use sp_base::{ByteList, NoMemory, Text};
+use sp_base::{ByteList, NoMemory, Text, or_drop};
 use std::alloc::Global;
 use stored_cases::bytes_of;
 
@@ -7,9 +7,20 @@ use stored_cases::bytes_of;
 pub fn words_of(alloc: Global, field: &str) -> Result<Vec<Text>, NoMemory> {
     let mut words = Vec::new(alloc);
     for word in field.split(' ') {
-        words.push(Text::new(alloc, word)?)?;
+        let text = or_drop!(Text::new(alloc, word); words);
+        or_drop!(words.push(text); words);
     }
     Ok(words)
+}
+
+/// The file of this path, of which the field is the text.
+fn file_of(alloc: Global, name: &str, field: &str) -> Result<(Text, ByteList), NoMemory> {
+    let bytes = bytes_of(alloc, field.as_bytes())?;
+    let path = or_drop!(Text::new(alloc, name); bytes);
+    let text = ByteList::from_slice(alloc, bytes.as_slice());
+    drop(bytes);
+    let text = or_drop!(text; path);
+    Ok((path, text))
 }
 
 /// The files of a case, of which the fields are the path and the text of each.
@@ -20,11 +31,8 @@ pub fn files_of(alloc: Global, fields: &str) -> Result<Vec<(Text, ByteList)>, No
         match path {
             None => path = Some(field),
             Some(name) => {
-                let bytes = bytes_of(alloc, field.as_bytes())?;
-                files.push((
-                    Text::new(alloc, name)?,
-                    ByteList::from_slice(alloc, bytes.as_slice())?,
-                ))?;
+                let file = or_drop!(file_of(alloc, name, field); files);
+                or_drop!(files.push(file); files);
                 path = None;
             }
         }

@@ -1,6 +1,6 @@
 // The answers of `spicy-driver`.
 use crate::calls::{files_of, words_of};
-use sp_base::{ByteList, NoMemory, Text};
+use sp_base::{ByteList, NoMemory, Text, or_drop};
 use sp_driver::spicy_driver;
 use sp_io::{SureModules, SureOut, SureSource};
 use std::alloc::Global;
@@ -10,8 +10,21 @@ use stored_cases::{bytes_of, show};
 fn input_of(alloc: Global, field: &str) -> Result<SureSource, NoMemory> {
     let bytes = bytes_of(alloc, field.as_bytes())?;
     let mut pieces = Vec::new(alloc);
-    pieces.push(ByteList::from_slice(alloc, bytes.as_slice())?)?;
-    SureSource::new(alloc, pieces.as_slice())
+    let piece = ByteList::from_slice(alloc, bytes.as_slice());
+    drop(bytes);
+    let piece = or_drop!(piece; pieces);
+    or_drop!(pieces.push(piece); pieces);
+    let source = SureSource::new(alloc, pieces.as_slice());
+    drop(pieces);
+    source
+}
+
+/// A status, with the message and what is written, in the form of the lines.
+fn told(alloc: Global, status: u8, message: &[u8], written: &[u8]) -> Result<String, NoMemory> {
+    let mut answer = format!(in alloc; "{status} ")?;
+    show(&mut answer, message)?;
+    show(&mut answer, written)?;
+    Ok(answer)
 }
 
 /// The answer to words over files and an input, in the form of the lines.
@@ -22,13 +35,14 @@ fn answer(
     input: &mut SureSource,
 ) -> Result<String, NoMemory> {
     let mut modules = SureModules::new(alloc, files)?;
-    let mut out = SureOut::new(alloc)?;
-    let mut err = SureOut::new(alloc)?;
+    let mut out = or_drop!(SureOut::new(alloc); modules);
+    let mut err = or_drop!(SureOut::new(alloc); modules, out);
     let status = spicy_driver(alloc, words, &mut modules, input, &mut out, &mut err);
-    let mut answer = format!(in alloc; "{status} ")?;
-    show(&mut answer, err.written())?;
-    show(&mut answer, out.written())?;
-    Ok(answer)
+    drop(modules);
+    let answer = told(alloc, status, err.written(), out.written());
+    drop(out);
+    drop(err);
+    answer
 }
 
 /// The answer of `spicy-driver` to a case where it is another than is wanted.
@@ -37,9 +51,13 @@ pub fn driver_fault(alloc: Global, case: &str) -> Result<Option<String>, NoMemor
     let (words, run) = call.split_once("\t").unwrap_or((call, ""));
     let (input, fields) = run.split_once("\t").unwrap_or((run, ""));
     let words = words_of(alloc, words)?;
-    let files = files_of(alloc, fields)?;
-    let mut input = input_of(alloc, input)?;
-    let got = answer(alloc, words.as_slice(), files.as_slice(), &mut input)?;
+    let files = or_drop!(files_of(alloc, fields); words);
+    let mut input = or_drop!(input_of(alloc, input); words, files);
+    let got = answer(alloc, words.as_slice(), files.as_slice(), &mut input);
+    drop(words);
+    drop(files);
+    drop(input);
+    let got = got?;
     if got.as_str() == wanted {
         return Ok(None);
     }

@@ -1,10 +1,24 @@
 // The answers of `spicyc`.
 use crate::calls::{files_of, words_of};
-use sp_base::{ByteList, NoMemory, Text};
+use sp_base::{ByteList, NoMemory, Text, or_drop};
 use sp_io::{SureModules, SureOut};
 use sp_spicyc::spicyc;
 use std::alloc::Global;
 use stored_cases::show;
+
+/// A status with its message, in the form of the lines, and what is printed.
+fn told(
+    alloc: Global,
+    status: u8,
+    message: &[u8],
+    printed: &[u8],
+) -> Result<(String, Vec<u8>), NoMemory> {
+    let message = std::str::from_utf8(message).unwrap_or("?");
+    let mut answer = format!(in alloc; "{status} {message}")?;
+    or_drop!(show(&mut answer, printed); answer);
+    let copy = or_drop!(Vec::from_slice(alloc, printed); answer);
+    Ok((answer, copy))
+}
 
 /// The answer to words over files, in the form of the lines, and what is printed.
 fn answer(
@@ -13,13 +27,14 @@ fn answer(
     files: &[(Text, ByteList)],
 ) -> Result<(String, Vec<u8>), NoMemory> {
     let mut modules = SureModules::new(alloc, files)?;
-    let mut out = SureOut::new(alloc)?;
-    let mut err = SureOut::new(alloc)?;
+    let mut out = or_drop!(SureOut::new(alloc); modules);
+    let mut err = or_drop!(SureOut::new(alloc); modules, out);
     let status = spicyc(alloc, words, &mut modules, &mut out, &mut err);
-    let message = std::str::from_utf8(err.written()).unwrap_or("?");
-    let mut answer = format!(in alloc; "{status} {message}")?;
-    show(&mut answer, out.written())?;
-    Ok((answer, Vec::from_slice(alloc, out.written())?))
+    drop(modules);
+    let answer = told(alloc, status, err.written(), out.written());
+    drop(out);
+    drop(err);
+    answer
 }
 
 /// The files with this text in place of that of the only one, if there is one alone.
@@ -31,14 +46,57 @@ fn with_text(
     match files {
         [(path, _)] => {
             let mut one = Vec::new(alloc);
-            one.push((
-                Text::new(alloc, path.as_str())?,
-                ByteList::from_slice(alloc, text)?,
-            ))?;
+            let path = or_drop!(Text::new(alloc, path.as_str()); one);
+            let text = or_drop!(ByteList::from_slice(alloc, text); one, path);
+            or_drop!(one.push((path, text)); one);
             Ok(Some(one))
         }
         _ => Ok(None),
     }
+}
+
+/// The answer to the words over the files with what is printed of one, where it is another than the first.
+fn second_fault(
+    alloc: Global,
+    first: &str,
+    words: &[Text],
+    files: &[(Text, ByteList)],
+    printed: &[u8],
+) -> Result<Option<String>, NoMemory> {
+    let Some(again) = with_text(alloc, files, printed)? else {
+        return Ok(None);
+    };
+    let told = answer(alloc, words, again.as_slice());
+    drop(again);
+    let (second, copy) = told?;
+    drop(copy);
+    if second.as_str() != first {
+        return Ok(Some(second));
+    }
+    drop(second);
+    Ok(None)
+}
+
+/// The answer to the words over the files where it, or that to what is printed, is another than it must be.
+fn fault_of(
+    alloc: Global,
+    wanted: &str,
+    words: &[Text],
+    files: &[(Text, ByteList)],
+) -> Result<Option<String>, NoMemory> {
+    let (got, printed) = answer(alloc, words, files)?;
+    if got.as_str().trim() != wanted {
+        drop(printed);
+        return Ok(Some(got));
+    }
+    let fault = if printed.is_empty() {
+        Ok(None)
+    } else {
+        second_fault(alloc, got.as_str(), words, files, printed.as_slice())
+    };
+    drop(got);
+    drop(printed);
+    fault
 }
 
 /// The answer of `spicyc` to a case where it is another than is wanted. What is printed of one file must itself have the same answer.
@@ -46,18 +104,9 @@ pub fn spicyc_fault(alloc: Global, case: &str) -> Result<Option<String>, NoMemor
     let (wanted, call) = case.split_once("\t").unwrap_or((case, ""));
     let (words, fields) = call.split_once("\t").unwrap_or((call, ""));
     let words = words_of(alloc, words)?;
-    let files = files_of(alloc, fields)?;
-    let (got, printed) = answer(alloc, words.as_slice(), files.as_slice())?;
-    if got.as_str().trim() != wanted {
-        return Ok(Some(got));
-    }
-    if !printed.is_empty() {
-        if let Some(again) = with_text(alloc, files.as_slice(), printed.as_slice())? {
-            let (second, _) = answer(alloc, words.as_slice(), again.as_slice())?;
-            if second.as_str() != got.as_str() {
-                return Ok(Some(second));
-            }
-        }
-    }
-    Ok(None)
+    let files = or_drop!(files_of(alloc, fields); words);
+    let fault = fault_of(alloc, wanted, words.as_slice(), files.as_slice());
+    drop(words);
+    drop(files);
+    fault
 }

@@ -7,7 +7,7 @@ ghost use Rattle.sp_operands.specs.Operands.{first_type};
 ghost use Rattle.sp_typing.specs.Typing.{leaf_at, second_type};
 ghost use Rattle.sp_around.specs.Methods.{told, is_order, begins_with_order, by_order, bytes_methods, text_methods, vector_methods, map_methods, are_two, get_method, write_method, library_method, element, mapped, method_gives, method_takes, unit_methods, unit_method_gives, unit_method_takes, sink_methods, sink_method_takes, library_call, unit_call, sink_call, method_of, left_out_of};
 
-use sp_base::{NoMemory, Span};
+use sp_base::{NoMemory, Span, or_drop};
 use sp_numbers::Width;
 use sp_typed::{Expr, Leaf, LeafOp, ManyOp, SinkMethod, UnitMethod};
 use sp_types::{Level, Maker, Type, Word};
@@ -175,17 +175,17 @@ fn mapped(of: &Type) -> Result<Type, NoMemory>
 fn one_part(alloc: Global, maker: Maker, part: Type) -> Result<Type, NoMemory>
     ensures { IfOk result (λ t. t ≡ made maker (types.more part types.none)) }
 {
-    let mut parts = Vec::with_capacity(alloc, 1)?;
-    parts.push(part)?;
+    let mut parts = or_drop!(Vec::with_capacity(alloc, 1); part);
+    or_drop!(parts.push(part); parts);
     Type::made(alloc, maker, parts)
 }
 
 fn two_parts(alloc: Global, maker: Maker, first: Type, second: Type) -> Result<Type, NoMemory>
     ensures { IfOk result (λ t. t ≡ made maker (types.more first (types.more second types.none))) }
 {
-    let mut parts = Vec::with_capacity(alloc, 2)?;
-    parts.push(first)?;
-    parts.push(second)?;
+    let mut parts = or_drop!(Vec::with_capacity(alloc, 2); first, second);
+    or_drop!(parts.push(first); second, parts);
+    or_drop!(parts.push(second); parts);
     Type::made(alloc, maker, parts)
 }
 
@@ -218,7 +218,12 @@ fn method_gives(alloc: Global, method: Method, of: &Type) -> Result<Type, NoMemo
 fn of_one(t: Type, number: usize) -> Option<Type>
     ensures { result ≡ slice_get (t ∷ []) number }
 {
-    if number == 0 { Some(t) } else { None }
+    if number == 0 {
+        Some(t)
+    } else {
+        drop(t);
+        None
+    }
 }
 
 /// Of two types, the one of a number.
@@ -226,10 +231,14 @@ fn of_two(first: Type, second: Type, number: usize) -> Option<Type>
     ensures { result ≡ slice_get (first ∷ (second ∷ [])) number }
 {
     if number == 0 {
+        drop(second);
         Some(first)
     } else if number == 1 {
+        drop(first);
         Some(second)
     } else {
+        drop(first);
+        drop(second);
         None
     }
 }
@@ -238,17 +247,24 @@ fn of_two(first: Type, second: Type, number: usize) -> Option<Type>
 pub fn method_takes(method: Method, of: &Type, number: usize) -> Result<Option<Type>, NoMemory>
     ensures { IfOk result (λ t. t ≡ slice_get (method_takes method of.now) number) }
 {
-    let unsigned = Type::word(Word::Uint(Width::W64));
     match method {
-        Method::ToUint | Method::ToInt => Ok(of_one(unsigned, number)),
+        Method::ToUint | Method::ToInt => Ok(of_one(Type::word(Word::Uint(Width::W64)), number)),
         Method::ToUintOrder | Method::ToIntOrder => Ok(of_one(Type::word(Word::Enum(0)), number)),
-        Method::Sub => Ok(of_two(unsigned, Type::word(Word::Uint(Width::W64)), number)),
+        Method::Sub => Ok(of_two(
+            Type::word(Word::Uint(Width::W64)),
+            Type::word(Word::Uint(Width::W64)),
+            number,
+        )),
         Method::StartsWith | Method::Split | Method::Split1 => {
             Ok(of_one(Type::word(Word::Bytes), number))
         }
         Method::Decode => Ok(of_two(Type::word(Word::Enum(2)), Type::word(Word::Enum(3)), number)),
         Method::PushBack | Method::Get => Ok(of_one(element(of)?, number)),
-        Method::GetOr => Ok(of_two(element(of)?, mapped(of)?, number)),
+        Method::GetOr => {
+            let key = element(of)?;
+            let value = or_drop!(mapped(of); key);
+            Ok(of_two(key, value, number))
+        }
         Method::Lower
         | Method::Upper
         | Method::Encode
@@ -336,13 +352,22 @@ fn sink_method(name: &str, arguments: &[Type]) -> Option<SinkMethod>
 pub fn sink_method_takes(method: SinkMethod, number: usize) -> Option<Type>
     ensures { result ≡ slice_get (sink_method_takes method) number }
 {
-    let unsigned = Type::word(Word::Uint(Width::W64));
     match method {
         SinkMethod::Connect => of_one(Type::word(Word::New), number),
         SinkMethod::Write => of_one(Type::word(Word::Bytes), number),
-        SinkMethod::WriteAt => of_two(Type::word(Word::Bytes), unsigned, number),
-        SinkMethod::Gap => of_two(unsigned, Type::word(Word::Uint(Width::W64)), number),
-        SinkMethod::Skip | SinkMethod::SetInitial => of_one(unsigned, number),
+        SinkMethod::WriteAt => of_two(
+            Type::word(Word::Bytes),
+            Type::word(Word::Uint(Width::W64)),
+            number,
+        ),
+        SinkMethod::Gap => of_two(
+            Type::word(Word::Uint(Width::W64)),
+            Type::word(Word::Uint(Width::W64)),
+            number,
+        ),
+        SinkMethod::Skip | SinkMethod::SetInitial => {
+            of_one(Type::word(Word::Uint(Width::W64)), number)
+        }
         SinkMethod::Close => None,
     }
 }

@@ -19,7 +19,7 @@ use crate::names::{NameTable, declare, look_up, number, sum};
 use sp_ast::{
     DeclKind, DeclView, Members, ParameterKind, RangeKind, Ref, TypeKind, TypeView, UnitKind,
 };
-use sp_base::NoMemory;
+use sp_base::{NoMemory, or_drop};
 use sp_names::{Declaration, Names};
 use sp_numbers::Width;
 use sp_typed::OneOp;
@@ -294,8 +294,8 @@ fn range_table(alloc: Global, ranges: Members<'_, RangeKind>) -> Result<NameTabl
     let mut table = NameTable::new(alloc);
     let mut number = 0;
     for range in ranges {
-        declare(alloc, &mut table, range.view().name.text(), number)?;
-        number = sum(number, 1)?;
+        or_drop!(declare(alloc, &mut table, range.view().name.text(), number); table);
+        number = or_drop!(sum(number, 1); table);
     }
     Ok(table)
 }

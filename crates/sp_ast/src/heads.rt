@@ -338,9 +338,11 @@ impl Heads {
     {
         let near = near(&head);
         if let Some(at) = self.found(near, &head) {
+            drop(head);
             return Ok(at);
         }
         let Ok(at) = u32::try_from(self.items.len()) else {
+            drop(head);
             return Err(NoMemory);
         };
         self.items.push(head)?;

@@ -2,6 +2,7 @@
 #![tactic(auto)]
 
 mod bytes;
+mod drops;
 mod kinds;
 mod lines;
 mod places;

@@ -1,7 +1,7 @@
 // What the checker answers to a list, and the first construct of it that isn't built, in the form of the lines.
 use crate::texts::ListTexts;
 use sp_ast::Module;
-use sp_base::{Diag, MKind, Place, Span, place_of};
+use sp_base::{Diag, MKind, Place, Span, or_drop, place_of};
 use sp_check_unit::check;
 use sp_lex::{ReadFault, lex};
 use sp_read_unit::read_module;
@@ -52,7 +52,9 @@ fn refusal(
 /// The module of a text.
 fn module_of(alloc: Global, text: &str) -> Result<Module, ReadFault> {
     let tokens = lex(alloc, text.as_bytes())?;
-    read_module(alloc, &tokens)
+    let module = read_module(alloc, &tokens);
+    drop(tokens);
+    module
 }
 
 /// The modules of the texts, or the answer where one is not read.
@@ -60,11 +62,15 @@ fn modules_of(alloc: Global, texts: &[String]) -> Result<Result<Vec<Module>, Str
     let mut modules = Vec::new(alloc);
     for (i, text) in texts.iter().enumerate() {
         match module_of(alloc, text.as_str()) {
-            Ok(module) => modules.push(module)?,
+            Ok(module) => or_drop!(modules.push(module); modules),
             Err(ReadFault::Diag(span, kind)) => {
+                drop(modules);
                 return Ok(Err(refusal(alloc, texts, i, span, kind)?));
             }
-            Err(ReadFault::NoMemory) => return Err(AllocError),
+            Err(ReadFault::NoMemory) => {
+                drop(modules);
+                return Err(AllocError);
+            }
         }
     }
     Ok(Ok(modules))
@@ -72,7 +78,7 @@ fn modules_of(alloc: Global, texts: &[String]) -> Result<Result<Vec<Module>, Str
 
 /// What the checker says of the modules.
 fn checked(alloc: Global, modules: &[Module]) -> Result<(), CheckFault> {
-    let _ = check(alloc, modules)?;
+    drop(check(alloc, modules)?);
     Ok(())
 }
 
@@ -82,7 +88,9 @@ pub fn checker_answer(alloc: Global, texts: &[String]) -> Result<String, AllocEr
         Ok(modules) => modules,
         Err(unread) => return Ok(unread),
     };
-    match checked(alloc, modules.as_slice()) {
+    let found = checked(alloc, modules.as_slice());
+    drop(modules);
+    match found {
         Ok(()) => format!(in alloc; "ok"),
         Err(CheckFault::Diag(diag)) => {
             refusal(alloc, texts, diag.module as usize, diag.span, diag.kind)
@@ -98,8 +106,11 @@ fn unbuilt(
     modules: &[Module],
 ) -> Result<Option<Diag>, CheckFault> {
     let checked = check(alloc, modules)?;
-    let texts = ListTexts::new(alloc, texts)?;
-    Ok(checked.unbuilt(&texts))
+    let texts = or_drop!(ListTexts::new(alloc, texts); checked);
+    let found = checked.unbuilt(&texts);
+    drop(texts);
+    drop(checked);
+    Ok(found)
 }
 
 /// Where the first construct stands that isn't built, in a list of these texts.
@@ -108,7 +119,9 @@ pub fn unbuilt_answer(alloc: Global, texts: &[String]) -> Result<String, AllocEr
         Ok(modules) => modules,
         Err(unread) => return Ok(unread),
     };
-    match unbuilt(alloc, texts, modules.as_slice()) {
+    let found = unbuilt(alloc, texts, modules.as_slice());
+    drop(modules);
+    match found {
         Ok(Some(diag)) => place_in(alloc, texts, diag.module as usize, diag.span),
         Ok(None) => format!(in alloc; "built"),
         Err(CheckFault::Diag(diag)) => {

@@ -1,4 +1,5 @@
 // Lists of modules as the lines write them.
+use sp_base::or_drop;
 use std::alloc::{AllocError, Global};
 
 /// What is asked of a list.
@@ -73,11 +74,12 @@ impl Lists {
         wanted: &str,
     ) -> Result<(), AllocError> {
         let mut texts = Vec::new(alloc);
-        texts.push(String::new(alloc))?;
+        or_drop!(texts.push(String::new(alloc)); texts);
+        let wanted = or_drop!(String::from_str(alloc, wanted); texts);
         self.lists.push(List {
             line: self.lines,
             question,
-            wanted: String::from_str(alloc, wanted)?,
+            wanted,
             texts,
         })?;
         Ok(())

@@ -11,6 +11,7 @@ mod texts;
 
 use answers::{checker_answer, unbuilt_answer};
 use lists::{List, Lists, Question};
+use sp_base::or_drop;
 use std::alloc::{AllocError, Global};
 use std::io;
 
@@ -30,15 +31,11 @@ fn difference(alloc: Global, list: &List) -> Result<Option<String>, AllocError> 
     Ok(Some(told))
 }
 
-fn main(rt: HostRuntime) -> io::Result<()> {
-    let mut lists = Lists::new(rt.alloc());
-    for line in rt.lines(rt.alloc()) {
-        let line = line?;
-        lists.add_line(rt.alloc(), line.as_str())?;
-    }
+/// Tells which of the lists are answered otherwise.
+fn tell(rt: &HostRuntime, lists: &[List]) -> io::Result<()> {
     let mut asked: u64 = 0;
     let mut wrong: u64 = 0;
-    for list in lists.as_slice() {
+    for list in lists {
         asked = asked.saturating_add(1);
         if let Some(told) = difference(rt.alloc(), list)? {
             wrong = wrong.saturating_add(1);
@@ -48,4 +45,17 @@ fn main(rt: HostRuntime) -> io::Result<()> {
     }
     println!(rt; "{asked} lists, {wrong} answered otherwise")?;
     Ok(())
+}
+
+fn main(rt: HostRuntime) -> io::Result<()> {
+    let mut lists = Lists::new(rt.alloc());
+    for line in rt.lines(rt.alloc()) {
+        let line = or_drop!(line; lists);
+        let added = lists.add_line(rt.alloc(), line.as_str());
+        drop(line);
+        or_drop!(added; lists);
+    }
+    let told = tell(&rt, lists.as_slice());
+    drop(lists);
+    told
 }

@@ -1,7 +1,7 @@
 // The texts of a list, as they are asked for.
 ghost use Rattle.std.specs.Prelude.{◌≡◌};
 
-use sp_base::{NoMemory, Text};
+use sp_base::{NoMemory, Text, or_drop};
 use sp_unbuilt::Texts;
 use std::alloc::Global;
 
@@ -15,7 +15,8 @@ impl ListTexts {
     pub fn new(alloc: Global, texts: &[String]) -> Result<ListTexts, NoMemory> {
         let mut copies = Vec::new(alloc);
         for text in texts {
-            copies.push(Text::new(alloc, text.as_str())?)?;
+            let copy = or_drop!(Text::new(alloc, text.as_str()); copies);
+            or_drop!(copies.push(copy); copies);
         }
         Ok(ListTexts { texts: copies })
     }

@@ -59,6 +59,7 @@ fn numbered<'a>(list: &'a [Module], typed: Typed) -> Result<Checked<'a>, NoMemor
     ensures typed { IfOk result (λ c. IsTyped list.now c.typed) }
 {
     if !have_numbers(typed.units.as_slice()) {
+        drop(typed);
         return Err(NoMemory);
     }
     Ok(Checked {

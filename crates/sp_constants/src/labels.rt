@@ -28,8 +28,15 @@ pub fn label_value(owner: u32, number: Measured) -> Measured
     ensures { result ≡ label_value owner number }
 {
     match number.outcome() {
-        Outcome::Value(value) => Measured::small(numbered(owner, value)),
-        Outcome::Regex(_) => Measured::small(Outcome::Unknown),
+        Outcome::Value(value) => {
+            let label = numbered(owner, value);
+            drop(number);
+            Measured::small(label)
+        }
+        Outcome::Regex(_) => {
+            drop(number);
+            Measured::small(Outcome::Unknown)
+        }
         _ => number,
     }
 }
@@ -65,8 +72,15 @@ pub fn next_label(owner: u32, before: Measured) -> Measured
     ensures { result ≡ next_label owner before }
 {
     match before.outcome() {
-        Outcome::Value(value) => Measured::small(one_more(owner, value)),
-        Outcome::Regex(_) => Measured::small(Outcome::Unknown),
+        Outcome::Value(value) => {
+            let next = one_more(owner, value);
+            drop(before);
+            Measured::small(next)
+        }
+        Outcome::Regex(_) => {
+            drop(before);
+            Measured::small(Outcome::Unknown)
+        }
         _ => before,
     }
 }
@@ -87,7 +101,10 @@ fn fitting(fits: bool, found: Measured) -> Measured
         return found;
     }
     match found.outcome() {
-        Outcome::Value(_) | Outcome::Regex(_) => Measured::small(Outcome::Unknown),
+        Outcome::Value(_) | Outcome::Regex(_) => {
+            drop(found);
+            Measured::small(Outcome::Unknown)
+        }
         _ => found,
     }
 }

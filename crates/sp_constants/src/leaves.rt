@@ -109,7 +109,10 @@ fn used(o: Measured) -> Measured
     ensures { result ≡ used o }
 {
     match o.outcome() {
-        Outcome::NotConstant => Measured::small(Outcome::Error),
+        Outcome::NotConstant => {
+            drop(o);
+            Measured::small(Outcome::Error)
+        }
         _ => o,
     }
 }
@@ -117,7 +120,7 @@ fn used(o: Measured) -> Measured
 fn text_value(text: &Text) -> Result<Measured, NoMemory>
     ensures { IfOk result (λ r. r ≡ outcome_is.Value (str text.now)) }
 {
-    of_value(Value::str(text.copy()?.into_string())?)
+    of_value(Value::str(text.copy()?.into_string()?)?)
 }
 
 fn bytes_value(list: &ByteList) -> Result<Measured, NoMemory>

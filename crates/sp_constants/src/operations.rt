@@ -9,7 +9,7 @@ ghost use Rattle.sp_constants.specs.Values.{is_and, is_or, binary_value, three_v
 
 use crate::measured::{Extent, Measured};
 use crate::outcome::Outcome;
-use sp_base::NoMemory;
+use sp_base::{NoMemory, or_drop};
 use sp_operators::{
     PlainType, ValueFault, add, binary, cast, has_size, is_cast, size, takes, takes_one, unary,
 };
@@ -37,7 +37,7 @@ fn extent_of(value: &Value) -> Result<Extent, NoMemory> {
 pub(crate) fn of_value(value: Value) -> Result<Measured, NoMemory>
     ensures { IfOk result (λ r. r ≡ outcome_is.Value value) }
 {
-    let extent = extent_of(&value)?;
+    let extent = or_drop!(extent_of(&value); value);
     Ok(Measured::new(Outcome::Value(value), extent))
 }
 
@@ -59,6 +59,7 @@ fn sum_of(a: Value, b: &Value) -> Result<Measured, NoMemory>
     ensures { IfOk result (λ r. r ≡ operated op_is.Add a b.now) }
 {
     if !takes(BinaryOp::Add, &a, b) {
+        drop(a);
         return Ok(unknown());
     }
     match add(a, b) {
@@ -73,7 +74,11 @@ fn applied(op: BinaryOp, a: Value, b: &Value) -> Result<Measured, NoMemory>
 {
     match op {
         BinaryOp::Add => sum_of(a, b),
-        _ => operated_apart(op, &a, b),
+        _ => {
+            let found = operated_apart(op, &a, b);
+            drop(a);
+            found
+        }
     }
 }
 
@@ -90,7 +95,11 @@ fn operated(op: BinaryOp, a: Measured, b: &Measured) -> Result<Measured, NoMemor
 {
     match (a.into_outcome(), b.outcome()) {
         (Outcome::Value(x), Outcome::Value(y)) => applied(op, x, y),
-        (x, y) => Ok(lacking(&x, y)),
+        (x, y) => {
+            let found = lacking(&x, y);
+            drop(x);
+            Ok(found)
+        }
     }
 }
 
@@ -99,7 +108,10 @@ fn truth(value: Value) -> Outcome
 {
     match value.level() {
         Level::Bool(_) => Outcome::Value(value),
-        _ => Outcome::Unknown,
+        _ => {
+            drop(value);
+            Outcome::Unknown
+        }
     }
 }
 
@@ -108,7 +120,10 @@ fn truth_of(o: Outcome) -> Outcome
 {
     match o {
         Outcome::Value(value) => truth(value),
-        Outcome::Regex(_) => Outcome::Unknown,
+        Outcome::Regex(text) => {
+            drop(text);
+            Outcome::Unknown
+        }
         Outcome::NotConstant => Outcome::NotConstant,
         Outcome::Error => Outcome::Error,
         Outcome::Unknown => Outcome::Unknown,
@@ -120,8 +135,10 @@ fn both_hold(a: Outcome, b: Outcome) -> Outcome
     ensures { result ≡ both_hold a b }
 {
     if a.is_true() {
+        drop(a);
         truth_of(b)
     } else {
+        drop(b);
         truth_of(a)
     }
 }
@@ -131,8 +148,10 @@ fn either_holds(a: Outcome, b: Outcome) -> Outcome
     ensures { result ≡ either_holds a b }
 {
     if a.is_false() {
+        drop(a);
         truth_of(b)
     } else {
+        drop(b);
         truth_of(a)
     }
 }
@@ -143,9 +162,13 @@ fn truth_value(and: bool, a: Measured, b: Measured) -> Measured
         ≡ if_constant a (if_constant b (if and then both_hold a b else either_holds a b)) }
 {
     if !a.outcome().is_constant() {
+        drop(a);
+        drop(b);
         return Measured::small(Outcome::NotConstant);
     }
     if !b.outcome().is_constant() {
+        drop(a);
+        drop(b);
         return Measured::small(Outcome::NotConstant);
     }
     let (a, b) = (a.into_outcome(), b.into_outcome());
@@ -178,17 +201,23 @@ pub(crate) fn binary_value(op: BinaryOp, a: Measured, b: Measured) -> Result<Mea
     if is_or(op) {
         return Ok(truth_value(false, a, b));
     }
-    operated(op, a, &b)
+    let found = operated(op, a, &b);
+    drop(b);
+    found
 }
 
 fn chosen(c: &Outcome, a: Measured, b: Measured) -> Measured
     ensures { result ≡ chosen c.now a b }
 {
     if c.is_true() {
+        drop(b);
         a
     } else if c.is_false() {
+        drop(a);
         b
     } else {
+        drop(a);
+        drop(b);
         Measured::small(c.lack().outcome())
     }
 }
@@ -198,8 +227,13 @@ pub(crate) fn three_value(c: Measured, a: Measured, b: Measured) -> Measured
     ensures { result ≡ three_value c a b }
 {
     if c.outcome().is_constant() && a.outcome().is_constant() && b.outcome().is_constant() {
-        chosen(c.outcome(), a, b)
+        let found = chosen(c.outcome(), a, b);
+        drop(c);
+        found
     } else {
+        drop(c);
+        drop(a);
+        drop(b);
         Measured::small(Outcome::NotConstant)
     }
 }

@@ -94,5 +94,7 @@ pub fn index_of<C: Constants>(
     ensures { IfOk result (λ n. n ≡ index_of (value_of (C.known constants.now) e.now)) }
 {
     let found = value_of(alloc, constants, e)?;
-    Ok(found.outcome().index())
+    let index = found.outcome().index();
+    drop(found);
+    Ok(index)
 }

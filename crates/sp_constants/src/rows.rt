@@ -7,7 +7,7 @@ ghost use Rattle.sp_constants.specs.Operations.{with_members, with_entries, row_
 use crate::lack::Lack;
 use crate::measured::{Extent, Measured};
 use crate::outcome::Outcome;
-use sp_base::NoMemory;
+use sp_base::{NoMemory, or_drop};
 use sp_typed::ManyOp;
 use sp_value::Value;
 use std::alloc::Global;
@@ -27,7 +27,8 @@ fn set_of(alloc: Global, values: &[Value]) -> Result<Value, NoMemory>
 {
     let mut all = Value::set(Vec::new(alloc))?;
     for value in values {
-        all.add(value.copy()?)?;
+        let item = or_drop!(value.copy(); all);
+        or_drop!(all.add(item); all);
     }
     Ok(all)
 }
@@ -53,9 +54,20 @@ fn of_values(alloc: Global, op: ManyOp, values: Vec<Value>) -> Result<Outcome, N
     match op {
         ManyOp::Tuple => Ok(Outcome::Value(Value::tuple(values)?)),
         ManyOp::Vector => Ok(Outcome::Value(Value::vector(values)?)),
-        ManyOp::Set => Ok(Outcome::Value(set_of(alloc, &values)?)),
-        ManyOp::Map => Ok(Outcome::Value(map_of(alloc, &values)?)),
-        _ => Ok(Outcome::NotConstant),
+        ManyOp::Set => {
+            let set = set_of(alloc, &values);
+            drop(values);
+            Ok(Outcome::Value(set?))
+        }
+        ManyOp::Map => {
+            let map = map_of(alloc, &values);
+            drop(values);
+            Ok(Outcome::Value(map?))
+        }
+        _ => {
+            drop(values);
+            Ok(Outcome::NotConstant)
+        }
     }
 }
 
@@ -75,9 +87,12 @@ pub(crate) fn made(alloc: Global, op: ManyOp, parts: Gathered) -> Result<Measure
 {
     match parts.lack {
         Lack::Nothing => {
-            let extent = parts.extent.around()?;
+            let extent = or_drop!(parts.extent.around(); parts);
             Ok(Measured::new(of_values(alloc, op, parts.values)?, extent))
         }
-        lack => Ok(Measured::small(lack.outcome())),
+        lack => {
+            drop(parts);
+            Ok(Measured::small(lack.outcome()))
+        }
     }
 }

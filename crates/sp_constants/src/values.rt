@@ -13,7 +13,7 @@ use crate::operations::{
 };
 use crate::outcome::Outcome;
 use crate::rows::{Gathered, made, makes_row};
-use sp_base::NoMemory;
+use sp_base::{NoMemory, or_drop};
 use sp_typed::{Expr, ExprLevel, LeafOp, Many, One, OneOp, TwoOp};
 use sp_types::Type;
 use sp_value::Value;
@@ -65,8 +65,18 @@ fn two_value(op: TwoOp, a: Measured, b: Measured) -> Result<Measured, NoMemory>
 {
     match op {
         TwoOp::Binary(op) => binary_value(op, a, b),
-        TwoOp::Index => indexed(&a, &b),
-        TwoOp::Item(n) => item_value(n, &a, &b),
+        TwoOp::Index => {
+            let found = indexed(&a, &b);
+            drop(a);
+            drop(b);
+            found
+        }
+        TwoOp::Item(n) => {
+            let found = item_value(n, &a, &b);
+            drop(a);
+            drop(b);
+            found
+        }
     }
 }
 
@@ -79,7 +89,10 @@ fn keep(values: &mut Vec<Value>, found: Outcome) -> Result<(), NoMemory>
             values.push(value)?;
             Ok(())
         }
-        Outcome::Regex(_) => Ok(()),
+        Outcome::Regex(text) => {
+            drop(text);
+            Ok(())
+        }
         Outcome::NotConstant => Ok(()),
         Outcome::Error => Ok(()),
         Outcome::Unknown => Ok(()),
@@ -147,7 +160,9 @@ fn behind<C: Constants>(
         return Ok(Measured::small(negative_literal(&head.ty, number_in(part))));
     }
     let a = value_of(alloc, constants, part)?;
-    one_value(&head.ty, head.op, &a)
+    let found = one_value(&head.ty, head.op, &a);
+    drop(a);
+    found
 }
 
 /// What a typed expression is as a constant.
@@ -160,13 +175,13 @@ pub fn value_of<C: Constants>(alloc: Global, constants: &C, e: &Expr) -> Result<
         ExprLevel::One(head, a) => behind(alloc, constants, head, a),
         ExprLevel::Two(head, a, b) => {
             let left = value_of(alloc, constants, a)?;
-            let right = value_of(alloc, constants, b)?;
+            let right = or_drop!(value_of(alloc, constants, b); left);
             two_value(head.op, left, right)
         }
         ExprLevel::Three(_, c, a, b) => {
             let condition = value_of(alloc, constants, c)?;
-            let first = value_of(alloc, constants, a)?;
-            let second = value_of(alloc, constants, b)?;
+            let first = or_drop!(value_of(alloc, constants, a); condition);
+            let second = or_drop!(value_of(alloc, constants, b); condition, first);
             Ok(three_value(condition, first, second))
         }
         ExprLevel::Many(head, parts) => many_value(alloc, constants, head, parts),

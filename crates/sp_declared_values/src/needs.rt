@@ -12,7 +12,7 @@ ghost use Rattle.sp_declared_values.specs.inside.Places.{AreNeeds};
 use crate::row::ValueRow;
 use crate::valued::Valued;
 use sp_ast::{Form, Level, Parts, PathKind, Ref, TreeRef};
-use sp_base::NoMemory;
+use sp_base::{NoMemory, or_drop};
 use sp_names::{DeclSort, Meaning};
 use std::alloc::Global;
 
@@ -129,7 +129,8 @@ impl<'a> ValueRow<'a> {
         let rows = self.rows();
         let mut all = Vec::new(alloc);
         for place in 0..rows.len() {
-            all.push(self.needs_of(alloc, place, &rows[place])?)?;
+            let own = or_drop!(self.needs_of(alloc, place, &rows[place]); all);
+            or_drop!(all.push(own); all);
         }
         Ok(all)
     }

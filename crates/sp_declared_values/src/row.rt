@@ -13,7 +13,7 @@ use crate::tell::{is_present, labels_of, written_type};
 use crate::valued::Valued;
 use sp_around::Tables;
 use sp_ast::{DeclView, LabelKind, Members, Ref};
-use sp_base::NoMemory;
+use sp_base::{NoMemory, or_drop};
 use sp_names::{Declaration, LIBRARY_ENUMS, Names};
 use sp_types::Type;
 use std::alloc::Global;
@@ -96,7 +96,7 @@ fn all_constants<'a>(
 {
     let mut list = Vec::new(alloc);
     for row in rows {
-        add_constant(alloc, names, known, &mut list, row)?;
+        or_drop!(add_constant(alloc, names, known, &mut list, row); list);
     }
     Ok(list)
 }
@@ -242,7 +242,7 @@ impl<'a> ValueRow<'a> {
         let names = tables.names();
         let mut rows = all_constants(alloc, names, tables.known(), names.rows())?;
         let constants = rows.len();
-        let enums = add_enums(alloc, names, &mut rows)?;
+        let enums = or_drop!(add_enums(alloc, names, &mut rows); rows);
         Ok(ValueRow {
             tables,
             rows,

@@ -15,7 +15,7 @@ use crate::row::ValueRow;
 use crate::valued::Valued;
 use sp_around::Here;
 use sp_ast::{ExprKind, Ref};
-use sp_base::NoMemory;
+use sp_base::{NoMemory, or_drop};
 use sp_constants::{Measured, constant_value, first_label, label_value, next_label, value_of};
 use sp_dependencies::{Dependent, answers_of};
 use sp_numbers::Width;
@@ -91,7 +91,10 @@ impl<'a> Known<'a> {
             (told self.now.answers.now) owner number.now) }
     {
         let e = self.typed_in(alloc, owner, number)?;
-        to_target(alloc, &Type::word(Word::Uint(Width::W64)), e)
+        let to = Type::word(Word::Uint(Width::W64));
+        let sent = to_target(alloc, &to, e);
+        drop(to);
+        sent
     }
 
     fn constant_answer(
@@ -104,10 +107,9 @@ impl<'a> Known<'a> {
             (told self.now.row.now.1) (told self.now.answers.now)
             (option_copied written.entry) e.now) }
     {
-        Ok(Answer {
-            ty: written_or(written, e)?,
-            value: constant_value(alloc, self, written, e)?,
-        })
+        let ty = written_or(written, e)?;
+        let value = or_drop!(constant_value(alloc, self, written, e); ty);
+        Ok(Answer { ty, value })
     }
 
     /// The answer of what stands at a place.
@@ -217,5 +219,8 @@ pub fn answers(alloc: Global, row: &ValueRow<'_>) -> Result<Vec<Option<Answer>>,
     ensures all { IfOk result (λ v. length v.items ≡ length (valued row.now.0 (told row.now.1))) }
 {
     let needs = row.all_needs(alloc)?;
-    answers_of(alloc, &System { row, needs })
+    let system = System { row, needs };
+    let found = answers_of(alloc, &system);
+    drop(system);
+    found
 }

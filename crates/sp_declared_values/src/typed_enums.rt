@@ -11,7 +11,7 @@ use crate::known::Known;
 use crate::library::{library_enums, name_in_module};
 use crate::tell::{is_present, labels_of};
 use sp_ast::{DeclKind, DeclView, ExprKind, LabelKind, Members, Module, Ref};
-use sp_base::{NoMemory, Span, Text};
+use sp_base::{NoMemory, Span, Text, or_drop};
 use sp_constants::Outcome;
 use sp_names::{Declaration, LIBRARY_ENUMS, Names};
 use sp_typed::Expr;
@@ -95,7 +95,9 @@ impl<'a> Known<'a> {
             (told self.now.answers.now) owner place) }
     {
         let found = sp_constants::Constants::label(self, owner, place)?;
-        Ok(shown_number(found.outcome()))
+        let number = shown_number(found.outcome());
+        drop(found);
+        Ok(number)
     }
 
     /// The number of a label, which may be written.
@@ -145,11 +147,15 @@ impl<'a> Known<'a> {
     {
         let view = label.view();
         is_present(&view.value);
+        let name = Text::new(alloc, view.name.text())?;
+        let span = view.name.span();
+        let expr = or_drop!(self.number_expr(alloc, home, &view.value); name);
+        let number = or_drop!(self.number_at(owner, place, &view.value); name, expr);
         Ok(Label {
-            name: Text::new(alloc, view.name.text())?,
-            span: view.name.span(),
-            expr: self.number_expr(alloc, home, &view.value)?,
-            number: self.number_at(owner, place, &view.value)?,
+            name,
+            span,
+            expr,
+            number,
         })
     }
 
@@ -167,8 +173,12 @@ impl<'a> Known<'a> {
         let mut list = Vec::new(alloc);
         let mut place: u32 = 0;
         for label in labels {
-            list.push(self.declared_label(alloc, owner, home, place, &label)?)?;
-            place = place.checked_add(1).ok_or(NoMemory)?;
+            let declared = or_drop!(
+                self.declared_label(alloc, owner, home, place, &label);
+                list
+            );
+            or_drop!(list.push(declared); list);
+            place = or_drop!(place.checked_add(1).ok_or(NoMemory); list);
         }
         Ok(list)
     }
@@ -201,11 +211,14 @@ impl<'a> Known<'a> {
             (told self.now.row.now.1) (told self.now.answers.now) owner (Some row.now)) }
     {
         let home = name_of_module(self.row.tables().names(), row.module);
+        let path = name_in_module(alloc, home, declared_name(&row.tree))?;
+        let span = declared_span(&row.tree);
+        let labels = or_drop!(self.labels_declared(alloc, owner, row); path);
         Ok(Enum {
-            path: name_in_module(alloc, home, declared_name(&row.tree))?,
+            path,
             module: row.module,
-            span: declared_span(&row.tree),
-            labels: Row::from_vec(self.labels_declared(alloc, owner, row)?),
+            span,
+            labels: Row::from_vec(labels),
         })
     }
 
@@ -247,7 +260,7 @@ impl<'a> Known<'a> {
             (told self.now.row.now.1) (told self.now.answers.now)) }
     {
         let mut list = library_enums(alloc)?;
-        self.add_enums(alloc, &mut list)?;
+        or_drop!(self.add_enums(alloc, &mut list); list);
         Ok(list)
     }
 }

@@ -10,7 +10,7 @@ use crate::known::{Known, value_at};
 use crate::tell::{is_present, written_type};
 use sp_around::written_in;
 use sp_ast::{DeclView, ExprKind, Ref, TypeKind};
-use sp_base::{NoMemory, Span};
+use sp_base::{NoMemory, Span, or_drop};
 use sp_constants::Outcome;
 use sp_names::Declaration;
 use sp_typed::Written;
@@ -58,9 +58,14 @@ impl<'a> Known<'a> {
     {
         let tables = self.row.tables();
         let to = written_type(alloc, tables.names(), tables.known(), owner, part)?;
-        let ty = sp_around::Constants::constant_type(self, number)?;
-        let found = value_at(self.answers, self.row.constant_place(number))?;
-        let expr = self.constant_expr(alloc, owner, &to, value)?;
+        let ty = or_drop!(sp_around::Constants::constant_type(self, number); to);
+        let found = or_drop!(
+            value_at(self.answers, self.row.constant_place(number));
+            to, ty
+        );
+        let expr = self.constant_expr(alloc, owner, &to, value);
+        drop(to);
+        let expr = or_drop!(expr; ty, found);
         Ok(Constant {
             module: owner,
             span,
@@ -111,7 +116,7 @@ impl<'a> Known<'a> {
         let mut list = Vec::new(alloc);
         let mut number: u32 = 0;
         for row in rows {
-            number = self.add_constant(alloc, &mut list, number, row)?;
+            number = or_drop!(self.add_constant(alloc, &mut list, number, row); list);
         }
         Ok(list)
     }

@@ -40,16 +40,22 @@ impl<'a> sp_typing_units::Constants for Known<'a> {
 
     fn number(&self, alloc: Global, e: &Expr) -> Result<Option<u64>, NoMemory> {
         let found = value_of(alloc, self, e)?;
-        Ok(found.outcome().label_number())
+        let number = found.outcome().label_number();
+        drop(found);
+        Ok(number)
     }
 
     fn bytes(&self, alloc: Global, e: &Expr) -> Result<Option<ByteList>, NoMemory> {
         let found = value_of(alloc, self, e)?;
-        bytes_of(alloc, found.outcome())
+        let bytes = bytes_of(alloc, found.outcome());
+        drop(found);
+        bytes
     }
 
     fn regex(&self, alloc: Global, e: &Expr) -> Result<Option<Text>, NoMemory> {
         let found = value_of(alloc, self, e)?;
-        regex_of(found.outcome())
+        let regex = regex_of(found.outcome());
+        drop(found);
+        regex
     }
 }

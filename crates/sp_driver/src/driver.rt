@@ -62,7 +62,9 @@ fn run_list<S: Source, O: Out>(
         Ok(compiled) => {
             let options = options_of(wanted);
             let turns = wanted.turns;
-            Exit::Ran(run_unit(alloc, &list.typed, &compiled, turns, options, input, out))
+            let exit = run_unit(alloc, &list.typed, &compiled, turns, options, input, out);
+            drop(compiled);
+            Exit::Ran(exit)
         }
         Err(unready) => Exit::Unready(unready),
     }

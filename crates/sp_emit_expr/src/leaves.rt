@@ -83,7 +83,7 @@ fn text(out: &mut Emitter, literal: &Text) -> Result<(), NoMemory>
     ensures { OnOk result (Adds out.old out.new (constant out.old.now (str literal.now) ∷ [])
         out.old.now) }
 {
-    out.constant(Value::str(literal.copy()?.into_string())?)
+    out.constant(Value::str(literal.copy()?.into_string()?)?)
 }
 
 fn bytes(out: &mut Emitter, literal: &ByteList) -> Result<(), NoMemory>

@@ -83,7 +83,7 @@ fn message(out: &mut Emitter, text: &Option<Text>) -> Result<(), NoMemory>
 {
     match text {
         Some(literal) => {
-            out.constant(Value::str(literal.copy()?.into_string())?)?;
+            out.constant(Value::str(literal.copy()?.into_string()?)?)?;
             out.push_row(KindRow::Text)
         }
         None => {

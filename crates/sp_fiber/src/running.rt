@@ -1,5 +1,5 @@
 // A machine runs over its window, which then loses what the machine can't look at any more.
-ghost use Rattle.std.specs.Prelude.{◌≡◌, ◌≤◌, ◌+◌, ◌++◌, List, ℕ, true, length, min, IfOk, OnOk, OnErr};
+ghost use Rattle.std.specs.Prelude.{◌≡◌, [], ◌≤◌, ◌+◌, ◌++◌, List, ℕ, true, length, min, IfOk, OnOk, OnErr};
 ghost use Rattle.sp_base.specs.Input.{held_open, ended};
 ghost use Rattle.sp_window.specs.Windows.{end_of, most, trimmed};
 ghost use Rattle.sp_code.specs.Machine.{low_of};
@@ -16,6 +16,7 @@ use sp_code::Program;
 use sp_events::What;
 use sp_machine::{Machine, Stop};
 use sp_window::Window;
+use std::mem;
 
 /// Cuts off of a window what a machine that waits doesn't need any more.
 #[tactic(auto, using(crate::proofs::Machines::low_is_within, crate::proofs::Whole::end_stays))]
@@ -26,6 +27,33 @@ fn trim_to_low(machine: &Machine, window: &mut Window)
 {
     let least = low(machine.stack.frames(), machine.place);
     window.trim(least.min(window.end()));
+}
+
+/// An empty list, with the room of one that is empty too.
+fn room_of(told: &mut Vec<What>) -> Vec<What>
+    ensures empty { result.items ≡ [] }
+    ensures told { told.new.items ≡ told.old.items }
+{
+    let none = Vec::new(*told.allocator());
+    if told.is_empty() {
+        mem::replace(told, none)
+    } else {
+        none
+    }
+}
+
+/// Moves what was told behind what was told before, or nothing.
+fn append_all(told: &mut Vec<What>, more: Vec<What>) -> Result<(), NoMemory>
+    ensures ok { OnOk result (told.new.items ≡ told.old.items ++ more.items) }
+    ensures err { OnErr result (told.new.items ≡ told.old.items) }
+{
+    if told.is_empty() {
+        *told = more;
+        return Ok(());
+    }
+    let mut more = more;
+    told.append(&mut more)?;
+    Ok(())
 }
 
 /// Runs a machine until it waits for more of its input or all is over, and answers whether all is over. Of
@@ -51,9 +79,9 @@ fn run_on(
     ensures end { end_of window.new ≡ end_of window.old }
     ensures err { OnErr result (told.new.items ≡ told.old.items) }
 {
-    let mut events = Vec::new(*told.allocator());
+    let mut events = room_of(told);
     let stop = machine.run(p, limits, window, is_ended, &mut events)?;
-    told.append(&mut events)?;
+    append_all(told, events)?;
     match stop {
         Stop::Over => {
             let end = window.end();

@@ -5,7 +5,7 @@ ghost use Rattle.sp_stored_types.specs.Taken.{same_place, has_place};
 ghost use Rattle.sp_field_tables.specs.inside.Places.{has_told};
 
 use indexmap::IndexSet;
-use sp_base::{NoMemory, Span};
+use sp_base::{NoMemory, Span, or_drop};
 use std::alloc::Global;
 use std::marker::Model;
 
@@ -30,7 +30,7 @@ fn set_of(alloc: Global, places: &[Span]) -> Result<PlaceSet, NoMemory>
         ends: IndexSet::new(alloc),
     };
     for i in 0..places.len() {
-        add(&mut set, places[i])?;
+        or_drop!(add(&mut set, places[i]); set);
     }
     Ok(set)
 }

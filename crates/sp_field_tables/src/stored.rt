@@ -73,12 +73,16 @@ fn stored_with(entry: Option<&Stored>, ty: Type) -> Stored
     match entry {
         Some(Stored::One(one)) => {
             if differ(one, &ty) {
+                drop(ty);
                 Stored::Mixed
             } else {
                 Stored::One(ty)
             }
         }
-        Some(Stored::Mixed) => Stored::Mixed,
+        Some(Stored::Mixed) => {
+            drop(ty);
+            Stored::Mixed
+        }
         None => Stored::One(ty),
     }
 }

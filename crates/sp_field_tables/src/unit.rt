@@ -14,7 +14,7 @@ use sp_base::NoMemory;
 use sp_typed::OneOp;
 use sp_types::Type;
 use sp_typing::{Context, Member};
-use sp_typing_units::{Constants, converted, counted_read};
+use sp_typing_units::{Constants, Read, converted, counted_read};
 use std::alloc::Global;
 
 /// A unit of a list, with what stands round its expressions and what constants are worth there.
@@ -75,7 +75,9 @@ fn member_number(tables: &Tables<'_>, unit: u32, name: &str) -> Result<Option<u3
     ensures { IfOk result (λ k. k ≡ member_number (unit_of tables.now.0 unit) name.now) }
 {
     let member = tables.unit_member(&[], unit, name)?;
-    Ok(number_of(&member))
+    let number = number_of(&member);
+    drop(member);
+    Ok(number)
 }
 
 /// The type of what is read.
@@ -90,7 +92,9 @@ fn read_type<C: Context, V: Constants>(
         base.now (trees counts.now)).ty) }
 {
     let read = counted_read(alloc, context, constants, base, counts)?;
-    Ok(read.ty)
+    let Read { spec, ty, kind: _ } = read;
+    drop(spec);
+    Ok(ty)
 }
 
 /// The type of what a field stores.

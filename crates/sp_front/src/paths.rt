@@ -25,7 +25,7 @@ fn path_in(alloc: Global, directory: &str, file: &str) -> Result<Text, NoMemory>
     let mut path = String::from_str(alloc, directory)?;
     path.push_str("/")?;
     path.push_str(file)?;
-    Ok(Text::from_string(path))
+    Text::from_string(path)
 }
 
 /// The text of the file at a path, if there is one.
@@ -66,7 +66,7 @@ pub(crate) fn find<M: Modules>(
         }
     }
     match read(modules, file.as_str())? {
-        Some(text) => Ok(Some((Text::from_string(file), text))),
+        Some(text) => Ok(Some((Text::from_string(file)?, text))),
         None => Ok(None),
     }
 }

@@ -12,7 +12,7 @@ use crate::sites::{Holder, Site};
 use indexmap::IndexSet;
 use sp_around::Tables;
 use sp_ast::{FieldKind, NameKind, Ref};
-use sp_base::NoMemory;
+use sp_base::{NoMemory, or_drop};
 use sp_rules::{Fault, Rule, note_if};
 use sp_typed_units::HookOf;
 use std::alloc::Global;
@@ -73,8 +73,8 @@ fn containers(alloc: Global, tables: &Tables<'_>, sites: &[Site<'_>]) -> Result<
         members: IndexSet::new(alloc),
     };
     for i in 0..sites.len() {
-        let member = site_container(tables, &sites[i])?;
-        add_container(&mut found, member)?;
+        let member = or_drop!(site_container(tables, &sites[i]); found);
+        or_drop!(add_container(&mut found, member); found);
     }
     Ok(found)
 }
@@ -129,5 +129,6 @@ pub fn note_hooks(
 {
     let found = containers(alloc, tables, sites)?;
     note_rows(&found, rows, least);
+    drop(found);
     Ok(())
 }

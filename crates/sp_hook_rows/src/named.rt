@@ -48,7 +48,9 @@ pub(crate) fn field_number(
     ensures { IfOk result (λ k. k ≡ field_number tables.now.0 unit name.now) }
 {
     let member = tables.unit_member(&[], unit, name)?;
-    Ok(number_of(&member))
+    let number = number_of(&member);
+    drop(member);
+    Ok(number)
 }
 
 /// What a hook of a field is of that stands without `foreach`.

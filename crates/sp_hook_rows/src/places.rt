@@ -9,7 +9,7 @@ use crate::sites::{Holder, Site};
 use indexmap::IndexMap;
 use sp_around::Tables;
 use sp_ast::{FieldKind, Ref};
-use sp_base::NoMemory;
+use sp_base::{NoMemory, or_drop};
 use sp_hook_order::HookKey;
 use std::alloc::Global;
 
@@ -95,8 +95,8 @@ impl FieldKeys {
         };
         for i in 0..sites.len() {
             let site = &sites[i];
-            let key = site_key(tables, site)?;
-            note(&mut table, site.unit, key)?;
+            let key = or_drop!(site_key(tables, site); table);
+            or_drop!(note(&mut table, site.unit, key); table);
         }
         Ok(table)
     }

@@ -12,7 +12,7 @@ use sp_ast::{
     CountKind, DeclKind, DeclView, FieldKind, HookBodyKind, HookKind, ItemKind, ItemView, Members,
     NameKind, Ref,
 };
-use sp_base::{NoMemory, Span};
+use sp_base::{NoMemory, Span, or_drop};
 use sp_hook_order::HookKey;
 use sp_typed_units::HookOf;
 use std::alloc::Global;
@@ -202,10 +202,14 @@ fn add_declared<'a>(
         } => {
             let body = hook_body(&hook);
             let each = is_each(&body);
-            let of = declared_of(tables, module, each, &path, &hook_name)?;
+            let of = declared_of(tables, module, each, &path, &hook_name);
+            let span = path.span();
+            drop(path);
+            drop(hook_name);
+            let of = or_drop!(of; hook, body);
             rows.push(HookRow {
                 module,
-                span: path.span(),
+                span,
                 of,
                 each,
                 bare: false,
@@ -215,7 +219,10 @@ fn add_declared<'a>(
             })?;
             Ok(())
         }
-        _ => Ok(()),
+        other => {
+            drop(other);
+            Ok(())
+        }
     }
 }
 
@@ -246,7 +253,7 @@ pub fn hook_rows<'a>(
 {
     let mut rows = Vec::new(alloc);
     for i in 0..sites.len() {
-        add_site(&mut rows, tables, &sites[i])?;
+        or_drop!(add_site(&mut rows, tables, &sites[i]); rows);
     }
     Ok(rows)
 }

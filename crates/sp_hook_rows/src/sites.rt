@@ -8,7 +8,7 @@ use sp_ast::{
     ArmKind, BodyKind, BodyView, DeclKind, DeclView, FieldKind, ItemKind, ItemView, Members,
     PartKind, PartView, Ref, TypeKind, TypeView,
 };
-use sp_base::NoMemory;
+use sp_base::{NoMemory, or_drop};
 use sp_names::Names;
 use std::alloc::Global;
 
@@ -211,8 +211,9 @@ pub fn all_sites<'a>(alloc: Global, names: &Names<'a>) -> Result<Vec<Site<'a>>, 
     let mut sites = Vec::new(alloc);
     for g in 0..rows.len() {
         let row = &rows[g];
-        let unit = names.number(number(g)?);
-        add_declaration(&mut sites, row.module, unit, &row.tree)?;
+        let declaration = or_drop!(number(g); sites);
+        let unit = names.number(declaration);
+        or_drop!(add_declaration(&mut sites, row.module, unit, &row.tree); sites);
     }
     Ok(sites)
 }

@@ -1,7 +1,7 @@
 // Prints the line of each kind of event, with values of each kind, and a report; and whether `Lines` writes the same lines.
 #![tactic(auto)]
 
-use sp_base::{ByteList, NoMemory, PKind, ParseError, Text};
+use sp_base::{ByteList, NoMemory, PKind, ParseError, Text, or_drop};
 use sp_events::{Event, Node, Path, Tree, Trees, What};
 use sp_json::{Lines, line, report};
 use std::alloc::{AllocError, Global};
@@ -9,14 +9,17 @@ use std::io;
 
 /// A value of each kind without members.
 fn leaves(alloc: Global) -> Result<Vec<Tree>, NoMemory> {
+    let bytes = ByteList::from_slice(alloc, b"A\"\x00\xff")?;
+    let text = or_drop!(Text::new(alloc, "B\\\u{e9}"); bytes);
+    let label = or_drop!(Text::new(alloc, "E::A"); bytes, text);
     let nodes = [
         Node::Void,
         Node::Bool(true),
         Node::Uint(18_446_744_073_709_551_615),
         Node::Int(-9_223_372_036_854_775_808),
-        Node::Bytes(ByteList::from_slice(alloc, b"A\"\x00\xff")?),
-        Node::Str(Text::new(alloc, "B\\\u{e9}")?),
-        Node::Label(Text::new(alloc, "E::A")?),
+        Node::Bytes(bytes),
+        Node::Str(text),
+        Node::Label(label),
         Node::Unlisted(3),
         Node::Place(9),
     ];
@@ -63,19 +66,33 @@ fn bits(alloc: Global) -> Result<Tree, NoMemory> {
     })
 }
 
+/// One more field.
+fn add_field(
+    alloc: Global,
+    fields: &mut Vec<(Text, Tree)>,
+    name: &str,
+    tree: Tree,
+) -> Result<(), NoMemory> {
+    let name = or_drop!(Text::new(alloc, name); tree);
+    fields.push((name, tree))?;
+    Ok(())
+}
+
 /// A unit with a field of each kind that has members.
 fn unit(alloc: Global) -> Result<Tree, NoMemory> {
     let mut fields = Vec::new(alloc);
     let tuple = Tree {
         node: Node::Tuple(numbers(alloc, 3)?),
     };
+    or_drop!(add_field(alloc, &mut fields, "t", tuple); fields);
     let set = Tree {
-        node: Node::Set(numbers(alloc, 0)?),
+        node: Node::Set(or_drop!(numbers(alloc, 0); fields)),
     };
-    fields.push((Text::new(alloc, "t")?, tuple))?;
-    fields.push((Text::new(alloc, "s")?, set))?;
-    fields.push((Text::new(alloc, "m")?, entry(alloc)?))?;
-    fields.push((Text::new(alloc, "b")?, bits(alloc)?))?;
+    or_drop!(add_field(alloc, &mut fields, "s", set); fields);
+    let map = or_drop!(entry(alloc); fields);
+    or_drop!(add_field(alloc, &mut fields, "m", map); fields);
+    let bits = or_drop!(bits(alloc); fields);
+    or_drop!(add_field(alloc, &mut fields, "b", bits); fields);
     Ok(Tree::unit(fields))
 }
 
@@ -124,7 +141,7 @@ fn characters(alloc: Global) -> Result<Tree, NoMemory> {
     }
     text.push_str("\u{e9}\u{20ac}\u{1f600}")?;
     Ok(Tree {
-        node: Node::Str(Text::from_string(text)),
+        node: Node::Str(Text::from_string(text)?),
     })
 }
 
@@ -187,7 +204,9 @@ fn happening(alloc: Global, number: u32) -> Result<What, NoMemory> {
         2 => Ok(What::Done(unit(alloc)?.copy()?)),
         3 => Ok(What::Hook {
             name: Text::new(alloc, "M::U::x foreach")?,
-            args: Trees::new(numbers(alloc, 1)?),
+            args: Trees::alone(Tree {
+                node: Node::Uint(1),
+            }),
         }),
         4 => Ok(What::Write {
             sink: Text::new(alloc, "s")?,
@@ -212,13 +231,27 @@ fn happening(alloc: Global, number: u32) -> Result<What, NoMemory> {
     }
 }
 
+/// A text of many characters, and bytes of all kinds.
+fn characters_and_bytes(alloc: Global) -> Result<What, NoMemory> {
+    let characters = characters(alloc)?;
+    let bytes = or_drop!(bytes(alloc); characters);
+    Ok(What::Print(both(alloc, characters, bytes)?))
+}
+
+/// Ranges whose names rise, and ranges whose names don't.
+fn both_ranges(alloc: Global) -> Result<What, NoMemory> {
+    let rising = ranges(alloc, &RISING)?;
+    let mixed = or_drop!(ranges(alloc, &MIXED); rising);
+    Ok(What::Print(both(alloc, rising, mixed)?))
+}
+
 /// What happens, by its number, where values have many characters or members, or none.
 fn longer(alloc: Global, number: u32) -> Result<What, NoMemory> {
     match number {
-        11 => Ok(What::Print(both(alloc, characters(alloc)?, bytes(alloc)?)?)),
+        11 => characters_and_bytes(alloc),
         12 => Ok(What::Done(fields(alloc, &RISING)?)),
         13 => Ok(What::Done(fields(alloc, &MIXED)?)),
-        14 => Ok(What::Print(both(alloc, ranges(alloc, &RISING)?, ranges(alloc, &MIXED)?)?)),
+        14 => both_ranges(alloc),
         15 => Ok(What::Hook {
             name: Text::new(alloc, "")?,
             args: Trees::new(Vec::new(alloc)),

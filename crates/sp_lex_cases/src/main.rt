@@ -13,6 +13,7 @@ fn answer(alloc: Global, text: &[u8]) -> Result<String, AllocError> {
     match lex(alloc, text) {
         Ok(tokens) => {
             let count = tokens.len();
+            drop(tokens);
             format!(in alloc; "ok {count}")
         }
         Err(ReadFault::Diag(span, kind)) => {

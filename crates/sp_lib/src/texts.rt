@@ -113,7 +113,7 @@ fn filled_text(alloc: Global, charset: u64, fill: &str, x: &[u8]) -> Result<Text
     requires { IsTrue (is_charset charset) }
     ensures { IfOk result (λ text. text ≡ characters (character_in charset) fill.now 0 x.now) }
 {
-    Ok(Text::from_string(filled(alloc, charset, fill, x)?))
+    Text::from_string(filled(alloc, charset, fill, x)?)
 }
 
 /// The text that bytes are in UTF-8 (charset 0) or ASCII (1). From the left whole characters are taken, and a byte with which none

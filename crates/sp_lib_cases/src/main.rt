@@ -16,7 +16,7 @@ mod operations;
 
 use crate::literals::literal;
 use crate::operations::operation;
-use sp_base::{NoMemory, PKind};
+use sp_base::{NoMemory, PKind, or_drop};
 use sp_operators::ValueFault;
 use sp_value::{Value, compare, kind};
 use std::alloc::Global;
@@ -70,9 +70,23 @@ fn push(stack: &mut Vec<Value>, value: Value) -> Result<(), Fault> {
 
 /// Takes the last value away where it is a truth value.
 fn pop_truth(stack: &mut Vec<Value>) -> Result<bool, Fault> {
-    match pop(stack)?.as_bool() {
+    let value = pop(stack)?;
+    let truth = value.as_bool();
+    drop(value);
+    match truth {
         Some(b) => Ok(b),
         None => Err(Fault::NoCase),
+    }
+}
+
+/// Whether words are passed over, where this is the name of a word that says so.
+fn decided_by(stack: &mut Vec<Value>, name: &str) -> Result<Option<bool>, Fault> {
+    match name {
+        "skip" => Ok(Some(true)),
+        "then" => Ok(Some(!pop_truth(stack)?)),
+        "and" => Ok(Some(!pop_truth(stack)?)),
+        "or" => Ok(Some(pop_truth(stack)?)),
+        _ => Ok(None),
     }
 }
 
@@ -84,12 +98,8 @@ fn passed_over(stack: &mut Vec<Value>, word: &str) -> Result<Option<u64>, Fault>
     let Ok(count) = count.parse::<u64>() else {
         return Ok(None);
     };
-    let decided = match name {
-        "skip" => true,
-        "then" => !pop_truth(stack)?,
-        "and" => !pop_truth(stack)?,
-        "or" => pop_truth(stack)?,
-        _ => return Ok(None),
+    let Some(decided) = decided_by(stack, name)? else {
+        return Ok(None);
     };
     if decided && name != "skip" && name != "then" {
         push(stack, Value::bool(name == "or"))?;
@@ -115,12 +125,14 @@ fn value_of(alloc: Global, words: &str) -> Result<Value, Fault> {
     let mut left: u64 = 0;
     for word in words.split_whitespace() {
         if left == 0 {
-            left = step(alloc, &mut stack, word)?;
+            left = or_drop!(step(alloc, &mut stack, word); stack);
         } else {
             left -= 1;
         }
     }
-    pop(&mut stack)
+    let value = pop(&mut stack);
+    drop(stack);
+    value
 }
 
 /// Whether two values are the same, of one width if they are integers.
@@ -128,15 +140,28 @@ fn is_same(a: &Value, b: &Value) -> bool {
     kind(a) == kind(b) && a.width() == b.width() && compare(a, b).is_eq()
 }
 
+/// Whether a value is that of these words.
+fn is_value_of(alloc: Global, value: &Value, words: &str) -> bool {
+    match value_of(alloc, words) {
+        Ok(wanted) => {
+            let same = is_same(value, &wanted);
+            drop(wanted);
+            same
+        }
+        Err(_) => false,
+    }
+}
+
 fn holds(alloc: Global, case: &str) -> bool {
     let Some((wanted, words)) = case.split_once(" | ") else {
         return false;
     };
     match value_of(alloc, words) {
-        Ok(value) => match value_of(alloc, wanted) {
-            Ok(wanted) => is_same(&value, &wanted),
-            Err(_) => false,
-        },
+        Ok(value) => {
+            let same = is_value_of(alloc, &value, wanted);
+            drop(value);
+            same
+        }
         Err(Fault::Run(error)) => error.name() == wanted,
         Err(_) => false,
     }

@@ -4,7 +4,7 @@ ghost use Rattle.sp_value.specs.Changes.{IsVector, IsMap};
 
 use crate::literals::width_of;
 use crate::{Fault, pop};
-use sp_base::{ByteList, PKind};
+use sp_base::{ByteList, PKind, or_drop};
 use sp_lib::{
     back, decode, encode, front, get, lower, pop_back, push_back, split, split1, starts_with, sub,
     to_int, to_int_order, to_uint, to_uint_order, upper,
@@ -66,11 +66,28 @@ fn before(name: &str) -> Option<UnaryOp> {
     }
 }
 
+/// What an operator makes of two values, if it takes them.
+fn made_of_two(op: BinaryOp, a: &Value, b: &Value) -> Result<Value, Fault> {
+    if takes(op, a, b) {
+        Ok(binary(op, a, b)?)
+    } else {
+        Err(Fault::NoCase)
+    }
+}
+
 fn of_two(stack: &mut Vec<Value>, op: BinaryOp) -> Result<Value, Fault> {
     let b = pop(stack)?;
-    let a = pop(stack)?;
-    if takes(op, &a, &b) {
-        Ok(binary(op, &a, &b)?)
+    let a = or_drop!(pop(stack); b);
+    let made = made_of_two(op, &a, &b);
+    drop(a);
+    drop(b);
+    made
+}
+
+/// What an operator makes of a value, if it takes it.
+fn made_of_one(op: UnaryOp, a: &Value) -> Result<Value, Fault> {
+    if takes_one(op, a) {
+        Ok(unary(op, a)?)
     } else {
         Err(Fault::NoCase)
     }
@@ -78,20 +95,20 @@ fn of_two(stack: &mut Vec<Value>, op: BinaryOp) -> Result<Value, Fault> {
 
 fn of_one(stack: &mut Vec<Value>, op: UnaryOp) -> Result<Value, Fault> {
     let a = pop(stack)?;
-    if takes_one(op, &a) {
-        Ok(unary(op, &a)?)
-    } else {
-        Err(Fault::NoCase)
-    }
+    let made = made_of_one(op, &a);
+    drop(a);
+    made
 }
 
 fn size_of(stack: &mut Vec<Value>) -> Result<Value, Fault> {
     let a = pop(stack)?;
-    if has_size(&a) {
+    let found = if has_size(&a) {
         Ok(size(&a))
     } else {
         Err(Fault::NoCase)
-    }
+    };
+    drop(a);
+    found
 }
 
 fn type_of(name: &str) -> Option<PlainType> {
@@ -104,12 +121,19 @@ fn type_of(name: &str) -> Option<PlainType> {
     Some(PlainType::Int(width_of(name.strip_prefix("i")?)?))
 }
 
-fn cast_to(stack: &mut Vec<Value>, name: &str) -> Result<Value, Fault> {
-    let a = pop(stack)?;
+/// A value as one of the type of this name, if there is such a cast.
+fn made_by_cast(a: &Value, name: &str) -> Result<Value, Fault> {
     match type_of(name) {
-        Some(to) if is_cast(&a, &to) => Ok(cast(&a, &to)?),
+        Some(to) if is_cast(a, &to) => Ok(cast(a, &to)?),
         _ => Err(Fault::NoCase),
     }
+}
+
+fn cast_to(stack: &mut Vec<Value>, name: &str) -> Result<Value, Fault> {
+    let a = pop(stack)?;
+    let made = made_by_cast(&a, name);
+    drop(a);
+    made
 }
 
 fn bytes_value(list: ByteList) -> Result<Value, Fault> {
@@ -137,10 +161,15 @@ fn of_bytes_and_one(alloc: Global, name: &str, x: &[u8], a: &Value) -> Result<Va
 fn in_two(alloc: Global, x: &[u8], d: &[u8]) -> Result<Value, Fault> {
     let (before, behind) = split1(alloc, x, d)?;
     let mut members = Vec::new(alloc);
-    if members.push(bytes_value(before)?).is_err() {
+    let first = or_drop!(bytes_value(before); behind, members);
+    if members.push(first).is_err() {
+        drop(behind);
+        drop(members);
         return Err(Fault::NoMemory);
     }
-    if members.push(bytes_value(behind)?).is_err() {
+    let second = or_drop!(bytes_value(behind); members);
+    if members.push(second).is_err() {
+        drop(members);
         return Err(Fault::NoMemory);
     }
     Ok(Value::tuple(members)?)
@@ -157,7 +186,7 @@ fn of_bytes_and_two(
     match (name, a.level(), b.level()) {
         ("sub", Level::Uint(_, a), Level::Uint(_, b)) => bytes_value(sub(alloc, x, a, b)?),
         ("decode", Level::Enum(_, charset), Level::Enum(_, strategy)) => {
-            Ok(Value::str(decode(alloc, x, charset, strategy)?.into_string())?)
+            Ok(Value::str(decode(alloc, x, charset, strategy)?.into_string()?)?)
         }
         _ => Err(Fault::NoCase),
     }
@@ -176,14 +205,18 @@ fn of_bytes(alloc: Global, name: &str, x: &Value) -> Result<Value, Fault> {
 /// The vector without its last item, and that item, in a tuple.
 fn popped(alloc: Global, mut v: Value) -> Result<Value, Fault> {
     if !is_vector(&v) {
+        drop(v);
         return Err(Fault::NoCase);
     }
-    let item = pop_back(&mut v)?;
+    let item = or_drop!(pop_back(&mut v); v);
     let mut members = Vec::new(alloc);
     if members.push(v).is_err() {
+        drop(item);
+        drop(members);
         return Err(Fault::NoMemory);
     }
     if members.push(item).is_err() {
+        drop(members);
         return Err(Fault::NoMemory);
     }
     Ok(Value::tuple(members)?)
@@ -191,9 +224,11 @@ fn popped(alloc: Global, mut v: Value) -> Result<Value, Fault> {
 
 fn pushed(mut v: Value, x: Value) -> Result<Value, Fault> {
     if !is_vector(&v) {
+        drop(v);
+        drop(x);
         return Err(Fault::NoCase);
     }
-    push_back(&mut v, x)?;
+    or_drop!(push_back(&mut v, x); v);
     Ok(v)
 }
 
@@ -209,33 +244,58 @@ fn indexed(container: &Value, key: &Value) -> Result<Value, Fault> {
     }
 }
 
+/// What a map has at a key, or else the other value, if it is a map.
+fn value_at(map: &Value, key: &Value, other: Option<&Value>) -> Result<Value, Fault> {
+    if is_map(map) {
+        Ok(get(map, key, other)?)
+    } else {
+        Err(Fault::NoCase)
+    }
+}
+
+/// A method of a vector or a map, or an index, that only reads this last value.
+fn read_by(stack: &mut Vec<Value>, name: &str, last: &Value) -> Result<Value, Fault> {
+    match name {
+        "front" if is_vector(last) => Ok(front(last)?),
+        "back" if is_vector(last) => Ok(back(last)?),
+        "index" => {
+            let container = pop(stack)?;
+            let found = indexed(&container, last);
+            drop(container);
+            found
+        }
+        "get" => {
+            let map = pop(stack)?;
+            let found = value_at(&map, last, None);
+            drop(map);
+            found
+        }
+        "get_or" => {
+            let key = pop(stack)?;
+            let map = or_drop!(pop(stack); key);
+            let found = value_at(&map, &key, Some(last));
+            drop(key);
+            drop(map);
+            found
+        }
+        _ => Err(Fault::NoCase),
+    }
+}
+
 /// A method of a vector or a map, or an index.
 fn of_container(alloc: Global, stack: &mut Vec<Value>, name: &str) -> Result<Value, Fault> {
     let last = pop(stack)?;
     match name {
-        "front" if is_vector(&last) => Ok(front(&last)?),
-        "back" if is_vector(&last) => Ok(back(&last)?),
         "pop_back" => popped(alloc, last),
-        "push_back" => pushed(pop(stack)?, last),
-        "index" => indexed(&pop(stack)?, &last),
-        "get" => {
-            let map = pop(stack)?;
-            if is_map(&map) {
-                Ok(get(&map, &last, None)?)
-            } else {
-                Err(Fault::NoCase)
-            }
+        "push_back" => {
+            let vector = or_drop!(pop(stack); last);
+            pushed(vector, last)
         }
-        "get_or" => {
-            let key = pop(stack)?;
-            let map = pop(stack)?;
-            if is_map(&map) {
-                Ok(get(&map, &key, Some(&last))?)
-            } else {
-                Err(Fault::NoCase)
-            }
+        _ => {
+            let found = read_by(stack, name, &last);
+            drop(last);
+            found
         }
-        _ => Err(Fault::NoCase),
     }
 }
 
@@ -243,7 +303,9 @@ fn of_container(alloc: Global, stack: &mut Vec<Value>, name: &str) -> Result<Val
 fn pop_all(alloc: Global, stack: &mut Vec<Value>, count: u64) -> Result<Vec<Value>, Fault> {
     let mut values = Vec::new(alloc);
     for _ in 0..count {
-        if values.push(pop(stack)?).is_err() {
+        let value = or_drop!(pop(stack); values);
+        if values.push(value).is_err() {
+            drop(values);
             return Err(Fault::NoMemory);
         }
     }
@@ -254,20 +316,22 @@ fn pop_all(alloc: Global, stack: &mut Vec<Value>, count: u64) -> Result<Vec<Valu
 fn set_of(alloc: Global, stack: &mut Vec<Value>, count: u64) -> Result<Value, Fault> {
     let mut set = Value::set(Vec::new(alloc))?;
     for _ in 0..count {
-        set.add(pop(stack)?)?;
+        let key = or_drop!(pop(stack); set);
+        or_drop!(set.add(key); set);
     }
     Ok(set)
 }
 
 fn map_of(alloc: Global, stack: &mut Vec<Value>, count: u64) -> Result<Value, Fault> {
     let mut map = Value::map(Vec::new(alloc))?;
-    let mut entries = pop_all(alloc, stack, count.saturating_mul(2))?;
+    let mut entries = or_drop!(pop_all(alloc, stack, count.saturating_mul(2)); map);
     entries.reverse();
     for _ in 0..count {
-        let key = pop(&mut entries)?;
-        let value = pop(&mut entries)?;
-        map.insert(key, value)?;
+        let key = or_drop!(pop(&mut entries); map, entries);
+        let value = or_drop!(pop(&mut entries); map, entries, key);
+        or_drop!(map.insert(key, value); map, entries);
     }
+    drop(entries);
     Ok(map)
 }
 
@@ -293,23 +357,53 @@ fn of_count(
     }
 }
 
+/// A method of bytes with two arguments.
+fn with_two(
+    alloc: Global,
+    stack: &mut Vec<Value>,
+    name: &str,
+    first: &Value,
+    last: &Value,
+) -> Result<Value, Fault> {
+    let object = pop(stack)?;
+    let found = match object.as_bytes() {
+        Some(x) => of_bytes_and_two(alloc, name, x, first, last),
+        None => Err(Fault::NoCase),
+    };
+    drop(object);
+    found
+}
+
+/// A method of bytes with arguments, of which this is the last.
+fn with_last(
+    alloc: Global,
+    stack: &mut Vec<Value>,
+    name: &str,
+    last: &Value,
+) -> Result<Value, Fault> {
+    let first = pop(stack)?;
+    let found = if name != "sub" && name != "decode" {
+        match first.as_bytes() {
+            Some(x) => of_bytes_and_one(alloc, name, x, last),
+            None => Err(Fault::NoCase),
+        }
+    } else {
+        with_two(alloc, stack, name, &first, last)
+    };
+    drop(first);
+    found
+}
+
 /// A method of bytes or of a text.
 fn of_text(alloc: Global, stack: &mut Vec<Value>, name: &str) -> Result<Value, Fault> {
     let last = pop(stack)?;
-    if last.as_str().is_some() || name == "lower" || name == "upper" {
-        return of_bytes(alloc, name, &last);
-    }
-    let first = pop(stack)?;
-    if name != "sub" && name != "decode" {
-        return match first.as_bytes() {
-            Some(x) => of_bytes_and_one(alloc, name, x, &last),
-            None => Err(Fault::NoCase),
-        };
-    }
-    match pop(stack)?.as_bytes() {
-        Some(x) => of_bytes_and_two(alloc, name, x, &first, &last),
-        None => Err(Fault::NoCase),
-    }
+    let found = if last.as_str().is_some() || name == "lower" || name == "upper" {
+        of_bytes(alloc, name, &last)
+    } else {
+        with_last(alloc, stack, name, &last)
+    };
+    drop(last);
+    found
 }
 
 /// What an operator, a method or a container makes of the last values, which it takes away.

@@ -15,7 +15,7 @@ ghost use Rattle.sp_list_context.specs.Holds.{here_told, seeing_told, unit_told}
 use crate::modules::{add_module, in_module, names_of, next};
 use sp_around::Here;
 use sp_ast::{DeclKind, DeclView, Ref, TypeKind, TypeView, UnitKind};
-use sp_base::NoMemory;
+use sp_base::{NoMemory, or_drop};
 use sp_declared_values::Known;
 use sp_names::{Declaration, Names};
 use sp_typed::Standing;
@@ -130,8 +130,9 @@ pub fn all_parameters(
     let names = names_of(known);
     let mut all = Vec::new(alloc);
     for declaration in names.units() {
-        let own = parameters_of(alloc, known, stored, declared(names, *declaration))?;
-        all.push(Row::from_vec(own))?;
+        let own = parameters_of(alloc, known, stored, declared(names, *declaration));
+        let own = or_drop!(own; all);
+        or_drop!(all.push(Row::from_vec(own)); all);
     }
     Ok(all)
 }
@@ -145,7 +146,8 @@ pub fn parameter_tables<'a>(
 {
     let mut all = Vec::new(alloc);
     for i in 0..rows.len() {
-        all.push(Parameters::new(alloc, rows[i].as_slice())?)?;
+        let table = or_drop!(Parameters::new(alloc, rows[i].as_slice()); all);
+        or_drop!(all.push(table); all);
     }
     Ok(all)
 }

@@ -6,7 +6,7 @@ ghost use Rattle.sp_list_rows.specs.Aliases.{is_alias, if_alias, aliases};
 
 use sp_around::written_in;
 use sp_ast::{DeclView, Ref, TypeKind, TypeView};
-use sp_base::NoMemory;
+use sp_base::{NoMemory, or_drop};
 use sp_names::{Declaration, Names};
 use sp_typed_units::Alias;
 use sp_types::Type;
@@ -86,7 +86,7 @@ pub fn aliases(
     let rows = names.rows();
     let mut list = Vec::new(alloc);
     for i in 0..rows.len() {
-        add_alias(&mut list, names, known, i, &rows[i])?;
+        or_drop!(add_alias(&mut list, names, known, i, &rows[i]); list);
     }
     Ok(list)
 }

@@ -5,7 +5,7 @@ ghost use Rattle.sp_around.specs.Members.{written_number};
 ghost use Rattle.sp_list_rows.specs.Bitfields.{last_number, bit_range, typed_bitfield, typed_bitfields};
 
 use sp_ast::{Members, NumberKind, RangeKind, Ref, TypeView};
-use sp_base::{NoMemory, Span, Text};
+use sp_base::{NoMemory, Span, Text, or_drop};
 use sp_names::Names;
 use sp_typed_units::{BitRange, Bitfield, Row};
 use std::alloc::Global;
@@ -53,7 +53,8 @@ fn bit_ranges(alloc: Global, ranges: Members<'_, RangeKind>) -> Result<Vec<BitRa
 {
     let mut list = Vec::new(alloc);
     for range in ranges {
-        list.push(bit_range(alloc, &range)?)?;
+        let written = or_drop!(bit_range(alloc, &range); list);
+        or_drop!(list.push(written); list);
     }
     Ok(list)
 }
@@ -86,7 +87,8 @@ pub fn bitfields(alloc: Global, names: &Names<'_>) -> Result<Vec<Bitfield>, NoMe
     let rows = names.bitfields();
     let mut list = Vec::new(alloc);
     for i in 0..rows.len() {
-        list.push(typed_bitfield(alloc, &rows[i])?)?;
+        let bitfield = or_drop!(typed_bitfield(alloc, &rows[i]); list);
+        or_drop!(list.push(bitfield); list);
     }
     Ok(list)
 }

@@ -24,7 +24,10 @@ use std::alloc::Global;
 fn is_rank(ty: &Type) -> bool
     ensures { result ≡ is_rank ty.now }
 {
-    ty.goes(&Type::word(Word::Int(Width::W64)))
+    let rank = Type::word(Word::Int(Width::W64));
+    let goes = ty.goes(&rank);
+    drop(rank);
+    goes
 }
 
 fn note_priority<F: Facts>(
@@ -92,7 +95,7 @@ fn note_hook_body<C: Constants>(
         hook.now.«module» hook.now.body)) }
 {
     let wanted: Option<Type> = None;
-    note_own_body(
+    let noted = note_own_body(
         alloc,
         typed,
         constants,
@@ -100,7 +103,9 @@ fn note_hook_body<C: Constants>(
         hook.module,
         &hook.body,
         least,
-    )
+    );
+    drop(wanted);
+    noted
 }
 
 /// Notes what is wrong with a hook: with its parameters, its priority and its body.

@@ -201,7 +201,9 @@ fn note_unit_read<F: Facts>(
 {
     let op = ManyOp::New(NewOf::Unit(head.unit), head.span);
     let receiver = Type::word(Word::Unknown);
-    note_call(facts, owner, &op, head.span, &receiver, arguments, least)?;
+    let noted = note_call(facts, owner, &op, head.span, &receiver, arguments, least);
+    drop(receiver);
+    noted?;
     note_exprs_inside(alloc, facts, owner, arguments, least)
 }
 
@@ -237,7 +239,9 @@ pub(crate) fn note_spec<F: Facts>(
             note_spec(alloc, facts, owner, inner, least)?;
             let stored = Type::word(Word::Unknown);
             let kind = kind_of(inner);
-            note_attributes(alloc, facts, owner, kind, &stored, attributes, least)
+            let noted = note_attributes(alloc, facts, owner, kind, &stored, attributes, least);
+            drop(stored);
+            noted
         }
     }
 }

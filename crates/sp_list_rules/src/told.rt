@@ -92,6 +92,8 @@ impl<'a, C: Constants> Facts for Told<'a, C> {
 
     fn constancy(&self, alloc: Global, e: &Expr) -> Result<Constancy, NoMemory> {
         let found = value_of(alloc, self.constants, e)?;
-        Ok(constancy_of(found.outcome()))
+        let constancy = constancy_of(found.outcome());
+        drop(found);
+        Ok(constancy)
     }
 }

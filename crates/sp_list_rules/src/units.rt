@@ -103,7 +103,9 @@ fn note_variable<F: Facts>(
 {
     let ty = member_type(members, variable.member)?;
     note_plain(owner, &ty, &variable.written, least);
-    note_first_value(alloc, facts, owner, &ty, &variable.value, least)
+    let noted = note_first_value(alloc, facts, owner, &ty, &variable.value, least);
+    drop(ty);
+    noted
 }
 
 #[tactic(auto, using(crate::proofs::Checked::checked_more))]

@@ -4,7 +4,7 @@ ghost use Rattle.sp_load.specs.Loads.{sources_of, trees_of};
 
 use crate::sources::Source;
 use sp_ast::Module;
-use sp_base::NoMemory;
+use sp_base::{NoMemory, or_drop};
 use sp_front::ModuleFile;
 use sp_typed_units::Typed;
 use std::alloc::Global;
@@ -32,11 +32,9 @@ pub(crate) fn parts_of(alloc: Global, files: Vec<ModuleFile>) -> Result<Parts, N
     let mut sources = Vec::new(alloc);
     let mut modules = Vec::new(alloc);
     for file in files {
-        sources.push(Source {
-            path: file.path,
-            text: file.text,
-        })?;
-        modules.push(file.module)?;
+        let ModuleFile { path, text, module } = file;
+        or_drop!(sources.push(Source { path, text }); sources, modules, module);
+        or_drop!(modules.push(module); sources, modules);
     }
     Ok(Parts { sources, modules })
 }

@@ -5,7 +5,7 @@ ghost use Rattle.sp_code.specs.Programs as told;
 ghost use Rattle.sp_program.specs.Named.{own_name, label_names, names_of_labels, range_names, names_of_ranges};
 
 use crate::names::scoped;
-use sp_base::{NoMemory, Text};
+use sp_base::{NoMemory, Text, or_drop};
 use sp_code::{Labels, Ranges};
 use sp_typed_units::{BitRange, Bitfield, Enum, Label, LabelNumber};
 use std::alloc::Global;
@@ -37,7 +37,7 @@ fn label_names(alloc: Global, owner: &str, labels: &[Label]) -> Result<Vec<(u64,
     let mut rows = Vec::with_capacity(alloc, labels.len())?;
     for label in labels {
         let name = scoped(alloc, owner, label.name.as_str())?;
-        rows.push((number_of(label.number), name))?;
+        or_drop!(rows.push((number_of(label.number), name)); rows);
     }
     Ok(rows)
 }
@@ -60,7 +60,8 @@ fn range_names(alloc: Global, ranges: &[BitRange]) -> Result<Vec<Text>, NoMemory
 {
     let mut names = Vec::with_capacity(alloc, ranges.len())?;
     for range in ranges {
-        names.push(range.name.copy()?)?;
+        let name = or_drop!(range.name.copy(); names);
+        or_drop!(names.push(name); names);
     }
     Ok(names)
 }

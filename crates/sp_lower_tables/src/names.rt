@@ -2,7 +2,7 @@
 ghost use Rattle.std.specs.Prelude.{◌≡◌, IfOk, option_copied};
 ghost use Rattle.sp_program.specs.Named.{scoped, of_elements, unit_name, member_name, member_of_unit, field_hook_name, hook_name, member_names};
 
-use sp_base::{NoMemory, Text};
+use sp_base::{NoMemory, Text, or_drop};
 use sp_typed_units::{HookOf, Member, Unit};
 use std::alloc::Global;
 
@@ -13,7 +13,7 @@ pub(crate) fn scoped(alloc: Global, owner: &str, name: &str) -> Result<Text, NoM
     let mut text = String::from_str(alloc, owner)?;
     text.push_str("::")?;
     text.push_str(name)?;
-    Ok(Text::from_string(text))
+    Text::from_string(text)
 }
 
 /// The name of the elements of what has a name.
@@ -22,7 +22,7 @@ fn of_elements(alloc: Global, name: &str) -> Result<Text, NoMemory>
 {
     let mut text = String::from_str(alloc, name)?;
     text.push_str(" foreach")?;
-    Ok(Text::from_string(text))
+    Text::from_string(text)
 }
 
 fn unit_name(unit: Option<&Unit>) -> &str
@@ -70,7 +70,9 @@ pub fn hook_name(alloc: Global, units: &[Unit], of: HookOf) -> Result<Text, NoMe
         HookOf::Field(u, m) => field_hook_name(alloc, units, u, m),
         HookOf::Elements(u, m) => {
             let name = field_hook_name(alloc, units, u, m)?;
-            of_elements(alloc, name.as_str())
+            let elements = of_elements(alloc, name.as_str());
+            drop(name);
+            elements
         }
         HookOf::Anonymous(u) => Text::new(alloc, unit_name(units.get(u as usize))),
         HookOf::AnonymousElements(u) => of_elements(alloc, unit_name(units.get(u as usize))),
@@ -83,7 +85,8 @@ pub fn member_names(alloc: Global, members: &[Member]) -> Result<Vec<Text>, NoMe
 {
     let mut names = Vec::with_capacity(alloc, members.len())?;
     for member in members {
-        names.push(member.name.copy()?)?;
+        let name = or_drop!(member.name.copy(); names);
+        or_drop!(names.push(name); names);
     }
     Ok(names)
 }

@@ -13,7 +13,7 @@ ghost use Rattle.sp_machine.specs.Bodies.{body_of, unit_of, InnermostIsNoCall, I
 
 use crate::machine::{Machine, Mode, Stop};
 use crate::values::copy_of;
-use sp_base::{Limits, NoMemory, PKind, ParseError};
+use sp_base::{Limits, NoMemory, PKind, ParseError, or_drop};
 use sp_code::{BodyCode, BodyOf, UnitCode};
 use sp_frames::{Callee, Frame, Instance, Operands};
 use sp_value::{Value, Values};
@@ -68,7 +68,7 @@ fn with_copies(values: Vec<Value>, others: &[Value]) -> Result<Vec<Value>, NoMem
         return Ok(values);
     }
     let mut all = values;
-    append_copies(&mut all, others)?;
+    or_drop!(append_copies(&mut all, others); all);
     Ok(all)
 }
 
@@ -144,12 +144,12 @@ impl Machine {
         let alloc = self.alloc();
         let parameters = Values::new(self.operands.take_top(unit.takes as usize)?);
         let instance = Instance::new(alloc, u, self.place, parameters, unit.members.len())?;
-        let inner = with_copies(self.spare.take(), unit.fresh.as_slice())?;
+        let inner = or_drop!(with_copies(self.spare.take(), unit.fresh.as_slice()); instance);
         let locals = Values::new(mem::replace(&mut self.locals, inner));
         let stack = self.spare.take_stack();
         let operands = mem::replace(&mut self.operands, stack);
         let number = self.instances.len();
-        self.instances.push(instance)?;
+        or_drop!(self.instances.push(instance); locals, operands);
         self.stack.push(Frame::Unit {
             keeps: unit.keeps,
             instance: number as u64,
@@ -279,11 +279,12 @@ impl Machine {
                 self.operands.push(value)?;
             }
             Callee::Hook { each } => {
+                drop(value);
                 if each {
                     self.operands.push(Value::bool(true))?;
                 }
             }
-            Callee::FailingHook => {}
+            Callee::FailingHook => drop(value),
         }
         self.mode = Mode::Running;
         Ok(())

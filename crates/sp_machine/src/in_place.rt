@@ -21,7 +21,7 @@ ghost use Rattle.sp_machine.specs.InPlace.{IsStored, IsSlot, IsPut, behind, with
 
 use crate::machine::Machine;
 use crate::rows::{Spot, spot_of};
-use sp_base::{Limits, NoMemory, PKind};
+use sp_base::{Limits, NoMemory, PKind, or_drop};
 use sp_code::{Instr, Program};
 use sp_lib::pop_back;
 use sp_operators::ValueFault;
@@ -69,8 +69,8 @@ fn joined(left: Value, right: &Value) -> Result<Value, NoMemory>
 {
     let mut all = left;
     match right.level() {
-        Level::Bytes(more) => all.append_bytes(more)?,
-        Level::Str(more) => all.append_str(more)?,
+        Level::Bytes(more) => or_drop!(all.append_bytes(more); all),
+        Level::Str(more) => or_drop!(all.append_str(more); all),
         _ => unreachable!(),
     }
     Ok(all)
@@ -183,7 +183,7 @@ impl Machine {
         let item = self.operands.pop();
         let mut vector = self.operands.pop();
         self.set_slot(slot, Value::void());
-        vector.push_back(item)?;
+        or_drop!(vector.push_back(item); vector);
         self.store_in(slot, vector);
         Ok(())
     }
@@ -206,15 +206,21 @@ impl Machine {
     {
         let mut changed = container;
         match spot_of(&changed, &key) {
-            Spot::Past => self.fails(PKind::Index),
+            Spot::Past => {
+                self.fails(PKind::Index);
+                drop(changed);
+                drop(key);
+                drop(x);
+            }
             Spot::Within(i) => {
                 self.set_slot(slot, Value::void());
-                changed.set_item(i, x)?;
+                or_drop!(changed.set_item(i, x); changed, key);
+                drop(key);
                 self.store_in(slot, changed);
             }
             Spot::Keyed => {
                 self.set_slot(slot, Value::void());
-                changed.insert(key, x)?;
+                or_drop!(changed.insert(key, x); changed);
                 self.store_in(slot, changed);
             }
         }
@@ -251,7 +257,7 @@ impl Machine {
         let key = self.operands.pop();
         let mut set = self.operands.pop();
         self.set_slot(slot, Value::void());
-        set.add(key)?;
+        or_drop!(set.add(key); set);
         self.store_in(slot, set);
         Ok(())
     }
@@ -270,7 +276,9 @@ impl Machine {
         let key = self.operands.pop();
         let mut keyed = self.operands.pop();
         self.set_slot(slot, Value::void());
-        keyed.delete(&key)?;
+        let deleted = keyed.delete(&key);
+        drop(key);
+        or_drop!(deleted; keyed);
         self.store_in(slot, keyed);
         Ok(())
     }
@@ -287,12 +295,13 @@ impl Machine {
     {
         let mut vector = self.operands.pop();
         if is_empty(&vector) {
+            drop(vector);
             self.fails(PKind::Index);
             return Ok(());
         }
         self.set_slot(slot, Value::void());
-        let item = last_of(&mut vector)?;
-        self.operands.push(item)?;
+        let item = or_drop!(last_of(&mut vector); vector);
+        or_drop!(self.operands.push(item); vector);
         self.store_in(slot, vector);
         Ok(())
     }
@@ -312,7 +321,9 @@ impl Machine {
         let right = self.operands.pop();
         let left = self.operands.pop();
         self.set_slot(slot, Value::void());
-        let all = joined(left, &right)?;
+        let all = joined(left, &right);
+        drop(right);
+        let all = all?;
         self.store_in(slot, all);
         Ok(())
     }

@@ -28,7 +28,7 @@ ghost use Rattle.sp_machine.specs.Inside.{is_push, changes_inside, IsPutInside, 
 use crate::in_place::Slot;
 use crate::machine::Machine;
 use crate::rows::{Spot, spot_of};
-use sp_base::{Limits, NoMemory, PKind};
+use sp_base::{Limits, NoMemory, PKind, or_drop};
 use sp_code::{Instr, Program};
 use sp_value::Value;
 use sp_window::Window;
@@ -64,7 +64,9 @@ fn take_item(container: &mut Value, key: &Value, i: usize) -> Result<(), NoMemor
         ≡ values.with_at container.old key.now x) }
 {
     let mut taken = Value::void();
-    container.swap_item(i, &mut taken)?;
+    let swapped = container.swap_item(i, &mut taken);
+    drop(taken);
+    swapped?;
     Ok(())
 }
 
@@ -76,7 +78,9 @@ fn take_value(container: &mut Value, key: &Value) -> Result<(), NoMemory>
         ≡ values.with_at container.old key.now x) }
 {
     let mut taken = Value::void();
-    container.swap_value(key, &mut taken)?;
+    let swapped = container.swap_value(key, &mut taken);
+    drop(taken);
+    swapped?;
     Ok(())
 }
 
@@ -97,7 +101,7 @@ impl Machine {
     {
         self.set_slot(slot, Value::void());
         let mut emptied = container;
-        take_item(&mut emptied, key, i)?;
+        or_drop!(take_item(&mut emptied, key, i); emptied);
         Ok(emptied)
     }
 
@@ -111,7 +115,7 @@ impl Machine {
     {
         self.set_slot(slot, Value::void());
         let mut emptied = container;
-        take_value(&mut emptied, key)?;
+        or_drop!(take_value(&mut emptied, key); emptied);
         Ok(emptied)
     }
 
@@ -133,6 +137,7 @@ impl Machine {
     {
         match spot_of(&container, key) {
             Spot::Past => {
+                drop(container);
                 self.fails(PKind::Index);
                 Ok(None)
             }

@@ -2,10 +2,11 @@
 ghost use Rattle.std.specs.Prelude.{◌≡◌, ◌∷◌, [], Ok, Err, false, IfOk, IsTrue, MatchResult};
 ghost use Rattle.sp_words.specs.Methods.{arity, changes};
 ghost use Rattle.sp_words.specs.declared.methods.Method.TheVariants as of;
+ghost use Rattle.sp_value.specs.Val.{str};
 ghost use Rattle.sp_methods.specs.Methods.{suits, pair_of_bytes};
 ghost use Rattle.sp_machine.specs.Methods.{TellsOne};
 
-use sp_base::{ByteList, NoMemory};
+use sp_base::{ByteList, NoMemory, Text};
 use sp_lib as library;
 use sp_numbers::Width;
 use sp_operators::ValueFault;
@@ -168,6 +169,13 @@ fn upper(alloc: Global, x: &Value) -> Result<Value, ValueFault>
     }
 }
 
+/// A text as a value.
+fn value_of(text: Text) -> Result<Value, NoMemory>
+    ensures { IfOk result (λ value. value ≡ str text) }
+{
+    Value::str(text.into_string()?)
+}
+
 fn decode(alloc: Global, strategy: &Value, charset: &Value, x: &Value) -> Result<Value, ValueFault>
     requires { IsTrue (suits of.Decode (strategy.now ∷ charset.now ∷ x.now ∷ [])) }
     ensures { TellsOne of.Decode (strategy.now ∷ charset.now ∷ x.now ∷ []) result }
@@ -175,7 +183,7 @@ fn decode(alloc: Global, strategy: &Value, charset: &Value, x: &Value) -> Result
     match (x.level(), charset.level(), strategy.level()) {
         (Level::Bytes(bytes), Level::Enum(_, set), Level::Enum(_, way)) => {
             match library::decode(alloc, bytes, set, way) {
-                Ok(text) => made(Value::str(text.into_string())),
+                Ok(text) => made(value_of(text)),
                 Err(fault) => Err(fault),
             }
         }

@@ -11,7 +11,7 @@ ghost use Rattle.sp_machine.specs.Bodies.{body_of};
 
 use crate::calls::callee_where;
 use crate::machine::Machine;
-use sp_base::{Limits, NoMemory, Text};
+use sp_base::{Limits, NoMemory, Text, or_drop};
 use sp_code::{BodyCode, BodyOf, Program};
 use sp_events::{Node, Tree, Trees, What};
 use sp_frames::Instance;
@@ -40,14 +40,12 @@ fn told_count(of: &BodyOf) -> u32
 }
 
 /// A number as the only value that is told.
-fn number_alone(alloc: Global, n: u64) -> Result<Trees, NoMemory>
-    ensures { IfOk result (λ trees. trees ≡ uint n ∷ []) }
+fn number_alone(n: u64) -> Trees
+    ensures { result ≡ uint n ∷ [] }
 {
-    let mut trees = Vec::with_capacity(alloc, 1)?;
-    trees.push(Tree {
+    Trees::alone(Tree {
         node: Node::Uint(n),
-    })?;
-    Ok(Trees::new(trees))
+    })
 }
 
 /// Values as they are told. A number alone, which most fields with a hook store, is looked at first.
@@ -62,7 +60,7 @@ fn trees_of(
 {
     if values.len() == 1 {
         if let Some(n) = values[0].as_uint() {
-            return number_alone(alloc, n);
+            return Ok(number_alone(n));
         }
     }
     value_trees(alloc, p, instances, values)
@@ -85,8 +83,9 @@ impl Machine {
     {
         let alloc = self.alloc();
         let values = self.operands.take_top(n as usize)?;
-        let trees = value_trees(alloc, p, self.instances.as_slice(), values.as_slice())?;
-        told.push(What::Print(trees))?;
+        let trees = value_trees(alloc, p, self.instances.as_slice(), values.as_slice());
+        drop(values);
+        told.push(What::Print(trees?))?;
         self.pc += 1;
         Ok(())
     }
@@ -101,7 +100,7 @@ impl Machine {
         let name = name(alloc, &body.of)?;
         let values = self.operands.on_top(body.takes as usize);
         let count = (told_count(&body.of) as usize).min(values.len());
-        let args = trees_of(alloc, p, self.instances.as_slice(), &values[..count])?;
+        let args = or_drop!(trees_of(alloc, p, self.instances.as_slice(), &values[..count]); name);
         Ok(What::Hook { name, args })
     }
 

@@ -10,7 +10,7 @@ ghost use Rattle.sp_names.specs.Names.{names_of, path_names};
 use crate::names::Names;
 use crate::sort::{Meaning, Scope};
 use sp_ast::{Members, NameKind, PathKind, Ref, TypeKind, TypeView};
-use sp_base::NoMemory;
+use sp_base::{NoMemory, or_drop};
 use sp_numbers::Width;
 use sp_types::{Maker, Type, Word};
 use sp_words::IntWord;
@@ -102,6 +102,7 @@ fn set_of(alloc: Global, part: Type) -> Result<Type, NoMemory>
     if part.is_key() {
         made_of_one(alloc, Maker::Set, part)
     } else {
+        drop(part);
         Ok(Type::word(Word::Unknown))
     }
 }
@@ -112,6 +113,8 @@ fn map_of(alloc: Global, key: Type, value: Type) -> Result<Type, NoMemory>
     if key.is_key() && value.is_plain() {
         made_of_two(alloc, Maker::Map, key, value)
     } else {
+        drop(key);
+        drop(value);
         Ok(Type::word(Word::Unknown))
     }
 }
@@ -161,7 +164,8 @@ impl<'a> Names<'a> {
             }
             TypeView::Map { key, value } => {
                 let key = self.type_in(alloc, known, owner, &key)?;
-                map_of(alloc, key, self.type_in(alloc, known, owner, &value)?)
+                let value = or_drop!(self.type_in(alloc, known, owner, &value); key);
+                map_of(alloc, key, value)
             }
             TypeView::Bitfield { .. } => {
                 Ok(bitfield_type(self.bitfield_number(owner, tree.span().from)))

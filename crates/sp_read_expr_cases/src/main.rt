@@ -6,7 +6,7 @@
 
 use sp_ast::{Level, Parts, TreeRef};
 use sp_base::Span;
-use sp_lex::{ReadFault, lex};
+use sp_lex::{ReadFault, Tokens, lex};
 use sp_read_expr::{read_expr, read_stmt, read_type};
 use std::alloc::{AllocError, Global};
 use std::io;
@@ -77,23 +77,41 @@ fn told(alloc: Global, text: &str, tree: &TreeRef<'_>) -> Result<String, ReadFau
     said.map_err(|_| ReadFault::NoMemory)
 }
 
+/// The parts of the tree of the tokens of the text.
+fn read_tokens(
+    alloc: Global,
+    what: &str,
+    text: &str,
+    tokens: &Tokens,
+) -> Result<String, ReadFault> {
+    match what {
+        "type" => {
+            let (tree, _) = read_type(alloc, tokens, 0)?;
+            let said = told(alloc, text, &tree.lend());
+            drop(tree);
+            said
+        }
+        "stmt" => {
+            let (tree, _) = read_stmt(alloc, tokens, 0)?;
+            let said = told(alloc, text, &tree.lend());
+            drop(tree);
+            said
+        }
+        _ => {
+            let (tree, _) = read_expr(alloc, tokens, 0)?;
+            let said = told(alloc, text, &tree.lend());
+            drop(tree);
+            said
+        }
+    }
+}
+
 /// The parts of the tree of the text.
 fn read(alloc: Global, what: &str, text: &str) -> Result<String, ReadFault> {
     let tokens = lex(alloc, text.as_bytes())?;
-    match what {
-        "type" => {
-            let (tree, _) = read_type(alloc, &tokens, 0)?;
-            told(alloc, text, &tree.lend())
-        }
-        "stmt" => {
-            let (tree, _) = read_stmt(alloc, &tokens, 0)?;
-            told(alloc, text, &tree.lend())
-        }
-        _ => {
-            let (tree, _) = read_expr(alloc, &tokens, 0)?;
-            told(alloc, text, &tree.lend())
-        }
-    }
+    let said = read_tokens(alloc, what, text, &tokens);
+    drop(tokens);
+    said
 }
 
 /// The answer in the form of the lines.

@@ -1,6 +1,7 @@
 // Reads the text of a regular expression byte by byte.
 ghost use Rattle.std.specs.Prelude.{◌≡◌, [], IfOk};
 ghost use Rattle.sp_regex.specs.Levels.{opened};
+ghost use Rattle.sp_regex.specs.Trees.{either};
 ghost use Rattle.sp_regex.specs.Escapes.{escape_step};
 ghost use Rattle.sp_regex.specs.Bounds.{bounds_step};
 ghost use Rattle.sp_regex.specs.Class.{class_step};
@@ -92,8 +93,26 @@ impl Reader {
     }
 
     /// The regular expression, if the bytes so far are the text of one.
-    pub fn finish(mut self) -> Result<Option<Regex>, NoMemory>
+    pub fn finish(self) -> Result<Option<Regex>, NoMemory>
         ensures { IfOk result (λ r. r ≡ finished self) }
+    {
+        let mut reader = self;
+        let finished = reader.finished();
+        drop(reader);
+        finished
+    }
+
+    /// The alternatives of the level at hand.
+    fn finished_level(&mut self) -> Result<Option<Regex>, NoMemory>
+        ensures { IfOk result (λ r. r ≡ Some (either self.old.level.earlier self.old.level.pieces)) }
+    {
+        let level = std::mem::replace(&mut self.level, Level::new(self.alloc));
+        Ok(Some(level.finish()?))
+    }
+
+    /// The regular expression, if the bytes so far are the text of one, which is taken out.
+    fn finished(&mut self) -> Result<Option<Regex>, NoMemory>
+        ensures { IfOk result (λ r. r ≡ finished self.old) }
     {
         if !self.outer.is_empty() {
             return Ok(None);
@@ -101,10 +120,13 @@ impl Reader {
         match std::mem::replace(&mut self.mode, Mode::Start) {
             Mode::Atom(atom) => {
                 self.level.push(atom)?;
-                Ok(Some(self.level.finish()?))
+                self.finished_level()
             }
-            Mode::Piece => Ok(Some(self.level.finish()?)),
-            _unfinished => Ok(None),
+            Mode::Piece => self.finished_level(),
+            unfinished => {
+                drop(unfinished);
+                Ok(None)
+            }
         }
     }
 

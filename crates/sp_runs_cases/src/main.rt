@@ -6,9 +6,9 @@
 // The text is in the form of `stored_cases`.
 #![tactic(auto)]
 
-use sp_base::{Place, place_of};
+use sp_base::{Place, or_drop, place_of};
 use sp_grammar::{Action, Start, action_of};
-use sp_lex::{ReadFault, Token, lex};
+use sp_lex::{ReadFault, Token, Tokens, lex};
 use sp_parser::ActionAt;
 use sp_runs::read_from;
 use std::alloc::{AllocError, Global};
@@ -44,22 +44,38 @@ fn byte_at(source: &[u8], tokens: &[Token], at: u32) -> u32 {
     }
 }
 
-/// What is read of the text from a token on: the place behind it.
-fn read(alloc: Global, source: &[u8], start: Start, at: u32) -> Result<u32, ReadFault> {
-    let tokens = lex(alloc, source)?;
+/// What is read of the tokens of the text from one on: the place behind it.
+fn read_tokens(
+    alloc: Global,
+    source: &[u8],
+    tokens: &Tokens,
+    start: Start,
+    at: u32,
+) -> Result<u32, ReadFault> {
     if at as usize > tokens.len() {
         return Ok(0);
     }
     let mut actions: Vec<ActionAt> = Vec::new(alloc);
-    let to = read_from(alloc, &tokens, start, at, &mut actions)?;
-    Ok(byte_at(source, tokens.as_slice(), to))
+    let to = read_from(alloc, tokens, start, at, &mut actions);
+    drop(actions);
+    Ok(byte_at(source, tokens.as_slice(), to?))
+}
+
+/// What is read of the text from a token on: the place behind it.
+fn read(alloc: Global, source: &[u8], start: Start, at: u32) -> Result<u32, ReadFault> {
+    let tokens = lex(alloc, source)?;
+    let to = read_tokens(alloc, source, &tokens, start, at);
+    drop(tokens);
+    to
 }
 
 /// The actions of the text's derivation.
 fn passed(alloc: Global, source: &[u8], start: Start) -> Result<Vec<ActionAt>, ReadFault> {
     let tokens = lex(alloc, source)?;
     let mut actions: Vec<ActionAt> = Vec::new(alloc);
-    read_from(alloc, &tokens, start, 0, &mut actions)?;
+    let read = read_from(alloc, &tokens, start, 0, &mut actions);
+    drop(tokens);
+    or_drop!(read; actions);
     Ok(actions)
 }
 

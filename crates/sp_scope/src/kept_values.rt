@@ -9,7 +9,7 @@ ghost use Rattle.sp_list_rules.specs.Told.{constant_outcome};
 ghost use Rattle.sp_scope.specs.Kept.{if_kept, kept};
 
 use sp_ast::DeclView;
-use sp_base::NoMemory;
+use sp_base::{NoMemory, or_drop};
 use sp_constants::{Constants, Measured, Outcome};
 use sp_declared_values::Known;
 use sp_names::Declaration;
@@ -64,7 +64,7 @@ pub(crate) fn kept(alloc: Global, known: &Known<'_>) -> Result<Vec<Measured>, No
     let mut all = Vec::new(alloc);
     let mut number: u32 = 0;
     for row in rows {
-        number = add_constant(known, &mut all, number, row)?;
+        number = or_drop!(add_constant(known, &mut all, number, row); all);
     }
     Ok(all)
 }

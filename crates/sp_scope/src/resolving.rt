@@ -16,7 +16,7 @@ use crate::kept_values::kept;
 use crate::scopes::Scopes;
 use sp_around::Tables;
 use sp_ast::Module;
-use sp_base::NoMemory;
+use sp_base::{NoMemory, or_drop};
 use sp_declared_values::{Known, ValueRow, answers};
 use sp_hook_rows::{HookRow, Site, all_sites, hook_rows, note_hooks};
 use sp_list_context::{all_parameters, homes, parameter_tables, seeing_parameters};
@@ -98,7 +98,7 @@ fn typed_at(
 {
     let typed = typed_list(alloc, known, stored, sites, rows)?;
     let mut least = None;
-    note_all(alloc, known.row.tables(), sites, rows, &typed, &mut least)?;
+    or_drop!(note_all(alloc, known.row.tables(), sites, rows, &typed, &mut least); typed);
     Ok((typed, least))
 }
 

@@ -76,7 +76,9 @@ fn load_from<M: Modules>(
 {
     let list = load(alloc, modules, wanted.files, directories)?;
     let most = wanted.files.len();
-    Ok(print_first(alloc, wanted.print, most, &list.modules)?)
+    let text = print_first(alloc, wanted.print, most, &list.modules);
+    drop(list);
+    Ok(text?)
 }
 
 /// Loads the list of modules that words want, and answers what is printed of it.
@@ -96,5 +98,7 @@ pub fn load_and_print<M: Modules>(
         (UnreadCause (M.faults modules.old) (M.faults modules.new)) }
 {
     let directories = directories_of(alloc, wanted.directories)?;
-    load_from(alloc, wanted, &directories, modules)
+    let text = load_from(alloc, wanted, &directories, modules);
+    drop(directories);
+    text
 }

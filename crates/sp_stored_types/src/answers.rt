@@ -47,14 +47,16 @@ fn inside_try<C: Context, V: Constants>(
         (C.around context.now)) (V.values constants.now) question.now.source) }
 {
     let unit = Type::word(Word::Unit(question.unit));
-    source_try(
+    let found = source_try(
         alloc,
         rows,
         known,
         &WithSelf::new(context, &unit, Standing::Meant),
         constants,
         &question.source,
-    )
+    );
+    drop(unit);
+    found
 }
 
 /// A try in the context of the unit.

@@ -15,7 +15,7 @@ use crate::rows::MemberRows;
 use crate::sources::{Question, Source};
 use sp_around::Tables;
 use sp_ast::{BaseKind, BaseView, ExprKind, FieldKind, Ref};
-use sp_base::{NoMemory, Span};
+use sp_base::{NoMemory, Span, or_drop};
 use sp_typed::Standing;
 use sp_typed_units::EndlessConversion;
 use sp_types::{Type, Word};
@@ -78,7 +78,9 @@ fn base_place<C: Context, V: Constants>(
             None => {
                 let read = read_type(alloc, context, constants, &base, &counts)?;
                 let value = conversion(&attributes);
-                Ok(conversion_place(alloc, rows, known, context, &read, &value)?)
+                let place = conversion_place(alloc, rows, known, context, &read, &value);
+                drop(read);
+                Ok(place?)
             }
         },
         _ => Ok(None),
@@ -99,14 +101,24 @@ fn field_place<C: Context, V: Constants>(
         (told known.now) (C.around context.now) (V.values constants.now) tree.now) }
 {
     let view = tree.view();
-    match base_place(alloc, rows, known, context, constants, &view.base)? {
-        Some(span) => Ok(Some(span)),
-        None => {
-            let read = read_type(alloc, context, constants, &view.base, &view.counts)?;
-            let value = conversion(&view.attributes);
-            Ok(conversion_place(alloc, rows, known, context, &read, &value)?)
-        }
+    let place = or_drop!(
+        base_place(alloc, rows, known, context, constants, &view.base);
+        view
+    );
+    if place.is_some() {
+        drop(view);
+        return Ok(place);
     }
+    let read = or_drop!(
+        read_type(alloc, context, constants, &view.base, &view.counts);
+        view
+    );
+    let value = conversion(&view.attributes);
+    drop(view);
+    let place = conversion_place(alloc, rows, known, context, &read, &value);
+    drop(read);
+    drop(value);
+    Ok(place?)
 }
 
 fn source_place<C: Context, V: Constants>(
@@ -142,14 +154,16 @@ fn inside_place<C: Context, V: Constants>(
         (C.around context.now)) (V.values constants.now) question.now.source) }
 {
     let unit = Type::word(Word::Unit(question.unit));
-    source_place(
+    let place = source_place(
         alloc,
         rows,
         known,
         &WithSelf::new(context, &unit, Standing::Meant),
         constants,
         &question.source,
-    )
+    );
+    drop(unit);
+    place
 }
 
 /// A place in the context of the unit.

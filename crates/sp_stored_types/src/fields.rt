@@ -15,13 +15,13 @@ use crate::opens::open_in;
 use crate::rows::MemberRows;
 use crate::sources::Source;
 use sp_ast::{AttributeKind, BaseKind, BaseView, CountKind, ExprKind, FieldKind, Members, Ref};
-use sp_base::NoMemory;
+use sp_base::{NoMemory, or_drop};
 use sp_operands::seen;
 use sp_solver::Attempt;
 use sp_typed::{Expr, Standing};
 use sp_types::{Type, Word};
 use sp_typing::{Context, typed};
-use sp_typing_units::{Constants, WithCurrent, counted_read};
+use sp_typing_units::{Constants, Read, WithCurrent, counted_read};
 use sp_words::AttributeName;
 use std::alloc::Global;
 
@@ -92,7 +92,9 @@ pub(crate) fn conversion_open<C: Context>(
     match value {
         Some(tree) => {
             let e = typed_with(alloc, context, read, tree)?;
-            Ok(open_in(rows, known, &e)?)
+            let found = open_in(rows, known, &e);
+            drop(e);
+            Ok(found?)
         }
         None => Ok(None),
     }
@@ -110,7 +112,9 @@ pub(crate) fn read_type<C: Context, V: Constants>(
         base.now (trees counts.now)).ty) }
 {
     let read = counted_read(alloc, context, constants, base, counts)?;
-    Ok(read.ty)
+    let Read { spec, ty, kind: _ } = read;
+    drop(spec);
+    Ok(ty)
 }
 
 /// A member without a type on which the conversions of groups hang, from the inside.
@@ -137,7 +141,9 @@ fn base_open<C: Context, V: Constants>(
             None => {
                 let read = read_type(alloc, context, constants, &base, &counts)?;
                 let value = conversion(&attributes);
-                Ok(conversion_open(alloc, rows, known, context, &read, &value)?)
+                let place = conversion_open(alloc, rows, known, context, &read, &value);
+                drop(read);
+                Ok(place?)
             }
         },
         _ => Ok(None),
@@ -160,10 +166,20 @@ fn converted_try<C: Context>(
 {
     match value {
         Some(tree) => {
-            let e = typed_with(alloc, context, &read, tree)?;
-            match open_in(rows, known, &e)? {
-                Some(place) => Ok(Attempt::Waits(place)),
-                None => Ok(Attempt::Done(seen(&e)?)),
+            let e = typed_with(alloc, context, &read, tree);
+            drop(read);
+            let e = e?;
+            let open = or_drop!(open_in(rows, known, &e); e);
+            match open {
+                Some(place) => {
+                    drop(e);
+                    Ok(Attempt::Waits(place))
+                }
+                None => {
+                    let ty = seen(&e);
+                    drop(e);
+                    Ok(Attempt::Done(ty?))
+                }
             }
         }
         None => Ok(Attempt::Done(read)),

@@ -82,7 +82,9 @@ fn open_node(
         (told known.now) op.now (seen a.now)) }
 {
     let of = seen(a)?;
-    Ok(open_member(rows, known, op, &of))
+    let found = open_member(rows, known, op, &of);
+    drop(of);
+    Ok(found)
 }
 
 #[cycle(open)]

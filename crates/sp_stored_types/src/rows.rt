@@ -11,7 +11,7 @@ ghost use Rattle.sp_stored_types.specs.inside.Tables.{AreRows};
 
 use crate::names::number;
 use crate::sources::{Question, Source};
-use crate::tables::source_table;
+use crate::tables::{SourceTable, source_table};
 use sp_ast::{DeclKind, DeclView, Ref, TypeKind, TypeView, UnitKind};
 use sp_base::NoMemory;
 use sp_names::{Declaration, Names};
@@ -81,7 +81,9 @@ fn add_declared<'a>(
     match unit_in(&declaration.tree) {
         Some(tree) => {
             let table = source_table(alloc, &tree)?;
-            add_asked(unit, table.sources, all)
+            let SourceTable { names, sources } = table;
+            drop(names);
+            add_asked(unit, sources, all)
         }
         None => Ok(()),
     }

@@ -5,7 +5,7 @@ ghost use Rattle.sp_typed.specs.Heights.{heights, most_levels};
 
 use crate::heads::{Leaf, Many, One, Three, Two};
 use crate::words::{LeafOp, OneOp};
-use sp_base::{NoMemory, Span};
+use sp_base::{NoMemory, Span, or_drop};
 use sp_types::{Type, Word};
 use std::alloc::Global;
 use std::marker::Model;
@@ -130,9 +130,10 @@ impl Expr {
     pub fn one(alloc: Global, head: One, a: Expr) -> Result<Expr, NoMemory>
         ensures { IfOk result (λ e. e ≡ one head a) }
     {
-        let levels = above(a.levels())?;
+        let levels = or_drop!(above(a.levels()); head, a);
+        let a = or_drop!(Box::new(alloc, a); head);
         Ok(Expr {
-            node: ExprNode::One(head, Box::new(alloc, a)?),
+            node: ExprNode::One(head, a),
             levels,
         })
     }
@@ -141,9 +142,11 @@ impl Expr {
     pub fn two(alloc: Global, head: Two, a: Expr, b: Expr) -> Result<Expr, NoMemory>
         ensures { IfOk result (λ e. e ≡ two head a b) }
     {
-        let levels = above(higher(a.levels(), b.levels()))?;
+        let levels = or_drop!(above(higher(a.levels(), b.levels())); head, a, b);
+        let a = or_drop!(Box::new(alloc, a); head, b);
+        let b = or_drop!(Box::new(alloc, b); head, a);
         Ok(Expr {
-            node: ExprNode::Two(head, Box::new(alloc, a)?, Box::new(alloc, b)?),
+            node: ExprNode::Two(head, a, b),
             levels,
         })
     }
@@ -152,14 +155,13 @@ impl Expr {
     pub fn three(alloc: Global, head: Three, a: Expr, b: Expr, c: Expr) -> Result<Expr, NoMemory>
         ensures { IfOk result (λ e. e ≡ three head a b c) }
     {
-        let levels = above(higher(a.levels(), higher(b.levels(), c.levels())))?;
+        let inside = higher(a.levels(), higher(b.levels(), c.levels()));
+        let levels = or_drop!(above(inside); head, a, b, c);
+        let a = or_drop!(Box::new(alloc, a); head, b, c);
+        let b = or_drop!(Box::new(alloc, b); head, a, c);
+        let c = or_drop!(Box::new(alloc, c); head, a, b);
         Ok(Expr {
-            node: ExprNode::Three(
-                head,
-                Box::new(alloc, a)?,
-                Box::new(alloc, b)?,
-                Box::new(alloc, c)?,
-            ),
+            node: ExprNode::Three(head, a, b, c),
             levels,
         })
     }
@@ -168,7 +170,7 @@ impl Expr {
     pub fn many(head: Many, parts: Vec<Expr>) -> Result<Expr, NoMemory>
         ensures { IfOk result (λ e. e ≡ many head (exprs parts.items)) }
     {
-        let levels = above(highest(&parts))?;
+        let levels = or_drop!(above(highest(&parts)); head, parts);
         Ok(Expr {
             node: ExprNode::Many(head, parts),
             levels,

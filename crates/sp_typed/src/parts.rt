@@ -1,5 +1,5 @@
 // So many parts out of a vector.
-ghost use Rattle.std.specs.Prelude.{◌≡◌, ◌≢◌, [], ◌∷◌, length, IfSome, IfNone};
+ghost use Rattle.std.specs.Prelude.{◌≡◌, ◌≢◌, ◌⊎◌, [], ◌∷◌, length, Some, None, IfSome, IfNone};
 
 use crate::exprs::Expr;
 
@@ -14,18 +14,29 @@ pub fn one_of(mut parts: Vec<Expr>) -> Option<Expr>
     parts.pop()
 }
 
+/// Both expressions, where both are there.
+fn both(a: Option<Expr>, b: Option<Expr>) -> Option<(Expr, Expr)>
+    ensures some { IfSome result (λ p. (a ≡ Some p.0) × (b ≡ Some p.1)) }
+    ensures none { IfNone result ((a ≡ None) ⊎ (b ≡ None)) }
+{
+    let Some(a) = a else {
+        drop(b);
+        return None;
+    };
+    let Some(b) = b else {
+        drop(a);
+        return None;
+    };
+    Some((a, b))
+}
+
 /// The two expressions, where there are two.
 pub fn two_of(mut parts: Vec<Expr>) -> Option<(Expr, Expr)>
     ensures some { IfSome result (λ p. parts.items ≡ p.0 ∷ (p.1 ∷ [])) }
     ensures none { IfNone result (length parts.items ≢ 2) }
 {
-    if parts.len() != 2 {
-        return None;
-    }
-    match (parts.pop(), parts.pop()) {
-        (Some(b), Some(a)) => Some((a, b)),
-        _ => None,
-    }
+    let last = parts.pop();
+    both(one_of(parts), last)
 }
 
 /// The three expressions, where there are three.
@@ -33,11 +44,13 @@ pub fn three_of(mut parts: Vec<Expr>) -> Option<(Expr, Expr, Expr)>
     ensures some { IfSome result (λ p. parts.items ≡ p.0 ∷ (p.1 ∷ (p.2 ∷ []))) }
     ensures none { IfNone result (length parts.items ≢ 3) }
 {
-    if parts.len() != 3 {
-        return None;
-    }
-    match (parts.pop(), parts.pop(), parts.pop()) {
-        (Some(c), Some(b), Some(a)) => Some((a, b, c)),
-        _ => None,
+    let last = parts.pop();
+    match (two_of(parts), last) {
+        (Some((a, b)), Some(c)) => Some((a, b, c)),
+        (found, last) => {
+            drop(found);
+            drop(last);
+            None
+        }
     }
 }

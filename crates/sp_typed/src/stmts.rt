@@ -5,7 +5,7 @@ ghost use Rattle.sp_typed.specs.Heights.{stmts_height, branches_height, cases_he
 
 use crate::exprs::{Expr, above, higher, highest};
 use crate::stmt_words::{Assign, Bare, For, Valued};
-use sp_base::{NoMemory, Span};
+use sp_base::{NoMemory, Span, or_drop};
 use std::marker::Model;
 
 /// A typed statement, at most [`MOST_LEVELS`](crate::MOST_LEVELS) levels high, its expressions among them. Clauses see the
@@ -130,7 +130,7 @@ impl Stmt {
     pub fn new(node: StmtNode) -> Result<Stmt, NoMemory>
         ensures { IfOk result (λ s. s ≡ stmt_of node) }
     {
-        let levels = Stmt::node_levels(&node)?;
+        let levels = or_drop!(Stmt::node_levels(&node); node);
         Ok(Stmt { node, levels })
     }
 

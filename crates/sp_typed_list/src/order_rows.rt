@@ -5,7 +5,7 @@ ghost use Rattle.sp_typed_list.specs.Rows.{order_of, declared_order, orders};
 
 use sp_around::Here;
 use sp_ast::{DeclKind, DeclView, PathKind, Ref};
-use sp_base::NoMemory;
+use sp_base::{NoMemory, or_drop};
 use sp_declared_values::Known;
 use sp_typed_units::OrderProperty;
 use sp_types::Type;
@@ -25,7 +25,7 @@ fn order_of<C: Context, V: Constants>(
         «module» path.now) }
 {
     let value = context.path(alloc, path.span(), path)?;
-    let number = constants.number(alloc, &value)?;
+    let number = or_drop!(constants.number(alloc, &value); value);
     Ok(OrderProperty {
         module,
         value,
@@ -73,7 +73,10 @@ pub(crate) fn orders(
     let rows = known.row.tables().names().rows();
     let mut all = Vec::new(alloc);
     for row in rows {
-        add_order(alloc, known, stored, &mut all, row.module, &row.tree)?;
+        or_drop!(
+            add_order(alloc, known, stored, &mut all, row.module, &row.tree);
+            all
+        );
     }
     Ok(all)
 }

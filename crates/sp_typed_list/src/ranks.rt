@@ -22,6 +22,8 @@ impl<'a> Ranks for SignedNumbers<'a> {
 
     fn rank(&self, alloc: Global, e: &Expr) -> Result<Option<i64>, NoMemory> {
         let found = value_of(alloc, self.known, e)?;
-        Ok(found.outcome().signed())
+        let rank = found.outcome().signed();
+        drop(found);
+        Ok(rank)
     }
 }

@@ -24,7 +24,7 @@ use crate::function_rows::functions;
 use crate::order_rows::orders;
 use crate::ranks::SignedNumbers;
 use sp_around::Here;
-use sp_base::NoMemory;
+use sp_base::{NoMemory, or_drop};
 use sp_declared_values::Known;
 use sp_hook_order::HookTable;
 use sp_hook_rows::{HookRow, Site, keys_of};
@@ -255,16 +255,47 @@ pub fn typed_list(
     let tables = known.row.tables();
     let names = tables.names();
     let hooks = hooks_in(alloc, known, stored, sites, rows)?;
-    let units = units_in(alloc, known, stored, sites, rows, &hooks)?;
+    let units = or_drop!(
+        units_in(alloc, known, stored, sites, rows, &hooks);
+        hooks
+    );
+    let functions = or_drop!(
+        functions(alloc, known, stored);
+        hooks, units
+    );
+    let constants = or_drop!(
+        known.constants(alloc);
+        hooks, units, functions
+    );
+    let enums = or_drop!(
+        known.enums(alloc);
+        hooks, units, functions, constants
+    );
+    let bitfields = or_drop!(
+        bitfields(alloc, names);
+        hooks, units, functions, constants, enums
+    );
+    let aliases = or_drop!(
+        aliases(alloc, names, tables.known());
+        hooks, units, functions, constants, enums, bitfields
+    );
+    let conversions = or_drop!(
+        conversions_in(alloc, known, stored);
+        hooks, units, functions, constants, enums, bitfields, aliases
+    );
+    let orders = or_drop!(
+        orders(alloc, known, stored);
+        hooks, units, functions, constants, enums, bitfields, aliases, conversions
+    );
     Ok(Typed {
         units: Row::from_vec(units),
-        functions: Row::from_vec(functions(alloc, known, stored)?),
+        functions: Row::from_vec(functions),
         hooks: Row::from_vec(hooks),
-        constants: Row::from_vec(known.constants(alloc)?),
-        enums: Row::from_vec(known.enums(alloc)?),
-        bitfields: Row::from_vec(bitfields(alloc, names)?),
-        aliases: Row::from_vec(aliases(alloc, names, tables.known())?),
-        conversions: Row::from_vec(conversions_in(alloc, known, stored)?),
-        orders: Row::from_vec(orders(alloc, known, stored)?),
+        constants: Row::from_vec(constants),
+        enums: Row::from_vec(enums),
+        bitfields: Row::from_vec(bitfields),
+        aliases: Row::from_vec(aliases),
+        conversions: Row::from_vec(conversions),
+        orders: Row::from_vec(orders),
     })
 }

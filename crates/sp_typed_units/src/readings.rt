@@ -1,6 +1,6 @@
 // How a field, an element or a group is read.
 use crate::attributes::Attribute;
-use sp_base::{ByteList, NoMemory, Span, Text};
+use sp_base::{ByteList, NoMemory, Span, Text, or_drop};
 use sp_typed::{Expr, MOST_LEVELS, Written};
 use sp_types::Type;
 use std::marker::Model;
@@ -120,7 +120,7 @@ impl Spec {
     pub fn new(node: SpecNode) -> Result<Spec, NoMemory>
         ensures { IfOk result (λ s. s ≡ spec_of node) }
     {
-        let levels = Spec::node_levels(&node)?;
+        let levels = or_drop!(Spec::node_levels(&node); node);
         Ok(Spec { node, levels })
     }
 

@@ -17,7 +17,7 @@ impl<T> Model for Row<T> {
     ghost view = { λ r. r.items.items };
 }
 
-impl<T: Drop> Row<T> {
+impl<T> Row<T> {
     /// None. Takes no memory.
     pub fn new(alloc: Global) -> Row<T>
         ensures { result ≡ [] }
@@ -34,6 +34,14 @@ impl<T: Drop> Row<T> {
         Row { items }
     }
 
+    pub fn as_slice(&self) -> &[T]
+        ensures { result.now ≡ self.now }
+    {
+        self.items.as_slice()
+    }
+}
+
+impl<T: Drop> Row<T> {
     /// One more at the end, or no change.
     pub fn push(&mut self, item: T) -> Result<(), NoMemory>
         ensures ok { OnOk result (self.new ≡ self.old ++ item ∷ []) }
@@ -41,11 +49,5 @@ impl<T: Drop> Row<T> {
     {
         self.items.push(item)?;
         Ok(())
-    }
-
-    pub fn as_slice(&self) -> &[T]
-        ensures { result.now ≡ self.now }
-    {
-        self.items.as_slice()
     }
 }

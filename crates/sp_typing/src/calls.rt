@@ -14,7 +14,7 @@ use crate::context::{Callable, Context};
 use crate::nodes::{many_at, one_at, to_target, two_at};
 use crate::rows::{add_each, all_seen};
 use sp_ast::{NameKind, Ref};
-use sp_base::{NoMemory, Span};
+use sp_base::{NoMemory, Span, or_drop};
 use sp_operands::{first_type, seen};
 use sp_typed::{Expr, ExprLevel, LeafOp, ManyOp, NewOf, OneOp, TwoOp};
 use sp_types::{Level, Maker, Type, Word};
@@ -49,10 +49,11 @@ fn item_at(
 ) -> Result<Expr, NoMemory>
     ensures { IfOk result (λ e. e ≡ item_at span (tys parts.now) number a i) }
 {
-    if let Some(n) = number
-        && let Some(ty) = part_at(parts, n)?
-    {
-        return two_at(alloc, span, ty, TwoOp::Item(n), a, i);
+    if let Some(n) = number {
+        let part = or_drop!(part_at(parts, n); a, i);
+        if let Some(ty) = part {
+            return two_at(alloc, span, ty, TwoOp::Item(n), a, i);
+        }
     }
     two_at(alloc, span, Type::word(Word::Unknown), TwoOp::Index, a, i)
 }
@@ -61,7 +62,8 @@ fn item_at(
 fn element_at(alloc: Global, span: Span, parts: &[Type], a: Expr, i: Expr) -> Result<Expr, NoMemory>
     ensures { IfOk result (λ e. e ≡ two_at span (first_type (tys parts.now)) Index a i) }
 {
-    two_at(alloc, span, first_type(parts)?, TwoOp::Index, a, i)
+    let ty = or_drop!(first_type(parts); a, i);
+    two_at(alloc, span, ty, TwoOp::Index, a, i)
 }
 
 /// What stands for a key, which goes to the type of the first part.
@@ -76,8 +78,10 @@ fn keyed_at(
     ensures { IfOk result (λ e. e ≡ two_at span ty Index a
         (to_target (first_type (tys parts.now)) i)) }
 {
-    let key = first_type(parts)?;
-    let i = to_target(alloc, &key, i)?;
+    let key = or_drop!(first_type(parts); ty, a, i);
+    let i = to_target(alloc, &key, i);
+    drop(key);
+    let i = or_drop!(i; ty, a);
     two_at(alloc, span, ty, TwoOp::Index, a, i)
 }
 
@@ -86,7 +90,7 @@ fn mapped_at(alloc: Global, span: Span, parts: &[Type], a: Expr, i: Expr) -> Res
     ensures { IfOk result (λ e. e ≡ two_at span (second_type (tys parts.now)) Index a
         (to_target (first_type (tys parts.now)) i)) }
 {
-    let ty = second_type(parts)?;
+    let ty = or_drop!(second_type(parts); a, i);
     keyed_at(alloc, span, parts, ty, a, i)
 }
 
@@ -102,7 +106,7 @@ fn member_at<C: Context>(
     ensures { IfOk result (λ e. e ≡ item_at span (tys parts.now)
         ((C.around context.now).item i) a i) }
 {
-    let number = context.item(alloc, &i)?;
+    let number = or_drop!(context.item(alloc, &i); a, i);
     item_at(alloc, span, parts, number, a, i)
 }
 
@@ -116,13 +120,14 @@ fn index_at<C: Context>(
 ) -> Result<Expr, NoMemory>
     ensures { IfOk result (λ e. e ≡ index_at (C.around context.now) span of.now a i) }
 {
-    let unknown = Type::word(Word::Unknown);
     match of.level() {
         Level::Made(Maker::Vector, parts) => element_at(alloc, span, parts, a, i),
         Level::Made(Maker::Map, parts) => mapped_at(alloc, span, parts, a, i),
-        Level::Made(Maker::Set, parts) => keyed_at(alloc, span, parts, unknown, a, i),
+        Level::Made(Maker::Set, parts) => {
+            keyed_at(alloc, span, parts, Type::word(Word::Unknown), a, i)
+        }
         Level::Made(Maker::Tuple, parts) => member_at(alloc, context, span, parts, a, i),
-        Level::Word(_) => two_at(alloc, span, unknown, TwoOp::Index, a, i),
+        Level::Word(_) => two_at(alloc, span, Type::word(Word::Unknown), TwoOp::Index, a, i),
     }
 }
 
@@ -136,8 +141,10 @@ pub(crate) fn indexed<C: Context>(
 ) -> Result<Expr, NoMemory>
     ensures { IfOk result (λ e. e ≡ indexed (C.around context.now) span a i) }
 {
-    let of = seen(&a)?;
-    index_at(alloc, context, span, &of, a, i)
+    let of = or_drop!(seen(&a); a, i);
+    let element = index_at(alloc, context, span, &of, a, i);
+    drop(of);
+    element
 }
 
 /// What can't be called, before its arguments.
@@ -145,8 +152,9 @@ fn no_call(alloc: Global, span: Span, callee: Expr, mut list: Vec<Expr>) -> Resu
     ensures { IfOk result (λ e. e ≡ no_call span callee list.items) }
 {
     let mut parts = Vec::new(alloc);
-    parts.push(callee)?;
-    parts.append(&mut list)?;
+    or_drop!(parts.push(callee); parts, list);
+    or_drop!(parts.append(&mut list); parts, list);
+    drop(list);
     many_at(span, Type::word(Word::Unknown), ManyOp::NoCall, parts)
 }
 
@@ -161,14 +169,10 @@ fn call_of<C: Context>(
     ensures { IfOk result (λ e. e ≡ call_of (C.around context.now) span op ty list.items) }
 {
     let mut parts = Vec::new(alloc);
-    add_each(
-        alloc,
-        context,
-        &op,
-        &Type::word(Word::Unknown),
-        list,
-        &mut parts,
-    )?;
+    let unknown = Type::word(Word::Unknown);
+    let added = add_each(alloc, context, &op, &unknown, list, &mut parts);
+    drop(unknown);
+    or_drop!(added; op, ty, parts);
     many_at(span, ty, op, parts)
 }
 
@@ -205,7 +209,7 @@ fn function_call<C: Context>(
     ensures { IfOk result (λ e. e ≡ call_of (C.around context.now) span (Call n)
         ((C.around context.now).result n) list.items) }
 {
-    let ty = context.result(n)?;
+    let ty = or_drop!(context.result(n); list);
     call_of(alloc, context, span, ManyOp::Call(n), ty, list)
 }
 
@@ -220,8 +224,12 @@ pub(crate) fn call_at<C: Context>(
     ensures { IfOk result (λ e. e ≡ call_at (C.around context.now) span callee list.items) }
 {
     match callee_of(&callee) {
-        Callee::Function(n) => function_call(alloc, context, span, n, list),
+        Callee::Function(n) => {
+            drop(callee);
+            function_call(alloc, context, span, n, list)
+        }
         Callee::Enum(n) => {
+            drop(callee);
             let ty = Type::word(Word::Enum(n));
             call_of(alloc, context, span, ManyOp::Convert(n), ty, list)
         }
@@ -255,6 +263,7 @@ pub(crate) fn new_at<C: Context>(
 {
     match started(&callee) {
         Some(unit) => {
+            drop(callee);
             let op = ManyOp::New(unit, path);
             call_of(alloc, context, span, op, Type::word(Word::New), list)
         }
@@ -273,12 +282,14 @@ fn method_of<C: Context>(
     ensures { IfOk result (λ e. e
         ≡ method_found (C.around context.now) span method object list.items) }
 {
-    let receiver = seen(&object)?;
+    let receiver = or_drop!(seen(&object); method, object, list);
     let given = list.len();
     let mut parts = Vec::new(alloc);
-    parts.push(object)?;
-    add_each(alloc, context, &method.op, &receiver, list, &mut parts)?;
-    context.fill(&method.op, span, given, &mut parts)?;
+    or_drop!(parts.push(object); method, receiver, list, parts);
+    let added = add_each(alloc, context, &method.op, &receiver, list, &mut parts);
+    drop(receiver);
+    or_drop!(added; method, parts);
+    or_drop!(context.fill(&method.op, span, given, &mut parts); method, parts);
     many_at(span, method.ty, method.op, parts)
 }
 
@@ -294,7 +305,11 @@ fn method_for<C: Context>(
         (name_of name.now) (span_of name.now) (map seen list.now)) }
 {
     let types = all_seen(alloc, list)?;
-    context.method(alloc, &seen(object)?, name.text(), name.span(), &types)
+    let receiver = or_drop!(seen(object); types);
+    let found = context.method(alloc, &receiver, name.text(), name.span(), &types);
+    drop(receiver);
+    drop(types);
+    found
 }
 
 /// A call of a method that there isn't.
@@ -310,7 +325,7 @@ fn no_method(
         list.items) }
 {
     let unknown = Type::word(Word::Unknown);
-    let callee = one_at(alloc, member, unknown, OneOp::NoMember(name), object)?;
+    let callee = or_drop!(one_at(alloc, member, unknown, OneOp::NoMember(name), object); list);
     no_call(alloc, span, callee, list)
 }
 
@@ -327,7 +342,8 @@ pub(crate) fn method_at<C: Context>(
     ensures { IfOk result (λ e. e ≡ method_at (C.around context.now) span member name.now object
         list.items) }
 {
-    match method_for(alloc, context, name, &object, &list)? {
+    let found = or_drop!(method_for(alloc, context, name, &object, &list); object, list);
+    match found {
         Some(method) => method_of(alloc, context, span, method, object, list),
         None => no_method(alloc, span, member, name.span(), object, list),
     }

@@ -7,7 +7,7 @@ ghost use Rattle.sp_typing.specs.Typing.{leaf_at, one_at, two_at, many_at, int_w
 
 use crate::context::{Context, Member};
 use sp_ast::{NameKind, Ref};
-use sp_base::{NoMemory, Span};
+use sp_base::{NoMemory, Span, or_drop};
 use sp_numbers::Width;
 use sp_operands::{
     OperatorSort, is_integer, is_negative, key_of, literal_word, seen, sort_of, taken, unary_type,
@@ -73,9 +73,12 @@ pub(crate) fn int_word(word: IntWord) -> Word
 fn widened(alloc: Global, to: &Type, e: Expr) -> Result<Expr, NoMemory>
     ensures { IfOk result (λ r. r ≡ widened to.now e) }
 {
-    let from = seen(&e)?;
-    if from.widens(to) && !from.same(to) {
-        one_at(alloc, e.span(), to.copy()?, OneOp::Widen, e)
+    let from = or_drop!(seen(&e); e);
+    let widens = from.widens(to) && !from.same(to);
+    drop(from);
+    if widens {
+        let ty = or_drop!(to.copy(); e);
+        one_at(alloc, e.span(), ty, OneOp::Widen, e)
     } else {
         Ok(e)
     }
@@ -99,7 +102,7 @@ fn joined_type(op: BinaryOp, a: &Expr, b: &Expr) -> Result<Type, NoMemory>
 fn joined(alloc: Global, span: Span, op: BinaryOp, a: Expr, b: Expr) -> Result<Expr, NoMemory>
     ensures { IfOk result (λ e. e ≡ joined span op a b) }
 {
-    let ty = joined_type(op, &a, &b)?;
+    let ty = or_drop!(joined_type(op, &a, &b); a, b);
     two_at(alloc, span, ty, TwoOp::Binary(op), a, b)
 }
 
@@ -116,7 +119,8 @@ fn both_seen(a: &Expr, b: &Expr) -> Result<(Type, Type), NoMemory>
     ensures { IfOk result (λ p. p ≡ (seen a.now, seen b.now)) }
 {
     let left = seen(a)?;
-    Ok((left, seen(b)?))
+    let right = or_drop!(seen(b); left);
+    Ok((left, right))
 }
 
 /// Two that have to agree: of a literal and what is none, the literal takes the other's type.
@@ -126,8 +130,12 @@ fn make_agree(a: Expr, b: Expr) -> Result<(Expr, Expr), NoMemory>
     if a.is_literal() && b.is_literal() {
         return Ok(settle_both(a, b));
     }
-    let (left, right) = both_seen(&a, &b)?;
-    Ok((taken(&right, a), taken(&left, b)))
+    let (left, right) = or_drop!(both_seen(&a, &b); a, b);
+    let a = taken(&right, a);
+    let b = taken(&left, b);
+    drop(left);
+    drop(right);
+    Ok((a, b))
 }
 
 /// The type of the keys of a container.
@@ -141,8 +149,10 @@ fn key_type(e: &Expr) -> Result<Type, NoMemory>
 fn contained_at(alloc: Global, span: Span, op: BinaryOp, a: Expr, b: Expr) -> Result<Expr, NoMemory>
     ensures { IfOk result (λ e. e ≡ joined span op (to_target (key_of (seen b)) a) b) }
 {
-    let key = key_type(&b)?;
-    let a = to_target(alloc, &key, a)?;
+    let key = or_drop!(key_type(&b); a, b);
+    let a = to_target(alloc, &key, a);
+    drop(key);
+    let a = or_drop!(a; b);
     joined(alloc, span, op, a, b)
 }
 
@@ -166,9 +176,13 @@ fn choice_type(a: &Expr, b: &Expr) -> Result<Type, NoMemory>
     ensures { IfOk result (λ t. t ≡ choice_type a.now b.now) }
 {
     let left = seen(a)?;
-    if left.same(&seen(b)?) {
+    let right = or_drop!(seen(b); left);
+    let same = left.same(&right);
+    drop(right);
+    if same {
         Ok(left)
     } else {
+        drop(left);
         Ok(Type::word(Word::Unknown))
     }
 }
@@ -182,8 +196,8 @@ pub(crate) fn choice_at(
 ) -> Result<Expr, NoMemory>
     ensures { IfOk result (λ e. e ≡ choice_at span c a b) }
 {
-    let (a, b) = make_agree(a, b)?;
-    let ty = choice_type(&a, &b)?;
+    let (a, b) = or_drop!(make_agree(a, b); c);
+    let ty = or_drop!(choice_type(&a, &b); a, b, c);
     Expr::three(alloc, Three { span, ty }, c, a, b)
 }
 
@@ -209,7 +223,7 @@ fn signed_type(op: UnaryOp, e: &Expr) -> Result<Type, NoMemory>
 pub(crate) fn unary_at(alloc: Global, span: Span, op: UnaryOp, e: Expr) -> Result<Expr, NoMemory>
     ensures { IfOk result (λ r. r ≡ unary_at span op e) }
 {
-    let ty = signed_type(op, &e)?;
+    let ty = or_drop!(signed_type(op, &e); e);
     one_at(alloc, span, ty, unary_op(op), e)
 }
 
@@ -253,7 +267,10 @@ pub(crate) fn member_of<C: Context>(
 ) -> Result<Expr, NoMemory>
     ensures { IfOk result (λ r. r ≡ member_of (C.around context.now) span name.now e) }
 {
-    let member = context.member(&seen(&e)?, name.text())?;
+    let of = or_drop!(seen(&e); e);
+    let member = context.member(&of, name.text());
+    drop(of);
+    let member = or_drop!(member; e);
     member_at(alloc, span, name.span(), member, e)
 }
 
@@ -291,7 +308,10 @@ pub(crate) fn set_member_of<C: Context>(
 ) -> Result<Expr, NoMemory>
     ensures { IfOk result (λ r. r ≡ set_member_of (C.around context.now) span name.now e) }
 {
-    let member = context.member(&seen(&e)?, name.text())?;
+    let of = or_drop!(seen(&e); e);
+    let member = context.member(&of, name.text());
+    drop(of);
+    let member = or_drop!(member; e);
     set_member_at(alloc, span, name.span(), member, e)
 }
 

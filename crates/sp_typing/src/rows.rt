@@ -8,7 +8,7 @@ ghost use Rattle.sp_operands.specs.Wholes.{row_type, map_type};
 
 use crate::context::Context;
 use crate::nodes::{many_at, to_target};
-use sp_base::{NoMemory, Span};
+use sp_base::{NoMemory, Span, or_drop};
 use sp_operands::{map_type, row_type, seen, taken};
 use sp_typed::{Expr, ManyOp};
 use sp_types::{Maker, Type};
@@ -49,8 +49,10 @@ fn all_taken(alloc: Global, to: &Option<Type>, list: Vec<Expr>) -> Result<Vec<Ex
 pub(crate) fn led(alloc: Global, list: Vec<Expr>) -> Result<Vec<Expr>, NoMemory>
     ensures { IfOk result (λ r. r.items ≡ led list.items) }
 {
-    let to = lead(&list)?;
-    all_taken(alloc, &to, list)
+    let to = or_drop!(lead(&list); list);
+    let all = all_taken(alloc, &to, list);
+    drop(to);
+    all
 }
 
 /// A vector or a set of elements.
@@ -63,7 +65,7 @@ pub(crate) fn row_at(
 ) -> Result<Expr, NoMemory>
     ensures { IfOk result (λ e. e ≡ row_at span maker op list.items) }
 {
-    let ty = row_type(alloc, maker, &list)?;
+    let ty = or_drop!(row_type(alloc, maker, &list); op, list);
     many_at(span, ty, op, list)
 }
 
@@ -100,7 +102,7 @@ fn in_turn(
 fn map_of(alloc: Global, span: Span, parts: Vec<Expr>) -> Result<Expr, NoMemory>
     ensures { IfOk result (λ e. e ≡ map_of span parts.items) }
 {
-    let ty = map_type(alloc, &parts)?;
+    let ty = or_drop!(map_type(alloc, &parts); parts);
     many_at(span, ty, ManyOp::Map, parts)
 }
 
@@ -108,10 +110,12 @@ fn map_of(alloc: Global, span: Span, parts: Vec<Expr>) -> Result<Expr, NoMemory>
 pub(crate) fn map_at(alloc: Global, span: Span, pairs: Vec<(Expr, Expr)>) -> Result<Expr, NoMemory>
     ensures { IfOk result (λ e. e ≡ map_at span pairs.items) }
 {
-    let key = lead_half(false, &pairs)?;
-    let value = lead_half(true, &pairs)?;
-    let parts = in_turn(alloc, &key, &value, pairs)?;
-    map_of(alloc, span, parts)
+    let key = or_drop!(lead_half(false, &pairs); pairs);
+    let value = or_drop!(lead_half(true, &pairs); key, pairs);
+    let parts = in_turn(alloc, &key, &value, pairs);
+    drop(key);
+    drop(value);
+    map_of(alloc, span, parts?)
 }
 
 /// The types that a node round expressions sees.
@@ -128,7 +132,8 @@ pub(crate) fn all_seen(alloc: Global, list: &[Expr]) -> Result<Vec<Type>, NoMemo
 pub(crate) fn tuple_at(alloc: Global, span: Span, list: Vec<Expr>) -> Result<Expr, NoMemory>
     ensures { IfOk result (λ e. e ≡ tuple_at span list.items) }
 {
-    let ty = Type::made(alloc, Maker::Tuple, all_seen(alloc, &list)?)?;
+    let parts = or_drop!(all_seen(alloc, &list); list);
+    let ty = or_drop!(Type::made(alloc, Maker::Tuple, parts); list);
     many_at(span, ty, ManyOp::Tuple, list)
 }
 
@@ -154,8 +159,10 @@ fn sent<C: Context>(
     ensures { IfOk result (λ r. r ≡ to_maybe ((C.around context.now).target op.now receiver.now
         number) e) }
 {
-    let to = context.target(op, receiver, number)?;
-    to_maybe(alloc, &to, e)
+    let to = or_drop!(context.target(op, receiver, number); e);
+    let sent = to_maybe(alloc, &to, e);
+    drop(to);
+    sent
 }
 
 /// Appends arguments, each as it goes to its own target, where the first of them has the number 0.

@@ -4,7 +4,10 @@ ghost use Rattle.sp_ast.specs.Trees.{trees, tree, in_row, span_of};
 ghost use Rattle.sp_ast.specs.declared.forms.Form.TheVariants as form_is;
 ghost use Rattle.sp_ast.specs.declared.forms.ExprForm.TheVariants as expr_is;
 ghost use Rattle.sp_typing.specs.Contexts.{Around};
+ghost use Rattle.sp_types.specs.Types.{word};
 ghost use Rattle.sp_types.specs.declared.words.Maker.TheVariants.{Map};
+ghost use Rattle.sp_types.specs.declared.words.Word.TheVariants as word_is;
+ghost use Rattle.sp_typed.specs.declared.words.LeafOp.TheVariants as leaf_is;
 ghost use Rattle.sp_typed.specs.declared.words.LeafOp.TheVariants.{Empty};
 ghost use Rattle.sp_typed.specs.declared.words.OneOp.TheVariants.{Cast};
 ghost use Rattle.sp_typing.specs.Typing.{typed, typed_all, pairs_typed, is_member, leaf_at, one_at, made_of, both_written, cast_type, led, row_at, choice_at, binary_at, indexed, new_at};
@@ -17,7 +20,7 @@ use crate::nodes::{
 };
 use crate::rows::{led, map_at, row_at, tuple_at};
 use sp_ast::{ExprKind, ExprView, Members, NameKind, PairKind, PathKind, Ref, TypeKind};
-use sp_base::{ByteList, NoMemory, Span, Text};
+use sp_base::{ByteList, NoMemory, Span, Text, or_drop};
 use sp_numbers::Width;
 use sp_operands::{made_of_one, made_of_two};
 use sp_typed::{Expr, LeafOp, ManyOp, OneOp};
@@ -53,9 +56,9 @@ fn pairs_typed<C: Context>(
     let mut all = Vec::new(alloc);
     for pair in pairs.again() {
         let pair = pair.view();
-        let key = typed(alloc, context, &pair.key)?;
-        let value = typed(alloc, context, &pair.value)?;
-        all.push((key, value))?;
+        let key = or_drop!(typed(alloc, context, &pair.key); all);
+        let value = or_drop!(typed(alloc, context, &pair.value); all, key);
+        or_drop!(all.push((key, value)); all);
     }
     Ok(all)
 }
@@ -87,12 +90,12 @@ fn call_typed<C: Context>(
     match member_parts(callee) {
         Some((object, name)) => {
             let object = typed(alloc, context, &object)?;
-            let list = typed_all(alloc, context, arguments)?;
+            let list = or_drop!(typed_all(alloc, context, arguments); object);
             method_at(alloc, context, span, callee.span(), &name, object, list)
         }
         None => {
             let called = typed(alloc, context, callee)?;
-            let list = typed_all(alloc, context, arguments)?;
+            let list = or_drop!(typed_all(alloc, context, arguments); called);
             call_at(alloc, context, span, called, list)
         }
     }
@@ -115,6 +118,45 @@ fn row_typed<C: Context>(
     row_at(alloc, span, maker, op, list)
 }
 
+/// A literal text.
+fn text_at(alloc: Global, span: Span, text: &str) -> Result<Expr, NoMemory>
+    ensures { IfOk result (λ e. e ≡ leaf_at span (word word_is.String) (leaf_is.Text text.now)) }
+{
+    let op = LeafOp::Text(Text::new(alloc, text)?);
+    Ok(leaf_at(span, Type::word(Word::String), op))
+}
+
+/// Literal bytes.
+fn bytes_at(alloc: Global, span: Span, bytes: &[u8]) -> Result<Expr, NoMemory>
+    ensures { IfOk result (λ e. e ≡ leaf_at span (word word_is.Bytes) (leaf_is.Bytes bytes.now)) }
+{
+    let op = LeafOp::Bytes(ByteList::from_slice(alloc, bytes)?);
+    Ok(leaf_at(span, Type::word(Word::Bytes), op))
+}
+
+/// A literal regular expression.
+fn regex_at(alloc: Global, span: Span, text: &str) -> Result<Expr, NoMemory>
+    ensures { IfOk result (λ e. e ≡ leaf_at span (word word_is.Regex) (leaf_is.Regex text.now)) }
+{
+    let op = LeafOp::Regex(Text::new(alloc, text)?);
+    Ok(leaf_at(span, Type::word(Word::Regex), op))
+}
+
+/// An empty vector or set of a type that is written.
+fn empty_row<C: Context>(
+    alloc: Global,
+    context: &C,
+    span: Span,
+    maker: Maker,
+    element: &Ref<'_, TypeKind>,
+) -> Result<Expr, NoMemory>
+    ensures { IfOk result (λ e. e ≡ leaf_at span (made_of maker ((C.around context.now).type_in
+        element.now ∷ [])) (Empty ((C.around context.now).written element.now))) }
+{
+    let ty = made_of_one(alloc, maker, context.type_in(alloc, element)?)?;
+    Ok(leaf_at(span, ty, LeafOp::Empty(context.written(element))))
+}
+
 /// An empty map of types that are written.
 fn empty_map<C: Context>(
     alloc: Global,
@@ -128,7 +170,7 @@ fn empty_map<C: Context>(
         ((C.around context.now).written key.now) ((C.around context.now).written value.now)))) }
 {
     let key_type = context.type_in(alloc, key)?;
-    let value_type = context.type_in(alloc, value)?;
+    let value_type = or_drop!(context.type_in(alloc, value); key_type);
     let ty = made_of_two(alloc, Maker::Map, key_type, value_type)?;
     let written = both_written(context.written(key), context.written(value));
     Ok(leaf_at(span, ty, LeafOp::Empty(written)))
@@ -148,7 +190,7 @@ fn cast_typed<C: Context>(
         operand.now)) }
 {
     let operand = typed(alloc, context, operand)?;
-    let ty = cast_type(context.type_in(alloc, to)?);
+    let ty = cast_type(or_drop!(context.type_in(alloc, to); operand));
     one_at(alloc, span, ty, OneOp::Cast(context.written(to)), operand)
 }
 
@@ -167,7 +209,7 @@ fn new_typed<C: Context>(
 {
     let at = path.span();
     let list = typed_all(alloc, context, arguments)?;
-    let callee = context.named(alloc, at, path)?;
+    let callee = or_drop!(context.named(alloc, at, path); list);
     new_at(alloc, context, span, at, callee, list)
 }
 
@@ -185,8 +227,8 @@ fn choice_typed<C: Context>(
         (typed (C.around context.now) if_true.now) (typed (C.around context.now) if_false.now)) }
 {
     let c = typed(alloc, context, condition)?;
-    let a = typed(alloc, context, if_true)?;
-    let b = typed(alloc, context, if_false)?;
+    let a = or_drop!(typed(alloc, context, if_true); c);
+    let b = or_drop!(typed(alloc, context, if_false); a, c);
     choice_at(alloc, span, c, a, b)
 }
 
@@ -203,7 +245,7 @@ fn index_typed<C: Context>(
         (C.around context.now) object.now) (typed (C.around context.now) index.now)) }
 {
     let object = typed(alloc, context, object)?;
-    let index = typed(alloc, context, index)?;
+    let index = or_drop!(typed(alloc, context, index); object);
     indexed(alloc, context, span, object, index)
 }
 
@@ -221,7 +263,7 @@ fn binary_typed<C: Context>(
         (typed (C.around context.now) right.now)) }
 {
     let left = typed(alloc, context, left)?;
-    let right = typed(alloc, context, right)?;
+    let right = or_drop!(typed(alloc, context, right); left);
     binary_at(alloc, span, op, left, right)
 }
 
@@ -245,18 +287,9 @@ pub fn typed<C: Context>(
             let ty = Type::word(Word::Uint(Width::W64));
             Ok(leaf_at(span, ty, LeafOp::Number(n)))
         }
-        ExprView::String(text) => {
-            let op = LeafOp::Text(Text::new(alloc, text)?);
-            Ok(leaf_at(span, Type::word(Word::String), op))
-        }
-        ExprView::Bytes(bytes) => {
-            let op = LeafOp::Bytes(ByteList::from_slice(alloc, bytes)?);
-            Ok(leaf_at(span, Type::word(Word::Bytes), op))
-        }
-        ExprView::Regex(text) => {
-            let op = LeafOp::Regex(Text::new(alloc, text)?);
-            Ok(leaf_at(span, Type::word(Word::Regex), op))
-        }
+        ExprView::String(text) => text_at(alloc, span, text),
+        ExprView::Bytes(bytes) => bytes_at(alloc, span, bytes),
+        ExprView::Regex(text) => regex_at(alloc, span, text),
         ExprView::Tuple(members) => tuple_at(alloc, span, typed_all(alloc, context, &members)?),
         ExprView::Vector(members) => row_typed(
             alloc,
@@ -278,14 +311,8 @@ pub fn typed<C: Context>(
             let pairs = pairs_typed(alloc, context, &pairs)?;
             map_at(alloc, span, pairs)
         }
-        ExprView::EmptyVector(element) => {
-            let ty = made_of_one(alloc, Maker::Vector, context.type_in(alloc, &element)?)?;
-            Ok(leaf_at(span, ty, LeafOp::Empty(context.written(&element))))
-        }
-        ExprView::EmptySet(element) => {
-            let ty = made_of_one(alloc, Maker::Set, context.type_in(alloc, &element)?)?;
-            Ok(leaf_at(span, ty, LeafOp::Empty(context.written(&element))))
-        }
+        ExprView::EmptyVector(element) => empty_row(alloc, context, span, Maker::Vector, &element),
+        ExprView::EmptySet(element) => empty_row(alloc, context, span, Maker::Set, &element),
         ExprView::EmptyMap { key, value } => empty_map(alloc, context, span, &key, &value),
         ExprView::TypedNumber(word, number) => {
             let ty = Type::word(int_word(word));

@@ -11,7 +11,7 @@ ghost use Rattle.sp_typing_stmts.specs.Values.{values_in};
 ghost use Rattle.sp_typing_stmts.specs.Statements.{valued_in, text_in};
 
 use sp_ast::{ExprKind, Members, Ref, StringKind};
-use sp_base::{NoMemory, Span};
+use sp_base::{NoMemory, Span, or_drop};
 use sp_operands::taken;
 use sp_typed::{Expr, Stmt, StmtNode, ValuedOp};
 use sp_types::Type;
@@ -36,7 +36,8 @@ pub(crate) fn switch_of(
 ) -> Result<Stmt, NoMemory>
     ensures { IfOk result (λ s. s ≡ switch slot subject (case_row cases.items) otherwise) }
 {
-    Stmt::new(StmtNode::Switch(slot, subject, cases, Box::new(alloc, otherwise)?))
+    let otherwise = or_drop!(Box::new(alloc, otherwise); subject, cases);
+    Stmt::new(StmtNode::Switch(slot, subject, cases, otherwise))
 }
 
 /// The values of a case: literals take the type of the subject.
@@ -47,7 +48,7 @@ pub(crate) fn all_taken(
 ) -> Result<Vec<Expr>, NoMemory>
     ensures { IfOk result (λ r. r.items ≡ map (taken subject.now) list.items) }
 {
-    let mut all = Vec::with_capacity(alloc, list.len())?;
+    let mut all = or_drop!(Vec::with_capacity(alloc, list.len()); list);
     for e in list {
         all.push(taken(subject, e))?;
     }

@@ -10,7 +10,7 @@ use crate::others::{all_taken, assert_in, nothing, print_in, switch_of};
 use sp_ast::{
     BlockKind, BranchKind, CaseKind, ExprKind, Members, NameKind, Ref, StmtKind, StmtView,
 };
-use sp_base::NoMemory;
+use sp_base::{NoMemory, or_drop};
 use sp_operands::seen;
 use sp_typed::{BareOp, Expr, Stmt, StmtNode, ValuedOp};
 use sp_types::Type;
@@ -103,7 +103,7 @@ fn branch_typed<C: Context>(
     let view = branch.view();
     let mark = scope.mark();
     let condition = value_in(alloc, context, scope, &view.condition)?;
-    let stmt = typed_stmt(alloc, body, context, in_loop, scope, &view.body)?;
+    let stmt = or_drop!(typed_stmt(alloc, body, context, in_loop, scope, &view.body); condition);
     scope.close(mark);
     Ok((condition, stmt))
 }
@@ -148,9 +148,13 @@ fn if_typed<C: Context>(
 {
     let mark = scope.mark();
     let list = branches_typed(alloc, body, context, in_loop, scope, branches)?;
-    let other = otherwise_typed(alloc, body, context, in_loop, scope, otherwise)?;
+    let other = or_drop!(
+        otherwise_typed(alloc, body, context, in_loop, scope, otherwise);
+        list
+    );
     scope.close(mark);
-    Stmt::new(StmtNode::If(list, Box::new(alloc, other)?))
+    let boxed = or_drop!(Box::new(alloc, other); list);
+    Stmt::new(StmtNode::If(list, boxed))
 }
 
 /// `while (c) s`
@@ -170,9 +174,10 @@ fn while_typed<C: Context>(
 {
     let mark = scope.mark();
     let condition = value_in(alloc, context, scope, condition)?;
-    let inner = typed_stmt(alloc, body, context, true, scope, inner)?;
+    let inner = or_drop!(typed_stmt(alloc, body, context, true, scope, inner); condition);
     scope.close(mark);
-    Stmt::new(StmtNode::While(condition, Box::new(alloc, inner)?))
+    let boxed = or_drop!(Box::new(alloc, inner); condition);
+    Stmt::new(StmtNode::While(condition, boxed))
 }
 
 /// `for (x in e) s`
@@ -193,11 +198,15 @@ fn for_typed<C: Context>(
 {
     let mark = scope.mark();
     let sequence = value_in(alloc, context, scope, sequence)?;
-    let ty = element_type(alloc, &seen(&sequence)?)?;
-    let head = loop_head(alloc, scope, name, ty)?;
-    let stmt = typed_stmt(alloc, body, context, true, scope, inner)?;
+    let of = or_drop!(seen(&sequence); sequence);
+    let ty = element_type(alloc, &of);
+    drop(of);
+    let ty = or_drop!(ty; sequence);
+    let head = or_drop!(loop_head(alloc, scope, name, ty); sequence);
+    let stmt = or_drop!(typed_stmt(alloc, body, context, true, scope, inner); head, sequence);
     scope.close(mark);
-    Stmt::new(StmtNode::For(head, sequence, Box::new(alloc, stmt)?))
+    let boxed = or_drop!(Box::new(alloc, stmt); head, sequence);
+    Stmt::new(StmtNode::For(head, sequence, boxed))
 }
 
 /// `case a, b: s`
@@ -220,7 +229,7 @@ fn case_typed<C: Context>(
     let before = scope.mark();
     let values = values_in(alloc, context, scope, &view.values)?;
     let values = all_taken(alloc, subject, values)?;
-    let stmt = typed_stmt(alloc, body, context, in_loop, scope, &view.body)?;
+    let stmt = or_drop!(typed_stmt(alloc, body, context, in_loop, scope, &view.body); values);
     scope.close(before);
     Ok((values, stmt))
 }
@@ -267,10 +276,17 @@ fn switch_typed<C: Context>(
 {
     let mark = scope.mark();
     let subject = value_in(alloc, context, scope, subject)?;
-    let ty = seen(&subject)?;
-    let slot = scope.take_slot(ty.copy()?)?;
-    let list = cases_typed(alloc, body, context, in_loop, &ty, scope, cases)?;
-    let other = otherwise_typed(alloc, body, context, in_loop, scope, otherwise)?;
+    let ty = or_drop!(seen(&subject); subject);
+    let copy = or_drop!(ty.copy(); subject, ty);
+    let slot = or_drop!(scope.take_slot(copy); subject, ty);
+    let list = cases_typed(alloc, body, context, in_loop, &ty, scope, cases);
+    drop(ty);
+    let list = or_drop!(list; subject);
+    let other = or_drop!(
+        otherwise_typed(alloc, body, context, in_loop, scope, otherwise);
+        subject,
+        list
+    );
     scope.close(mark);
     switch_of(alloc, slot, subject, list, other)
 }
@@ -355,5 +371,6 @@ pub fn typed_body<C: Context>(
 {
     let mut scope = Scope::new(alloc, slots);
     let list = stmts_typed(alloc, body, context, false, &mut scope, &tree.statements())?;
-    Ok((Stmt::new(StmtNode::Block(list))?, scope.into_slots()))
+    let stmt = or_drop!(Stmt::new(StmtNode::Block(list)); scope);
+    Ok((stmt, scope.into_slots()))
 }

@@ -9,7 +9,7 @@ ghost use Rattle.sp_typing_heads.specs.Functions.{path_of, or_void, body_giving,
 
 use crate::parameters::{Parameters, WithParameters, parameters_in};
 use sp_ast::{BlockKind, DeclKind, DeclView, NameKind, Ref, TypeKind};
-use sp_base::{NoMemory, Span, Text};
+use sp_base::{NoMemory, Span, Text, or_drop};
 use sp_typed::{Stmt, StmtNode, Written};
 use sp_typed_units::{Function, Parameter, Row};
 use sp_types::{Type, Word};
@@ -23,9 +23,9 @@ fn path_of(alloc: Global, owner: &str, name: &str) -> Result<Text, NoMemory>
     ensures { IfOk result (λ t. t ≡ path_of owner.now name.now) }
 {
     let mut text = String::from_str(alloc, owner)?;
-    text.push_str("::")?;
-    text.push_str(name)?;
-    Ok(Text::from_string(text))
+    or_drop!(text.push_str("::"); text);
+    or_drop!(text.push_str(name); text);
+    Text::from_string(text)
 }
 
 /// The type that is written, if one is.
@@ -82,12 +82,16 @@ fn function_body<C: Context>(
 {
     let seen = Parameters::new(alloc, parameters)?;
     let inside = WithParameters::new(context, &seen, 0, false);
+    let result = or_drop!(written_type(alloc, context, returns); seen);
     let body = Body {
-        result: written_type(alloc, context, returns)?,
+        result,
         in_foreach: false,
         sees_unit: false,
     };
-    typed_body(alloc, &body, &inside, Vec::new(alloc), tree)
+    let typed = typed_body(alloc, &body, &inside, Vec::new(alloc), tree);
+    drop(body);
+    drop(seen);
+    typed
 }
 
 /// What the head of a function says, apart from its parameters.
@@ -114,8 +118,9 @@ fn head_of<C: Context>(
         ≡ written_of (C.around context.now) (optional_tree returns.now)) }
 {
     let result = or_void(written_type(alloc, context, returns)?);
+    let path = or_drop!(path_of(alloc, owner, name.text()); result);
     Ok(Head {
-        path: path_of(alloc, owner, name.text())?,
+        path,
         span: name.span(),
         result,
         written: written_of(context, returns),
@@ -126,15 +131,17 @@ fn head_of<C: Context>(
 fn no_function(alloc: Global, module: u32) -> Result<Function, NoMemory>
     ensures { IfOk result (λ f. f ≡ no_function «module») }
 {
+    let path = Text::new(alloc, "")?;
+    let body = or_drop!(Stmt::new(StmtNode::Block(Vec::new(alloc))); path);
     Ok(Function {
-        path: Text::new(alloc, "")?,
+        path,
         module,
         span: Span { from: 0, to: 0 },
         parameters: Row::new(alloc),
         result: Type::word(Word::Unknown),
         written: None,
         slots: Row::new(alloc),
-        body: Stmt::new(StmtNode::Block(Vec::new(alloc)))?,
+        body,
     })
 }
 
@@ -159,8 +166,9 @@ pub fn function_of<C: Context>(
             ..
         } => {
             let head = head_of(alloc, context, owner, &name, &returns)?;
-            let own = parameters_in(alloc, context, parameters)?;
-            let (body, slots) = function_body(alloc, context, &own, &returns, &body)?;
+            let own = or_drop!(parameters_in(alloc, context, parameters); head);
+            let inside = function_body(alloc, context, &own, &returns, &body);
+            let (body, slots) = or_drop!(inside; head, own);
             Ok(Function {
                 path: head.path,
                 module,

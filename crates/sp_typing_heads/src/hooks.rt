@@ -12,7 +12,7 @@ use crate::parameters::{Parameters, WithParameters, parameters_in};
 use crate::ranks::Ranks;
 use crate::site::Site;
 use sp_ast::{BlockKind, ExprKind, HookBodyKind, HookKind, Kind, Ref};
-use sp_base::NoMemory;
+use sp_base::{NoMemory, or_drop};
 use sp_numbers::Width;
 use sp_operands::taken;
 use sp_typed::{Expr, Standing, Stmt, StmtNode};
@@ -99,7 +99,10 @@ fn priority_in<C: Context>(
     match priority {
         Some(tree) => {
             let e = typed(alloc, context, tree)?;
-            Ok(Some(taken(&Type::word(Word::Int(Width::W64)), e)))
+            let to = Type::word(Word::Int(Width::W64));
+            let e = taken(&to, e);
+            drop(to);
+            Ok(Some(e))
         }
         None => Ok(None),
     }
@@ -149,8 +152,11 @@ fn inside_of<P: Context, C: Context, R: Ranks>(
         ≡ (typed_body (hook_body of) (C.around inside.now) [] tree.now).1) }
 {
     let priority = priority_in(alloc, outside, priority)?;
-    let rank = rank_of(alloc, ranks, &priority)?;
-    let (body, slots) = typed_body(alloc, &hook_body(of), inside, Vec::new(alloc), tree)?;
+    let rank = or_drop!(rank_of(alloc, ranks, &priority); priority);
+    let of_body = hook_body(of);
+    let found = typed_body(alloc, &of_body, inside, Vec::new(alloc), tree);
+    drop(of_body);
+    let (body, slots) = or_drop!(found; priority);
     Ok(Inside {
         priority,
         rank,
@@ -186,14 +192,18 @@ fn hook_inside<C: Context, R: Ranks>(
     let of = site.of;
     let first = u32::try_from(own.len()).map_err(|_| NoMemory)?;
     let itself = self_type(of);
-    let current = current_type(of, &site.current)?;
-    let seen = Parameters::new(alloc, own)?;
+    let current = or_drop!(current_type(of, &site.current); itself);
+    let seen = or_drop!(Parameters::new(alloc, own); itself, current);
     let unit = WithParameters::new(context, units, first, is_of_sink(of));
     let outside = WithParameters::new(&unit, &seen, 0, false);
     let with_self = WithSelf::new(&unit, &itself, self_standing(of));
     let with_current = WithCurrent::new(&with_self, &current, current_standing(of));
     let around = WithParameters::new(&with_current, &seen, 0, false);
-    inside_of(alloc, &outside, &around, ranks, of, priority, tree)
+    let inside = inside_of(alloc, &outside, &around, ranks, of, priority, tree);
+    drop(seen);
+    drop(current);
+    drop(itself);
+    inside
 }
 
 fn hook_with(site: &Site, each: bool, own: Vec<Parameter>, inside: Inside) -> Hook
@@ -238,7 +248,8 @@ fn hook_of_body<C: Context, R: Ranks>(
         &own,
         &view.priority,
         &view.block,
-    )?;
+    );
+    let inside = or_drop!(inside; own);
     Ok(hook_with(site, view.each, own, inside))
 }
 

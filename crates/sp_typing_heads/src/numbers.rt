@@ -4,7 +4,7 @@ ghost use Rattle.std.specs.Str.{bytes_eq};
 ghost use Rattle.sp_typing_heads.specs.inside.Tables.{told_by, AreNumbered};
 
 use indexmap::IndexMap;
-use sp_base::NoMemory;
+use sp_base::{NoMemory, or_drop};
 use sp_typed_units::Parameter;
 use std::alloc::Global;
 
@@ -58,8 +58,8 @@ pub(crate) fn numbers_of(alloc: Global, parameters: &[Parameter]) -> Result<Numb
     let mut table = Numbers::new(alloc);
     let mut number = 0;
     for i in 0..parameters.len() {
-        table.note(alloc, parameters[i].name.as_str(), number)?;
-        number = sum(number, 1)?;
+        or_drop!(table.note(alloc, parameters[i].name.as_str(), number); table);
+        number = or_drop!(sum(number, 1); table);
     }
     Ok(table)
 }

@@ -6,7 +6,7 @@ ghost use Rattle.sp_typing_heads.specs.Parameters.{parameter_of, parameters_in, 
 
 use crate::numbers::{Numbers, numbers_of, sum};
 use sp_ast::{Members, NameKind, ParameterKind, PathKind, Ref, TypeKind};
-use sp_base::{NoMemory, Span, Text};
+use sp_base::{NoMemory, Span, Text, or_drop};
 use sp_typed::{Expr, Leaf, LeafOp, ManyOp, Standing, Written};
 use sp_typed_units::Parameter;
 use sp_types::Type;
@@ -24,11 +24,15 @@ fn parameter_of<C: Context>(
 ) -> Result<Parameter, NoMemory>
     ensures { IfOk result (λ p. p ≡ parameter_of (C.around context.now) inout name.now tree.now) }
 {
+    let text = Text::new(alloc, name.text())?;
+    let span = name.span();
+    let written = context.written(tree);
+    let ty = or_drop!(context.type_in(alloc, tree); text);
     Ok(Parameter {
-        name: Text::new(alloc, name.text())?,
-        span: name.span(),
-        written: context.written(tree),
-        ty: context.type_in(alloc, tree)?,
+        name: text,
+        span,
+        written,
+        ty,
         inout,
     })
 }
@@ -146,11 +150,15 @@ fn parameter_at(
         ≡ parameter_at span first hides number (slice_get parameters.now number)) }
 {
     match parameters.get(number) {
-        Some(parameter) => Ok(Some(Expr::leaf(Leaf {
-            span,
-            ty: parameter.ty.copy()?,
-            op: LeafOp::Parameter(sum(first, number)?, standing_of(hides, &parameter.ty)),
-        }))),
+        Some(parameter) => {
+            let ty = parameter.ty.copy()?;
+            let place = or_drop!(sum(first, number); ty);
+            Ok(Some(Expr::leaf(Leaf {
+                span,
+                ty,
+                op: LeafOp::Parameter(place, standing_of(hides, &parameter.ty)),
+            })))
+        }
         None => Ok(None),
     }
 }

@@ -7,7 +7,7 @@ ghost use Rattle.sp_typing_hooks.specs.Fields.{nothing_known, field_types, types
 
 use crate::contexts::context_at;
 use sp_ast::{AttributeKind, FieldKind, Members, Ref};
-use sp_base::NoMemory;
+use sp_base::{NoMemory, or_drop};
 use sp_hook_rows::{Holder, Site};
 use sp_operands::first_type;
 use sp_types::{Level, Maker, Type, Word};
@@ -56,7 +56,7 @@ fn types_of<C: Context>(
     }) }
 {
     let element = element_of(read)?;
-    let stored = converted(alloc, context, read, attributes)?;
+    let stored = or_drop!(converted(alloc, context, read, attributes); element);
     Ok(FieldType { stored, element })
 }
 
@@ -72,7 +72,9 @@ fn field_types<C: Context, V: Constants>(
 {
     let view = field.view();
     let read = counted_read(alloc, context, constants, &view.base, &view.counts)?;
-    types_of(alloc, context, &read.ty, &view.attributes)
+    let types = types_of(alloc, context, &read.ty, &view.attributes);
+    drop(read);
+    types
 }
 
 /// The types of a field of a unit.

@@ -9,7 +9,7 @@ ghost use Rattle.sp_typing_hooks.specs.inside.Tables.{seen_told, Tells};
 use crate::contexts::context_at;
 use crate::row::site_of;
 use crate::table::FieldTypes;
-use sp_base::NoMemory;
+use sp_base::{NoMemory, or_drop};
 use sp_hook_rows::HookRow;
 use sp_typed::{Stmt, StmtNode};
 use sp_typed_units::{Hook, HookOf, Row};
@@ -77,10 +77,17 @@ pub fn hook_of<C: Context, R: Ranks>(
 {
     let site = site_of(types, row)?;
     match parameters_at(units, unit_of(row.of)) {
-        Some(parameters) => written_hook(alloc, context, ranks, &site, parameters, row),
+        Some(parameters) => {
+            let hook = written_hook(alloc, context, ranks, &site, parameters, row);
+            drop(site);
+            hook
+        }
         None => {
-            let none = Parameters::new(alloc, &[])?;
-            written_hook(alloc, context, ranks, &site, &none, row)
+            let none = or_drop!(Parameters::new(alloc, &[]); site);
+            let hook = written_hook(alloc, context, ranks, &site, &none, row);
+            drop(none);
+            drop(site);
+            hook
         }
     }
 }
@@ -89,16 +96,26 @@ pub fn hook_of<C: Context, R: Ranks>(
 fn no_hook(alloc: Global, site: Site) -> Result<Hook, NoMemory>
     ensures { IfOk result (λ h. h ≡ no_hook site) }
 {
+    let Site {
+        module,
+        span,
+        of,
+        container,
+        current,
+    } = site;
+    drop(current);
+    let fits = fits(of, false, container, &[]);
+    let body = Stmt::new(StmtNode::Block(Vec::new(alloc)))?;
     Ok(Hook {
-        module: site.module,
-        span: site.span,
-        of: site.of,
-        fits: fits(site.of, false, site.container, &[]),
+        module,
+        span,
+        of,
+        fits,
         parameters: Row::new(alloc),
         priority: None,
         rank: Some(0),
         slots: Row::new(alloc),
-        body: Stmt::new(StmtNode::Block(Vec::new(alloc)))?,
+        body,
     })
 }
 
@@ -135,7 +152,8 @@ fn told_hooks<C: Context, R: Ranks>(
 {
     let mut hooks = Vec::with_capacity(alloc, rows.len())?;
     for i in 0..rows.len() {
-        hooks.push(hook_in(alloc, contexts, ranks, types, units, &rows[i])?)?;
+        let hook = or_drop!(hook_in(alloc, contexts, ranks, types, units, &rows[i]); hooks);
+        or_drop!(hooks.push(hook); hooks);
     }
     Ok(hooks)
 }

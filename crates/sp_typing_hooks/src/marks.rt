@@ -6,7 +6,7 @@ ghost use Rattle.sp_typing_hooks.specs.inside.Tables.{has_mark};
 
 use indexmap::IndexSet;
 use sp_around::Tables;
-use sp_base::NoMemory;
+use sp_base::{NoMemory, or_drop};
 use sp_hook_order::HookKey;
 use sp_hook_rows::{Site, site_key};
 use std::alloc::Global;
@@ -74,7 +74,7 @@ pub(crate) fn asked(alloc: Global, keys: &[Option<HookKey>]) -> Result<Marks, No
 {
     let mut marks = Marks::new(alloc);
     for i in 0..keys.len() {
-        marks.add(mark_of(keys[i]))?;
+        or_drop!(marks.add(mark_of(keys[i])); marks);
     }
     Ok(marks)
 }

@@ -10,7 +10,7 @@ use crate::field::{FieldType, holder_types, holds_container};
 use crate::marks::{Mark, Marks, asked, site_mark};
 use indexmap::IndexMap;
 use sp_around::Tables;
-use sp_base::NoMemory;
+use sp_base::{NoMemory, or_drop};
 use sp_hook_order::HookKey;
 use sp_hook_rows::Site;
 use sp_types::Type;
@@ -45,9 +45,10 @@ impl TypeTable {
             ≡ earlier (type_told self.old x) (if are_same mark x then Some ty else None)) }
     {
         if self.of.contains_key(&mark) {
+            drop(ty);
             return Ok(());
         }
-        self.of.insert(mark, ty)?;
+        drop(self.of.insert(mark, ty)?);
         Ok(())
     }
 }
@@ -122,7 +123,7 @@ fn put_field<C: Context, V: Constants>(
 {
     let types = holder_types(alloc, contexts, constants, site)?;
     let FieldType { stored, element } = types;
-    table.stored.put(mark, stored)?;
+    or_drop!(table.stored.put(mark, stored); element);
     table.put_element(container_mark(site, mark), element)?;
     Ok(())
 }
@@ -221,7 +222,10 @@ impl FieldTypes {
     {
         match mark {
             Some(mark) => self.put_at(mark, ty),
-            None => Ok(()),
+            None => {
+                drop(ty);
+                Ok(())
+            }
         }
     }
 
@@ -240,7 +244,9 @@ impl FieldTypes {
             (V.values constants.now) sites.now)) }
     {
         let wanted = asked(alloc, keys)?;
-        gathered(alloc, tables, sites, &wanted, contexts, constants)
+        let types = gathered(alloc, tables, sites, &wanted, contexts, constants);
+        drop(wanted);
+        types
     }
 
     /// What the first field of a mark stores.

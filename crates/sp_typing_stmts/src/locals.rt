@@ -4,7 +4,7 @@ ghost use Rattle.sp_typing_stmts.specs.Scopes.{found, local};
 ghost use Rattle.sp_typing_stmts.specs.inside.Tables.{names_of, AreOpen};
 
 use indexmap::IndexMap;
-use sp_base::NoMemory;
+use sp_base::{NoMemory, or_drop};
 use sp_types::Type;
 use std::alloc::Global;
 use std::marker::Model;
@@ -124,21 +124,20 @@ fn add(
         ≡ names_of (reverse opened.old.items)) }
     ensures open { AreOpen (reverse opened.new.items) innermost.new }
 {
-    let hidden = innermost.find(name)?;
+    let hidden = or_drop!(innermost.find(name); ty);
     let taken = hidden.is_some();
-    let known = Known {
-        slot,
-        ty: ty.copy()?,
-    };
-    let name_here = String::from_str(alloc, name)?;
-    opened.push(Opened {
+    let ty_here = or_drop!(ty.copy(); hidden, ty);
+    let known = Known { slot, ty: ty_here };
+    let name_here = or_drop!(String::from_str(alloc, name); hidden, known, ty);
+    let last = Opened {
         name: name_here,
         slot,
         ty,
         hidden,
-    })?;
+    };
+    or_drop!(opened.push(last); known);
     if innermost.note(alloc, name, known).is_err() {
-        opened.pop();
+        drop(opened.pop());
         return Err(NoMemory);
     }
     Ok(taken)

@@ -4,7 +4,7 @@ ghost use Rattle.sp_typed.specs.Exprs.{three, exprs};
 ghost use Rattle.sp_typing_stmts.specs.Owners.{is_at_hand, is_changeable, is_index, owner, owner_slot, with_owner, receiver_owner, changed_owner, with_slot_of, many_kept, kept, all_kept};
 
 use crate::scope::Scope;
-use sp_base::NoMemory;
+use sp_base::{NoMemory, or_drop};
 use sp_typed::{Expr, ExprLevel, ExprParts, LeafOp, Many, ManyOp, OneOp, Three, TwoOp};
 use sp_types::Type;
 use std::alloc::Global;
@@ -109,8 +109,8 @@ fn many_kept(scope: &mut Scope, head: Many, parts: Vec<Expr>) -> Result<Expr, No
     ensures scope { OnOk result (scope.new ≡ (many_kept scope.old head
         (changed_owner head.op parts.items) parts.items).1) }
 {
-    let owner = changed_owner(&head.op, &parts)?;
-    let slot = keep_owner(scope, owner)?;
+    let owner = or_drop!(changed_owner(&head.op, &parts); head, parts);
+    let slot = or_drop!(keep_owner(scope, owner); head, parts);
     let op = with_slot_of(head.op, slot);
     Expr::many(
         Many {
@@ -142,8 +142,8 @@ fn both_kept(alloc: Global, scope: &mut Scope, a: Expr, b: Expr) -> Result<(Expr
         × (r.1 ≡ (kept (kept scope.old a).1 b).0)) }
     ensures scope { OnOk result (scope.new ≡ (kept (kept scope.old a).1 b).1) }
 {
-    let a = keep_owners(alloc, scope, a)?;
-    let b = keep_owners(alloc, scope, b)?;
+    let a = or_drop!(keep_owners(alloc, scope, a); b);
+    let b = or_drop!(keep_owners(alloc, scope, b); a);
     Ok((a, b))
 }
 
@@ -160,8 +160,8 @@ fn three_kept(
     ensures expr { IfOk result (λ r. r ≡ (kept scope.old (three head a b c)).0) }
     ensures scope { OnOk result (scope.new ≡ (kept scope.old (three head a b c)).1) }
 {
-    let a = keep_owners(alloc, scope, a)?;
-    let (b, c) = both_kept(alloc, scope, b, c)?;
+    let a = or_drop!(keep_owners(alloc, scope, a); head, b, c);
+    let (b, c) = or_drop!(both_kept(alloc, scope, b, c); head, a);
     Expr::three(alloc, head, a, b, c)
 }
 
@@ -174,16 +174,16 @@ pub fn keep_owners(alloc: Global, scope: &mut Scope, e: Expr) -> Result<Expr, No
     match e.into_parts() {
         ExprParts::Leaf(head) => Ok(Expr::leaf(head)),
         ExprParts::One(head, a) => {
-            let a = keep_owners(alloc, scope, a)?;
+            let a = or_drop!(keep_owners(alloc, scope, a); head);
             Expr::one(alloc, head, a)
         }
         ExprParts::Two(head, a, b) => {
-            let (a, b) = both_kept(alloc, scope, a, b)?;
+            let (a, b) = or_drop!(both_kept(alloc, scope, a, b); head);
             Expr::two(alloc, head, a, b)
         }
         ExprParts::Three(head, a, b, c) => three_kept(alloc, scope, head, a, b, c),
         ExprParts::Many(head, parts) => {
-            let parts = all_kept(alloc, scope, parts)?;
+            let parts = or_drop!(all_kept(alloc, scope, parts); head);
             many_kept(scope, head, parts)
         }
     }

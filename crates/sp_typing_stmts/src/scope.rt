@@ -1,6 +1,6 @@
 // What is open at a statement, and the slots of its body so far.
 use crate::locals::Locals;
-use sp_base::NoMemory;
+use sp_base::{NoMemory, or_drop};
 use sp_types::Type;
 use std::alloc::Global;
 use std::marker::Model;
@@ -78,7 +78,7 @@ impl Scope {
         ensures slot { IfOk result (λ n. n ≡ length self.old.slots) }
         ensures scope { OnOk result (self.new ≡ with_slot self.old ty) }
     {
-        let slot = self.next()?;
+        let slot = or_drop!(self.next(); ty);
         self.slots.push(ty)?;
         Ok(slot)
     }
@@ -89,8 +89,9 @@ impl Scope {
         ensures taken { IfOk result (λ r. r.1 ≡ is_some (found name.now self.old.locals)) }
         ensures scope { OnOk result (self.new ≡ with_local self.old name.now ty) }
     {
-        let slot = self.next()?;
-        self.slots.push(ty.copy()?)?;
+        let slot = or_drop!(self.next(); ty);
+        let kept = or_drop!(ty.copy(); ty);
+        or_drop!(self.slots.push(kept); ty);
         let taken = self.locals.open(alloc, name, slot, ty)?;
         Ok((slot, taken))
     }

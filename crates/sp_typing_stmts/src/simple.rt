@@ -13,7 +13,7 @@ use crate::owners::keep_owner_of;
 use crate::scope::Scope;
 use crate::values::value_in;
 use sp_ast::{ExprKind, NameKind, Ref, StringKind, TypeKind};
-use sp_base::{NoMemory, Span, Text};
+use sp_base::{NoMemory, Span, Text, or_drop};
 use sp_numbers::Width;
 use sp_operands::{first_type, seen};
 use sp_typed::{Assign, Bare, BareOp, Expr, For, Local, Stmt, StmtNode, Valued, ValuedOp, Written};
@@ -72,7 +72,10 @@ fn type_or(written: &Option<Type>, other: Type) -> Result<Type, NoMemory>
     ensures { IfOk result (λ t. t ≡ type_or written.now other) }
 {
     match written {
-        Some(ty) => ty.copy(),
+        Some(ty) => {
+            drop(other);
+            ty.copy()
+        }
         None => Ok(other),
     }
 }
@@ -88,7 +91,8 @@ fn declare(
     ensures local { IfOk result (λ l. l ≡ declared scope.old name.now ty written) }
     ensures scope { OnOk result (scope.new ≡ after_local scope.old name.now ty) }
 {
-    let (slot, taken) = scope.open(alloc, name.text(), ty.copy()?)?;
+    let kept = or_drop!(ty.copy(); ty);
+    let (slot, taken) = or_drop!(scope.open(alloc, name.text(), kept); ty);
     Ok(Local {
         slot,
         name: name.span(),
@@ -108,7 +112,8 @@ pub fn loop_head(
     ensures head { IfOk result (λ h. h ≡ loop_head scope.old name.now ty) }
     ensures scope { OnOk result (scope.new ≡ after_local scope.old name.now ty) }
 {
-    let (slot, taken) = scope.open(alloc, name.text(), ty.copy()?)?;
+    let kept = or_drop!(ty.copy(); ty);
+    let (slot, taken) = or_drop!(scope.open(alloc, name.text(), kept); ty);
     Ok(For {
         slot,
         name: name.span(),
@@ -157,8 +162,10 @@ fn local_with(
     ensures scope { OnOk result (scope.new
         ≡ (local_with scope.old span name.now ty written e).1) }
 {
-    let local = declare_for(alloc, scope, name, &ty, written, &e)?;
-    let value = to_maybe(alloc, &ty, e)?;
+    let local = or_drop!(declare_for(alloc, scope, name, &ty, written, &e); ty, e);
+    let value = to_maybe(alloc, &ty, e);
+    drop(ty);
+    let value = or_drop!(value; local);
     valued_at(span, ValuedOp::Local(local), value)
 }
 
@@ -174,8 +181,9 @@ fn local_without(
     ensures scope { OnOk result (scope.new
         ≡ (local_without scope.old span name.now ty written).1) }
 {
-    let ty = type_or(&ty, Type::word(Word::Unknown))?;
-    let local = declare(alloc, scope, name, ty, written)?;
+    let declared = type_or(&ty, Type::word(Word::Unknown));
+    drop(ty);
+    let local = declare(alloc, scope, name, declared?, written)?;
     bare_at(span, BareOp::Local(local))
 }
 
@@ -200,7 +208,7 @@ pub fn local_in<C: Context>(
     match value {
         Some(value) => {
             value.is_sound();
-            let e = value_in(alloc, context, scope, value)?;
+            let e = or_drop!(value_in(alloc, context, scope, value); ty);
             local_with(alloc, scope, span, name, ty, written, e)
         }
         None => local_without(alloc, scope, span, name, ty, written),
@@ -298,7 +306,7 @@ pub fn add_in<C: Context>(
         ≡ (add_in (C.around context.now) scope.old span target.now).1) }
 {
     let e = value_in(alloc, context, scope, target)?;
-    let slot = keep_owner_of(scope, &e)?;
+    let slot = or_drop!(keep_owner_of(scope, &e); e);
     valued_at(span, ValuedOp::Add(slot), e)
 }
 
@@ -316,7 +324,7 @@ pub fn delete_in<C: Context>(
         ≡ (delete_in (C.around context.now) scope.old span target.now).1) }
 {
     let e = value_in(alloc, context, scope, target)?;
-    let slot = keep_owner_of(scope, &e)?;
+    let slot = or_drop!(keep_owner_of(scope, &e); e);
     valued_at(span, ValuedOp::Delete(slot), e)
 }
 
@@ -324,7 +332,10 @@ pub fn delete_in<C: Context>(
 fn sent_to(alloc: Global, target: &Expr, e: Expr) -> Result<Expr, NoMemory>
     ensures { IfOk result (λ v. v ≡ to_target (seen target.now) e) }
 {
-    to_target(alloc, &seen(target)?, e)
+    let to = or_drop!(seen(target); e);
+    let sent = to_target(alloc, &to, e);
+    drop(to);
+    sent
 }
 
 fn assigned(
@@ -337,8 +348,8 @@ fn assigned(
     ensures stmt { IfOk result (λ s. s ≡ (assigned scope.old op target e).0) }
     ensures scope { OnOk result (scope.new ≡ (assigned scope.old op target e).1) }
 {
-    let value = sent_to(alloc, &target, e)?;
-    let slot = keep_owner_of(scope, &target)?;
+    let value = or_drop!(sent_to(alloc, &target, e); target);
+    let slot = or_drop!(keep_owner_of(scope, &target); target, value);
     Stmt::new(StmtNode::Assign(Assign { op, owner: slot }, target, value))
 }
 
@@ -357,6 +368,6 @@ pub fn assign_in<C: Context>(
         target.now value.now).1) }
 {
     let target = value_in(alloc, context, scope, target)?;
-    let e = value_in(alloc, context, scope, value)?;
+    let e = or_drop!(value_in(alloc, context, scope, value); target);
     assigned(alloc, scope, op, target, e)
 }

@@ -12,7 +12,7 @@ use crate::current::WithCurrent;
 use crate::optional::is_present;
 use crate::roles::{Kind, Role, role_of};
 use sp_ast::{AttributeKind, ExprKind, Members, Ref};
-use sp_base::{ByteList, NoMemory, Span};
+use sp_base::{ByteList, NoMemory, Span, or_drop};
 use sp_operands::{first_type, seen};
 use sp_typed::{Expr, Standing};
 use sp_typed_units::Attribute;
@@ -66,9 +66,17 @@ fn value_typed<C: Context>(
     match role {
         Role::Conversion => typed_with(alloc, context, &site.read, tree),
         Role::Requirement => typed_with(alloc, context, &site.stored, tree),
-        Role::Test => typed_with(alloc, context, &element_of(&site.read)?, tree),
+        Role::Test => {
+            let element = element_of(&site.read)?;
+            let value = typed_with(alloc, context, &element, tree);
+            drop(element);
+            value
+        }
         Role::Unasked | Role::Alone => {
-            typed_with(alloc, context, &Type::word(Word::Unknown), tree)
+            let unknown = Type::word(Word::Unknown);
+            let value = typed_with(alloc, context, &unknown, tree);
+            drop(unknown);
+            value
         }
         Role::Default => to_target(alloc, &site.stored, typed(alloc, context, tree)?),
         Role::Amount | Role::Delimiter | Role::Order | Role::Source | Role::Place => {
@@ -131,8 +139,8 @@ fn attribute_with<V: Constants>(
 ) -> Result<Attribute, NoMemory>
     ensures { IfOk result (λ a. a ≡ attribute_with (V.values constants.now) role span name value) }
 {
-    let number = order_number(alloc, constants, role, &value)?;
-    let bytes = delimiter_bytes(alloc, constants, role, &value)?;
+    let number = or_drop!(order_number(alloc, constants, role, &value); value);
+    let bytes = or_drop!(delimiter_bytes(alloc, constants, role, &value); value);
     Ok(Attribute {
         span,
         name,
@@ -225,7 +233,12 @@ pub fn converted<C: Context>(
         (conversion (trees list.now))) }
 {
     match conversion(list) {
-        Some(tree) => seen(&typed_with(alloc, context, read, &tree)?),
+        Some(tree) => {
+            let e = typed_with(alloc, context, read, &tree)?;
+            let ty = seen(&e);
+            drop(e);
+            ty
+        }
         None => read.copy(),
     }
 }
@@ -252,11 +265,17 @@ pub(crate) fn stored_by<C: Context, V: Constants>(
         (V.values constants.now) (record { kind = kind; read = read; stored = s.ty })
         (trees list.now)) }
 {
-    let stored = converted(alloc, context, &read, list)?;
+    let stored = or_drop!(converted(alloc, context, &read, list); read);
     let site = Site { kind, read, stored };
-    let attributes = attributes_of(alloc, context, constants, &site, list)?;
+    let attributes = or_drop!(attributes_of(alloc, context, constants, &site, list); site);
+    let Site {
+        kind: _,
+        read,
+        stored,
+    } = site;
+    drop(read);
     Ok(Stored {
-        ty: site.stored,
+        ty: stored,
         attributes,
     })
 }

@@ -14,7 +14,7 @@ use sp_ast::{
     ArmKind, AttributeKind, BodyKind, BodyView, ExprKind, FieldKind, FieldView, GuardKind,
     GuardView, Members, NameKind, PartKind, PartView, Ref,
 };
-use sp_base::{NoMemory, Span};
+use sp_base::{NoMemory, Span, or_drop};
 use sp_operands::{seen, taken};
 use sp_typed::Expr;
 use sp_typed_units::{Arm, Field, Part, PartNode, Row};
@@ -90,8 +90,8 @@ fn guards_of<C: Context, F: FieldTable>(
     ensures hooks { IfOk result (λ x. x.hooks ≡ (F.fields table.now).hooks place) }
 {
     let condition = maybe_typed(alloc, context, &view.condition)?;
-    let sink = maybe_typed(alloc, context, &view.sink)?;
-    let hooks = table.hooks(alloc, place)?;
+    let sink = or_drop!(maybe_typed(alloc, context, &view.sink); condition);
+    let hooks = or_drop!(table.hooks(alloc, place); condition, sink);
     Ok(Guards {
         condition,
         sink,
@@ -114,9 +114,12 @@ fn field_of<C: Context, V: Constants, F: FieldTable>(
         view.now.condition view.now.sink) }
 {
     let place = field_place(span, &view.name);
-    let guards = guards_of(alloc, context, table, place, view)?;
+    let guards = or_drop!(guards_of(alloc, context, table, place, view); read);
     let Read { spec, ty, kind } = read;
-    let stored = stored_by(alloc, context, constants, kind, ty, &view.attributes)?;
+    let stored = or_drop!(
+        stored_by(alloc, context, constants, kind, ty, &view.attributes);
+        guards, spec
+    );
     Ok(Field {
         span: place,
         member: member_number(table, &view.name),
@@ -164,7 +167,12 @@ fn settled_to(alloc: Global, subject: &Option<Expr>, list: Vec<Expr>) -> Result<
     ensures { IfOk result (λ r. r.items ≡ settled_to subject.now list.items) }
 {
     match subject {
-        Some(e) => all_taken(alloc, &seen(e)?, list),
+        Some(e) => {
+            let to = or_drop!(seen(e); list);
+            let all = all_taken(alloc, &to, list);
+            drop(to);
+            all
+        }
         None => Ok(list),
     }
 }
@@ -214,7 +222,8 @@ pub fn parts_of<C: Context, V: Constants, F: FieldTable>(
 {
     let mut all = Vec::new(alloc);
     for part in list.again() {
-        all.push(part_of(alloc, context, constants, table, &part)?)?;
+        let typed = or_drop!(part_of(alloc, context, constants, table, &part); all);
+        or_drop!(all.push(typed); all);
     }
     Ok(all)
 }
@@ -235,7 +244,8 @@ fn body_of<C: Context, V: Constants, F: FieldTable>(
         BodyView::Nothing => Ok(Vec::new(alloc)),
         BodyView::One(part) => {
             let mut all = Vec::with_capacity(alloc, 1)?;
-            all.push(part_of(alloc, context, constants, table, &part)?)?;
+            let only = or_drop!(part_of(alloc, context, constants, table, &part); all);
+            or_drop!(all.push(only); all);
             Ok(all)
         }
         BodyView::Many(list) => parts_of(alloc, context, constants, table, &list),
@@ -286,7 +296,10 @@ pub fn part_of<C: Context, V: Constants, F: FieldTable>(
         PartView::Switch { subject, arms } => {
             is_present(&subject);
             let subject = maybe_typed(alloc, context, &subject)?;
-            let rows = arms_of(alloc, context, constants, table, &subject, &arms)?;
+            let rows = or_drop!(
+                arms_of(alloc, context, constants, table, &subject, &arms);
+                subject
+            );
             Ok(Part::new(PartNode::Switch(span, subject, rows)))
         }
     }

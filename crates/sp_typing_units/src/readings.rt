@@ -7,7 +7,7 @@ ghost use Rattle.sp_typing.specs.Typing.{int_word, to_maybe};
 ghost use Rattle.sp_typed_units.specs.Specs.{list_read, group_read};
 ghost use Rattle.sp_typing_units.specs.Readings.{fine, unnamed, misplaced, simple, broken, decoder, literal, or_empty, constant_read, constant_of_type, named_op, named_read, unit_spec, word_read, unknown_read, type_read, arguments, in_vain, with_arguments, called_word, called_op, called, vector_of, counting, container, contained, group_with, group_of, base_read, counted_read};
 
-use crate::attributes::stored_by;
+use crate::attributes::{Stored, stored_by};
 use crate::constants::Constants;
 use crate::optional::{is_present, maybe_typed};
 use crate::roles::{Kind, grouped};
@@ -15,7 +15,7 @@ use sp_ast::{
     AttributeKind, BaseKind, BaseView, CountKind, ExprKind, Members, PathKind, Ref, TypeKind,
     TypeView,
 };
-use sp_base::{ByteList, NoMemory, Span, Text};
+use sp_base::{ByteList, NoMemory, Span, Text, or_drop};
 use sp_numbers::Width;
 use sp_typed::{Expr, ExprLevel, LeafOp, ManyOp, NewOf, Written};
 use sp_typed_units::{Attribute, ReadOp, Reading, Spec, SpecNode, TokenOp, UnitOf};
@@ -67,12 +67,13 @@ fn misplaced(at: Span, place: Span) -> Written
 fn simple(at: Span, ty: Type, kind: Kind, op: ReadOp) -> Result<Read, NoMemory>
     ensures { IfOk result (λ r. r ≡ simple at ty kind op) }
 {
+    let own = or_drop!(ty.copy(); ty, op);
     let reading = Reading {
         span: at,
-        ty: ty.copy()?,
+        ty: own,
         op,
     };
-    let spec = Spec::new(SpecNode::Read(reading))?;
+    let spec = or_drop!(Spec::new(SpecNode::Read(reading)); ty);
     Ok(Read { spec, ty, kind })
 }
 
@@ -192,9 +193,18 @@ fn word_read(alloc: Global, at: Span, word: Word) -> Result<Read, NoMemory>
         Word::Bitfield(n) => simple(at, ty, Kind::Bitfield, ReadOp::Bits(n)),
         Word::Bytes => simple(at, ty, Kind::Bytes, ReadOp::Bytes),
         Word::Void => simple(at, ty, Kind::Void, ReadOp::Void),
-        Word::Unit(n) => unit_spec(at, n, Vec::new(alloc)),
-        Word::Decoder => decoder(at),
-        _ => broken(at, misplaced(at, at)),
+        Word::Unit(n) => {
+            drop(ty);
+            unit_spec(at, n, Vec::new(alloc))
+        }
+        Word::Decoder => {
+            drop(ty);
+            decoder(at)
+        }
+        _ => {
+            drop(ty);
+            broken(at, misplaced(at, at))
+        }
     }
 }
 
@@ -212,7 +222,9 @@ fn unknown_read<C: Context, V: Constants>(
     match tree.view() {
         TypeView::Path(path) => {
             let e = context.named(alloc, path.span(), &path)?;
-            named_read(alloc, constants, at, &e)
+            let read = named_read(alloc, constants, at, &e);
+            drop(e);
+            read
         }
         _ => broken(at, misplaced(at, at)),
     }
@@ -231,9 +243,18 @@ fn type_read<C: Context, V: Constants>(
 {
     let ty = context.type_in(alloc, tree)?;
     match ty.level() {
-        Level::Word(Word::Unknown) => unknown_read(alloc, context, constants, at, tree),
-        Level::Word(word) => word_read(alloc, at, word),
-        Level::Made(..) => broken(at, misplaced(at, at)),
+        Level::Word(Word::Unknown) => {
+            drop(ty);
+            unknown_read(alloc, context, constants, at, tree)
+        }
+        Level::Word(word) => {
+            drop(ty);
+            word_read(alloc, at, word)
+        }
+        Level::Made(..) => {
+            drop(ty);
+            broken(at, misplaced(at, at))
+        }
     }
 }
 
@@ -248,8 +269,13 @@ fn argument<C: Context>(
     ensures { IfOk result (λ r. r ≡ to_maybe ((C.around context.now).target op.now unknown number)
         e) }
 {
-    let to = context.target(op, &Type::word(Word::Unknown), number)?;
-    to_maybe(alloc, &to, e)
+    let unknown = Type::word(Word::Unknown);
+    let to = context.target(op, &unknown, number);
+    drop(unknown);
+    let to = or_drop!(to; e);
+    let sent = to_maybe(alloc, &to, e);
+    drop(to);
+    sent
 }
 
 /// The arguments of a unit, each as it goes to its parameter.
@@ -302,7 +328,7 @@ fn group_spec(
 ) -> Result<Spec, NoMemory>
     ensures { IfOk result (λ s. s ≡ group_read at inner attributes.items) }
 {
-    let inner = Box::new(alloc, inner)?;
+    let inner = or_drop!(Box::new(alloc, inner); attributes);
     Spec::new(SpecNode::Group(at, inner, attributes))
 }
 
@@ -310,9 +336,9 @@ fn group_spec(
 fn with_arguments(alloc: Global, at: Span, list: Vec<Expr>, called: Read) -> Result<Read, NoMemory>
     ensures { IfOk result (λ r. r ≡ with_arguments at list.items called) }
 {
-    let arguments = all_in_vain(alloc, list)?;
+    let arguments = or_drop!(all_in_vain(alloc, list); called);
     let Read { spec, ty, kind } = called;
-    let spec = group_spec(alloc, at, spec, arguments)?;
+    let spec = or_drop!(group_spec(alloc, at, spec, arguments); ty);
     Ok(Read { spec, ty, kind })
 }
 
@@ -328,9 +354,18 @@ fn called_word<C: Context>(
 {
     match word {
         Word::Unit(n) => unit_spec(at, n, arguments(alloc, context, n, path, list)?),
-        Word::Unknown => with_arguments(alloc, at, list, broken(at, fine(at))?),
-        Word::Decoder => with_arguments(alloc, at, list, decoder(at)?),
-        _ => with_arguments(alloc, at, list, broken(at, misplaced(at, path))?),
+        Word::Unknown => {
+            let read = or_drop!(broken(at, fine(at)); list);
+            with_arguments(alloc, at, list, read)
+        }
+        Word::Decoder => {
+            let read = or_drop!(decoder(at); list);
+            with_arguments(alloc, at, list, read)
+        }
+        _ => {
+            let read = or_drop!(broken(at, misplaced(at, path)); list);
+            with_arguments(alloc, at, list, read)
+        }
     }
 }
 
@@ -348,13 +383,23 @@ fn called<C: Context>(
     match callee.level() {
         ExprLevel::Leaf(head) => match &head.op {
             LeafOp::TypeName(word) => called_word(alloc, context, at, path, *word, list),
-            LeafOp::Decoder => with_arguments(alloc, at, list, decoder(at)?),
-            LeafOp::Nothing(name) => {
-                with_arguments(alloc, at, list, broken(at, unnamed(at, *name))?)
+            LeafOp::Decoder => {
+                let read = or_drop!(decoder(at); list);
+                with_arguments(alloc, at, list, read)
             }
-            _ => with_arguments(alloc, at, list, broken(at, misplaced(at, path))?),
+            LeafOp::Nothing(name) => {
+                let read = or_drop!(broken(at, unnamed(at, *name)); list);
+                with_arguments(alloc, at, list, read)
+            }
+            _ => {
+                let read = or_drop!(broken(at, misplaced(at, path)); list);
+                with_arguments(alloc, at, list, read)
+            }
         },
-        _ => with_arguments(alloc, at, list, broken(at, misplaced(at, path))?),
+        _ => {
+            let read = or_drop!(broken(at, misplaced(at, path)); list);
+            with_arguments(alloc, at, list, read)
+        }
     }
 }
 
@@ -362,7 +407,8 @@ fn vector_of(alloc: Global, element: &Type) -> Result<Type, NoMemory>
     ensures { IfOk result (λ t. t ≡ vector_of element.now) }
 {
     let mut parts = Vec::with_capacity(alloc, 1)?;
-    parts.push(element.copy()?)?;
+    let part = or_drop!(element.copy(); parts);
+    or_drop!(parts.push(part); parts);
     Type::made(alloc, Maker::Vector, parts)
 }
 
@@ -378,7 +424,7 @@ fn counting(count: &Option<Ref<'_, ExprKind>>) -> Kind
 fn list_spec(alloc: Global, at: Span, element: Spec, number: Option<Expr>) -> Result<Spec, NoMemory>
     ensures { IfOk result (λ s. s ≡ list_read at element number) }
 {
-    let inner = Box::new(alloc, element)?;
+    let inner = or_drop!(Box::new(alloc, element); number);
     Spec::new(SpecNode::List(at, inner, number))
 }
 
@@ -397,9 +443,15 @@ fn container<C: Context>(
         from: at.from,
         to: last.to,
     };
-    let number = maybe_typed(alloc, context, count)?;
-    let ty = vector_of(alloc, &element.ty)?;
-    let spec = list_spec(alloc, span, element.spec, number)?;
+    let number = or_drop!(maybe_typed(alloc, context, count); element);
+    let ty = or_drop!(vector_of(alloc, &element.ty); element, number);
+    let Read {
+        spec: inner,
+        ty: of,
+        kind: _,
+    } = element;
+    drop(of);
+    let spec = or_drop!(list_spec(alloc, span, inner, number); ty);
     Ok(Read {
         spec,
         ty,
@@ -439,11 +491,12 @@ fn group_of<C: Context, V: Constants>(
         (trees list.now) inner) }
 {
     let Read { spec, ty, kind } = inner;
-    let stored = stored_by(alloc, context, constants, kind, ty, list)?;
-    let spec = group_spec(alloc, at, spec, stored.attributes)?;
+    let stored = or_drop!(stored_by(alloc, context, constants, kind, ty, list); spec);
+    let Stored { ty, attributes } = stored;
+    let spec = or_drop!(group_spec(alloc, at, spec, attributes); ty);
     Ok(Read {
         spec,
-        ty: stored.ty,
+        ty,
         kind: grouped(kind),
     })
 }
@@ -477,20 +530,38 @@ fn base_read<C: Context, V: Constants>(
 {
     let at = base.span();
     match base.view() {
-        BaseView::Type(tree) => type_read(alloc, context, constants, at, &tree),
+        BaseView::Type(tree) => {
+            let read = type_read(alloc, context, constants, at, &tree);
+            drop(tree);
+            read
+        }
         BaseView::Unit { path, arguments } => {
-            let callee = context.named(alloc, path.span(), &path)?;
-            let list = typed_all(alloc, context, &arguments)?;
-            called(alloc, context, at, path.span(), &callee, list)
+            let callee = or_drop!(context.named(alloc, path.span(), &path); path, arguments);
+            let list = or_drop!(typed_all(alloc, context, &arguments); path, arguments, callee);
+            drop(arguments);
+            let read = called(alloc, context, at, path.span(), &callee, list);
+            drop(callee);
+            drop(path);
+            read
         }
         BaseView::Group {
             base,
             counts,
             attributes,
         } => {
-            let inner = base_read(alloc, context, constants, &base)?;
-            let inner = contained(alloc, context, base.span(), &counts, inner)?;
-            group_of(alloc, context, constants, at, &attributes, inner)
+            let inner = or_drop!(
+                base_read(alloc, context, constants, &base);
+                base,
+                counts,
+                attributes
+            );
+            let inner = contained(alloc, context, base.span(), &counts, inner);
+            drop(base);
+            drop(counts);
+            let inner = or_drop!(inner; attributes);
+            let read = group_of(alloc, context, constants, at, &attributes, inner);
+            drop(attributes);
+            read
         }
         BaseView::Bytes(bytes) => {
             let token = TokenOp::Bytes(ByteList::from_slice(alloc, bytes)?);

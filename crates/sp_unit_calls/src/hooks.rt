@@ -6,7 +6,7 @@ ghost use Rattle.sp_unit_calls.specs.inside.Units.{has_told};
 use crate::exprs::option_calls;
 use crate::stmts::stmt_calls;
 use indexmap::IndexSet;
-use sp_base::NoMemory;
+use sp_base::{NoMemory, or_drop};
 use sp_typed::UnitMethod;
 use sp_typed_units::{Hook, HookOf};
 use std::alloc::Global;
@@ -76,7 +76,7 @@ fn set_of(alloc: Global, units: &[u32]) -> Result<UnitSet, NoMemory>
         units: IndexSet::new(alloc),
     };
     for i in 0..units.len() {
-        add(&mut set, units[i])?;
+        or_drop!(add(&mut set, units[i]); set);
     }
     Ok(set)
 }

@@ -10,7 +10,7 @@ ghost use Rattle.sp_unit_rows.specs.inside.Shown.{shown};
 use crate::known::UnitRows;
 use crate::members::{MemberTable, member_number, member_table};
 use sp_ast::{Ref, UnitKind};
-use sp_base::{NoMemory, Span};
+use sp_base::{NoMemory, Span, or_drop};
 use sp_field_tables::{Places, UnitNames, taken_places};
 use sp_hook_order::{HookKey, HookTable};
 use sp_typed_units::Row;
@@ -112,7 +112,7 @@ pub(crate) fn unit_fields<'a, C: Context, V: Constants>(
         (C.around context.now) (V.values constants.now)) tree.now) }
 {
     let places = places_of(alloc, rows, context, constants, unit, tree)?;
-    let members = member_table(alloc, tree)?;
+    let members = or_drop!(member_table(alloc, tree); places);
     Ok(UnitFields {
         rows,
         unit,

@@ -7,7 +7,7 @@ ghost use Rattle.sp_unit_rows.specs.Items.{brought, variable_of, variable_in, va
 
 use crate::tell::is_present;
 use sp_ast::{ExprKind, ItemKind, ItemView, Members, NameKind, PathKind, Ref, TypeKind};
-use sp_base::NoMemory;
+use sp_base::{NoMemory, or_drop};
 use sp_typed::Expr;
 use sp_typed_units::{OrderProperty, Part, Sink, Variable};
 use sp_types::Type;
@@ -43,7 +43,9 @@ fn variable_of<C: Context, F: FieldTable>(
         name.now tree.now value.now) }
 {
     let to = context.type_in(alloc, tree)?;
-    let value = brought(alloc, context, &to, value)?;
+    let value = brought(alloc, context, &to, value);
+    drop(to);
+    let value = value?;
     Ok(Variable {
         member: table.number(name.text()),
         span: name.span(),
@@ -85,7 +87,7 @@ pub(crate) fn variables_in<C: Context, F: FieldTable>(
 {
     let mut all = Vec::new(alloc);
     for item in items.again() {
-        add_variable(alloc, context, table, &mut all, &item)?;
+        or_drop!(add_variable(alloc, context, table, &mut all, &item); all);
     }
     Ok(all)
 }
@@ -143,7 +145,7 @@ fn order_of<C: Context, V: Constants>(
         ((C.around context.now).path (span_of path.now) path.now)) }
 {
     let value = context.path(alloc, path.span(), path)?;
-    let number = constants.number(alloc, &value)?;
+    let number = or_drop!(constants.number(alloc, &value); value);
     Ok(OrderProperty {
         module,
         value,
@@ -184,7 +186,7 @@ pub(crate) fn orders_in<C: Context, V: Constants>(
 {
     let mut all = Vec::new(alloc);
     for item in items.again() {
-        add_order(alloc, context, constants, module, &mut all, &item)?;
+        or_drop!(add_order(alloc, context, constants, module, &mut all, &item); all);
     }
     Ok(all)
 }
@@ -222,7 +224,7 @@ pub(crate) fn parts_in<C: Context, V: Constants, F: FieldTable>(
 {
     let mut all = Vec::new(alloc);
     for item in items.again() {
-        add_part(alloc, context, constants, table, &mut all, &item)?;
+        or_drop!(add_part(alloc, context, constants, table, &mut all, &item); all);
     }
     Ok(all)
 }

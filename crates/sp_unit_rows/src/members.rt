@@ -14,7 +14,7 @@ use crate::named::{Named, add_items};
 use crate::numbers::{Numbers, declare, look_up, number};
 use sp_around::Tables;
 use sp_ast::{Ref, UnitKind};
-use sp_base::{NoMemory, Text};
+use sp_base::{NoMemory, Text, or_drop};
 use sp_typed_units::Member;
 use sp_types::{Type, Word};
 use std::alloc::Global;
@@ -109,8 +109,9 @@ fn member_row(
         (unit_members tables.now.0 unit) (shown_one named.entry)) }
 {
     let ty = member_type(tables, stored, unit, named.name)?;
+    let name = or_drop!(Text::new(alloc, named.name); ty);
     Ok(Member {
-        name: Text::new(alloc, named.name)?,
+        name,
         kind: named.kind,
         ty,
     })
@@ -129,7 +130,8 @@ fn rows_by(
 {
     let mut all = Vec::with_capacity(alloc, rows.len())?;
     for named in rows {
-        all.push(member_row(alloc, tables, stored, unit, *named)?)?;
+        let row = or_drop!(member_row(alloc, tables, stored, unit, *named); all);
+        or_drop!(all.push(row); all);
     }
     Ok(all)
 }

@@ -10,7 +10,7 @@ ghost use Rattle.sp_typing_units.specs.Attributes.{present};
 ghost use Rattle.sp_unit_rows.specs.UnitRows.{type_name, is_public};
 
 use sp_ast::{DeclKind, DeclView, Kind, Module, Ref, TypeKind, TypeView, UnitKind};
-use sp_base::{NoMemory, Span, Text};
+use sp_base::{NoMemory, Span, Text, or_drop};
 use sp_names::{Declaration, Names};
 use std::alloc::Global;
 
@@ -109,9 +109,9 @@ fn path_of(alloc: Global, owner: &str, name: &str) -> Result<Text, NoMemory>
     ensures { IfOk result (λ t. t ≡ path_of owner.now name.now) }
 {
     let mut text = String::from_str(alloc, owner)?;
-    text.push_str("::")?;
-    text.push_str(name)?;
-    Ok(Text::from_string(text))
+    or_drop!(text.push_str("::"); text);
+    or_drop!(text.push_str(name); text);
+    Text::from_string(text)
 }
 
 /// What a declaration says of its unit.

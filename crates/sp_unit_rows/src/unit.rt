@@ -15,7 +15,7 @@ use crate::known::UnitRows;
 use crate::members::member_rows;
 use crate::tell::{Head, declaration_at, head_of, unit_in};
 use sp_ast::{ItemKind, Members, Ref, UnitKind};
-use sp_base::{NoMemory, Span, Text};
+use sp_base::{NoMemory, Span, Text, or_drop};
 use sp_names::{Declaration, Names};
 use sp_typed::{Standing, UnitMethod};
 use sp_typed_units::{Member, OrderProperty, Parameter, Part, Row, Sink, Unit, Variable};
@@ -66,9 +66,15 @@ fn items_of<C: Context, V: Constants, F: FieldTable>(
         (F.fields table.now) calls «module» (trees items.now)) }
 {
     let variables = variables_in(alloc, context, table, items)?;
-    let sinks = sinks_in(alloc, table, items)?;
-    let orders = orders_in(alloc, context, constants, module, items)?;
-    let parts = parts_in(alloc, context, constants, table, items)?;
+    let sinks = or_drop!(sinks_in(alloc, table, items); variables);
+    let orders = or_drop!(
+        orders_in(alloc, context, constants, module, items);
+        variables, sinks
+    );
+    let parts = or_drop!(
+        parts_in(alloc, context, constants, table, items);
+        variables, sinks, orders
+    );
     let uses_input = calls_method(UnitMethod::Input, calls.input, &variables, &parts);
     let connects_filter = calls_method(
         UnitMethod::ConnectFilter,
@@ -104,10 +110,16 @@ fn inside_of<C: Context, V: Constants>(
         tree.now (C.around context.now)) }
 {
     let table = unit_fields(alloc, rows, context, constants, unit, tree)?;
-    let members = member_rows(alloc, rows.tables, rows.stored, unit, &table.members)?;
+    let members = or_drop!(
+        member_rows(alloc, rows.tables, rows.stored, unit, &table.members);
+        table
+    );
     let items = tree.view().items;
+    let made = items_of(alloc, context, constants, &table, calls, module, &items);
+    drop(table);
+    let made = or_drop!(made; members);
     Ok(Inside {
-        items: items_of(alloc, context, constants, &table, calls, module, &items)?,
+        items: made,
         members: Row::from_vec(members),
     })
 }

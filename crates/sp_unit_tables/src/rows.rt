@@ -5,7 +5,7 @@ ghost use Rattle.sp_unit_tables.specs.inside.Turns.{turn, turn_of};
 ghost use Rattle.sp_unit_tables.specs.inside.Rows.{turns_in, noted, noted_hook, all_noted, row_numbers, lists, row_at, AreRows};
 
 use crate::keys::{BodyKey, in_order, key_of};
-use sp_base::NoMemory;
+use sp_base::{NoMemory, or_drop};
 use sp_typed_units::{Hook, HookOf, Typed};
 use sp_words::HookName;
 use std::alloc::Global;
@@ -81,8 +81,8 @@ fn gathered(
     let mut rows = no_bodies(alloc, units)?;
     let mut number: u32 = 0;
     for i in 0..hooks.len() {
-        note_hook(&mut rows, name, number, &hooks[i])?;
-        number = number.checked_add(1).ok_or(NoMemory)?;
+        or_drop!(note_hook(&mut rows, name, number, &hooks[i]); rows);
+        number = or_drop!(number.checked_add(1).ok_or(NoMemory); rows);
     }
     Ok(rows)
 }

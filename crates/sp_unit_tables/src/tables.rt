@@ -8,7 +8,7 @@ ghost use Rattle.sp_unit_tables.specs.inside.Orders.{AreOrders};
 
 use crate::orders::{Orders, order_of, orders_of};
 use crate::rows::{row_of, rows_of};
-use sp_base::NoMemory;
+use sp_base::{NoMemory, or_drop};
 use sp_typed_units::Typed;
 use sp_words::HookName;
 use std::alloc::Global;
@@ -36,10 +36,10 @@ impl<'a> UnitTables<'a> {
         ensures { IfOk result (λ t. t.list.now ≡ list.now) }
     {
         let init = rows_of(alloc, list, HookName::Init)?;
-        let done = rows_of(alloc, list, HookName::Done)?;
-        let error = rows_of(alloc, list, HookName::Error)?;
-        let finally = rows_of(alloc, list, HookName::Finally)?;
-        let orders = orders_of(alloc, list)?;
+        let done = or_drop!(rows_of(alloc, list, HookName::Done); init);
+        let error = or_drop!(rows_of(alloc, list, HookName::Error); init, done);
+        let finally = or_drop!(rows_of(alloc, list, HookName::Finally); init, done, error);
+        let orders = or_drop!(orders_of(alloc, list); init, done, error, finally);
         Ok(UnitTables {
             list,
             init,

@@ -8,10 +8,10 @@ fn public_word(public: bool, name: &'static str, public_name: &'static str) -> &
     if public { public_name } else { name }
 }
 
-fn told(alloc: Global, text: &str, decl: &Ref<'_, DeclKind>) -> Result<String, AllocError> {
-    match decl.view() {
+fn told(alloc: Global, text: &str, view: &DeclView<'_>) -> Result<String, AllocError> {
+    match view {
         DeclView::Import(name) => one(alloc, "Import", name.text()),
-        DeclView::ByteOrder(path) => one(alloc, "ByteOrder", slice(text, &path)),
+        DeclView::ByteOrder(path) => one(alloc, "ByteOrder", slice(text, path)),
         DeclView::Version(version) => one(alloc, "Version", version.text()),
         DeclView::On {
             path,
@@ -19,13 +19,15 @@ fn told(alloc: Global, text: &str, decl: &Ref<'_, DeclKind>) -> Result<String, A
             hook,
         } => {
             let names = row(alloc, text, path.names())?;
-            three(
+            let said = three(
                 alloc,
                 "On",
                 ("path", names.as_str()),
-                ("name", optional(text, &hook_name)),
-                ("hook", slice(text, &hook)),
-            )
+                ("name", optional(text, hook_name)),
+                ("hook", slice(text, hook)),
+            );
+            drop(names);
+            said
         }
         DeclView::Type {
             public,
@@ -33,9 +35,9 @@ fn told(alloc: Global, text: &str, decl: &Ref<'_, DeclKind>) -> Result<String, A
             type_,
         } => two(
             alloc,
-            public_word(public, "Type", "PublicType"),
+            public_word(*public, "Type", "PublicType"),
             ("name", name.text()),
-            ("type", slice(text, &type_)),
+            ("type", slice(text, type_)),
         ),
         DeclView::Const {
             public,
@@ -44,10 +46,10 @@ fn told(alloc: Global, text: &str, decl: &Ref<'_, DeclKind>) -> Result<String, A
             value,
         } => three(
             alloc,
-            public_word(public, "Const", "PublicConst"),
+            public_word(*public, "Const", "PublicConst"),
             ("name", name.text()),
-            ("type", optional(text, &type_)),
-            ("value", slice(text, &value)),
+            ("type", optional(text, type_)),
+            ("value", slice(text, value)),
         ),
         DeclView::Function {
             public,
@@ -56,19 +58,23 @@ fn told(alloc: Global, text: &str, decl: &Ref<'_, DeclKind>) -> Result<String, A
             returns,
             body,
         } => {
-            let taken = row(alloc, text, parameters)?;
+            let taken = row(alloc, text, parameters.again())?;
             let front = two(
                 alloc,
-                public_word(public, "Function", "PublicFunction"),
+                public_word(*public, "Function", "PublicFunction"),
                 ("name", name.text()),
                 ("parameters", taken.as_str()),
-            )?;
-            two(
+            );
+            drop(taken);
+            let front = front?;
+            let said = two(
                 alloc,
                 front.as_str(),
-                ("returns", optional(text, &returns)),
-                ("body", slice(text, &body)),
-            )
+                ("returns", optional(text, returns)),
+                ("body", slice(text, body)),
+            );
+            drop(front);
+            said
         }
     }
 }
@@ -81,7 +87,12 @@ pub fn look(
     decl: &Ref<'_, DeclKind>,
 ) -> Result<Option<String>, AllocError> {
     match what {
-        "decl" => Ok(Some(told(alloc, text, decl)?)),
+        "decl" => {
+            let view = decl.view();
+            let said = told(alloc, text, &view);
+            drop(view);
+            Ok(Some(said?))
+        }
         "parameter" => match decl.view() {
             DeclView::Function { parameters, .. } => match parameters.get(0) {
                 Some(parameter) => {

@@ -1,13 +1,13 @@
 // Views of expressions, told.
 use crate::find::value_of;
-use crate::tell::{one, row, slice, three, two, word};
+use crate::tell::{in_row, one, row, slice, three, two, word};
 use sp_ast::{DeclKind, ExprKind, ExprView, Ref};
 use std::alloc::{AllocError, Global};
 
 /// Expressions without parts of their own, and with one.
 fn small(alloc: Global, text: &str, view: &ExprView<'_>) -> Result<Option<String>, AllocError> {
     let said = match view {
-        ExprView::Path(path) => one(alloc, "Path", row(alloc, text, path.names())?.as_str()),
+        ExprView::Path(path) => in_row(alloc, text, "Path", path.names()),
         ExprView::Itself => word(alloc, "Itself"),
         ExprView::Current => word(alloc, "Current"),
         ExprView::True => word(alloc, "True"),
@@ -29,39 +29,44 @@ fn small(alloc: Global, text: &str, view: &ExprView<'_>) -> Result<Option<String
 }
 
 /// Expressions with members in a row, and those with several parts.
-fn large(alloc: Global, text: &str, view: ExprView<'_>) -> Result<String, AllocError> {
+fn large(alloc: Global, text: &str, view: &ExprView<'_>) -> Result<String, AllocError> {
     match view {
-        ExprView::Tuple(members) => one(alloc, "Tuple", row(alloc, text, members)?.as_str()),
-        ExprView::Vector(elements) => one(alloc, "Vector", row(alloc, text, elements)?.as_str()),
-        ExprView::Set(elements) => one(alloc, "Set", row(alloc, text, elements)?.as_str()),
+        ExprView::Tuple(members) => in_row(alloc, text, "Tuple", members.again()),
+        ExprView::Vector(elements) => in_row(alloc, text, "Vector", elements.again()),
+        ExprView::Set(elements) => in_row(alloc, text, "Set", elements.again()),
         ExprView::Map(pairs) => match pairs.get(0) {
             Some(pair) => {
                 let pair = pair.view();
                 let key = slice(text, &pair.key);
                 let value = slice(text, &pair.value);
+                drop(pair);
                 two(alloc, "Map", ("key", key), ("value", value))
             }
             None => word(alloc, "Map"),
         },
         ExprView::New(path, arguments) => {
-            let given = row(alloc, text, arguments)?;
-            two(
+            let given = row(alloc, text, arguments.again())?;
+            let said = two(
                 alloc,
                 "New",
-                ("path", slice(text, &path)),
+                ("path", slice(text, path)),
                 ("arguments", given.as_str()),
-            )
+            );
+            drop(given);
+            said
         }
         ExprView::Call(callee, arguments) => {
-            let given = row(alloc, text, arguments)?;
-            two(
+            let given = row(alloc, text, arguments.again())?;
+            let said = two(
                 alloc,
                 "Call",
-                ("callee", slice(text, &callee)),
+                ("callee", slice(text, callee)),
                 ("arguments", given.as_str()),
-            )
+            );
+            drop(given);
+            said
         }
-        other => several(alloc, text, &other),
+        other => several(alloc, text, other),
     }
 }
 
@@ -123,12 +128,18 @@ fn several(alloc: Global, text: &str, view: &ExprView<'_>) -> Result<String, All
     }
 }
 
-fn told(alloc: Global, text: &str, expr: &Ref<'_, ExprKind>) -> Result<String, AllocError> {
-    let view = expr.view();
-    match small(alloc, text, &view)? {
+fn in_view(alloc: Global, text: &str, view: &ExprView<'_>) -> Result<String, AllocError> {
+    match small(alloc, text, view)? {
         Some(said) => Ok(said),
         None => large(alloc, text, view),
     }
+}
+
+fn told(alloc: Global, text: &str, expr: &Ref<'_, ExprKind>) -> Result<String, AllocError> {
+    let view = expr.view();
+    let said = in_view(alloc, text, &view);
+    drop(view);
+    said
 }
 
 /// The value of a constant.

@@ -13,7 +13,7 @@ mod tell;
 mod types;
 mod units;
 
-use sp_ast::{DeclKind, Ref};
+use sp_ast::{DeclKind, Module, Ref};
 use sp_lex::{ReadFault, lex};
 use sp_read_unit::read_module;
 use std::alloc::{AllocError, Global};
@@ -41,15 +41,33 @@ fn look(
     exprs::look(alloc, text, what, decl)
 }
 
-/// What is told of the text of a module.
-fn read(alloc: Global, what: &str, text: &str) -> Result<String, ReadFault> {
-    let tokens = lex(alloc, text.as_bytes())?;
-    let module = read_module(alloc, &tokens)?;
+/// What the view of the thing tells in the first declaration of a module, if there is one.
+fn look_in(
+    alloc: Global,
+    text: &str,
+    what: &str,
+    module: &Module,
+) -> Result<Option<String>, AllocError> {
     let view = module.root().view();
-    let said = match view.declarations.get(0) {
+    match view.declarations.get(0) {
         Some(decl) => look(alloc, text, what, &decl),
         None => Ok(None),
-    };
+    }
+}
+
+/// The module of a text.
+fn module_of(alloc: Global, text: &str) -> Result<Module, ReadFault> {
+    let tokens = lex(alloc, text.as_bytes())?;
+    let module = read_module(alloc, &tokens);
+    drop(tokens);
+    module
+}
+
+/// What is told of the text of a module.
+fn read(alloc: Global, what: &str, text: &str) -> Result<String, ReadFault> {
+    let module = module_of(alloc, text)?;
+    let said = look_in(alloc, text, what, &module);
+    drop(module);
     match said {
         Ok(Some(words)) => Ok(words),
         Ok(None) => String::from_str(alloc, "nothing").map_err(|_| ReadFault::NoMemory),

@@ -1,29 +1,28 @@
 // Views of statements, told.
 use crate::find::stmt_of;
-use crate::tell::{one, optional, row, slice, three, two, word};
+use crate::tell::{in_row, one, optional, row, slice, three, two, word};
 use sp_ast::{DeclKind, Ref, StmtKind, StmtView};
 use std::alloc::{AllocError, Global};
 
 /// Statements with parts in a row.
-fn rows(alloc: Global, text: &str, view: StmtView<'_>) -> Result<String, AllocError> {
+fn rows(alloc: Global, text: &str, view: &StmtView<'_>) -> Result<String, AllocError> {
     match view {
-        StmtView::Block(block) => one(
-            alloc,
-            "Block",
-            row(alloc, text, block.statements())?.as_str(),
-        ),
+        StmtView::Block(block) => in_row(alloc, text, "Block", block.statements()),
         StmtView::If {
             branches,
             otherwise,
         } => match branches.get(0) {
             Some(branch) => {
                 let branch = branch.view();
+                let condition = slice(text, &branch.condition);
+                let body = slice(text, &branch.body);
+                drop(branch);
                 three(
                     alloc,
                     "If",
-                    ("condition", slice(text, &branch.condition)),
-                    ("body", slice(text, &branch.body)),
-                    ("otherwise", optional(text, &otherwise)),
+                    ("condition", condition),
+                    ("body", body),
+                    ("otherwise", optional(text, otherwise)),
                 )
             }
             None => word(alloc, "If"),
@@ -35,25 +34,40 @@ fn rows(alloc: Global, text: &str, view: StmtView<'_>) -> Result<String, AllocEr
         } => match cases.get(0) {
             Some(case) => {
                 let case = case.view();
-                let values = row(alloc, text, case.values)?;
+                let body = slice(text, &case.body);
+                let values = row(alloc, text, case.values.again());
+                drop(case);
                 let front = two(
                     alloc,
                     "Switch",
-                    ("subject", slice(text, &subject)),
-                    ("otherwise", optional(text, &otherwise)),
-                )?;
-                two(
-                    alloc,
-                    front.as_str(),
-                    ("values", values.as_str()),
-                    ("body", slice(text, &case.body)),
-                )
+                    ("subject", slice(text, subject)),
+                    ("otherwise", optional(text, otherwise)),
+                );
+                with_values(alloc, front?, values?, body)
             }
             None => word(alloc, "Switch"),
         },
-        StmtView::Print(values) => one(alloc, "Print", row(alloc, text, values)?.as_str()),
-        other => plain(alloc, text, &other),
+        StmtView::Print(values) => in_row(alloc, text, "Print", values.again()),
+        other => plain(alloc, text, other),
     }
+}
+
+/// What is said of a case, behind what is said of its switch.
+fn with_values(
+    alloc: Global,
+    front: String,
+    values: String,
+    body: &str,
+) -> Result<String, AllocError> {
+    let said = two(
+        alloc,
+        front.as_str(),
+        ("values", values.as_str()),
+        ("body", body),
+    );
+    drop(front);
+    drop(values);
+    said
 }
 
 /// Statements without parts in a row.
@@ -133,7 +147,12 @@ pub fn look(
         return Ok(None);
     }
     match stmt_of(decl) {
-        Some(stmt) => Ok(Some(rows(alloc, text, stmt.view())?)),
+        Some(stmt) => {
+            let view = stmt.view();
+            let said = rows(alloc, text, &view);
+            drop(view);
+            Ok(Some(said?))
+        }
         None => Ok(None),
     }
 }

@@ -37,6 +37,19 @@ pub fn row<K: Kind>(
     format!(in alloc; "[{inside}]")
 }
 
+/// An alternative with members in a row.
+pub fn in_row<K: Kind>(
+    alloc: Global,
+    text: &str,
+    name: &str,
+    members: Members<'_, K>,
+) -> Result<String, AllocError> {
+    let inside = row(alloc, text, members)?;
+    let said = one(alloc, name, inside.as_str());
+    drop(inside);
+    said
+}
+
 /// An alternative without members.
 pub fn word(alloc: Global, name: &str) -> Result<String, AllocError> {
     String::from_str(alloc, name)

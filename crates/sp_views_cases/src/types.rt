@@ -1,6 +1,6 @@
 // Views of types, told.
 use crate::find::type_of;
-use crate::tell::{one, optional, row, slice, three, two, word};
+use crate::tell::{in_row, one, optional, slice, three, two, word};
 use sp_ast::{DeclKind, LabelKind, RangeKind, Ref, TypeKind, TypeView};
 use std::alloc::{AllocError, Global};
 
@@ -25,9 +25,9 @@ fn range(alloc: Global, text: &str, range: &Ref<'_, RangeKind>) -> Result<String
     )
 }
 
-fn told(alloc: Global, text: &str, type_: &Ref<'_, TypeKind>) -> Result<String, AllocError> {
-    match type_.view() {
-        TypeView::Path(path) => one(alloc, "Path", row(alloc, text, path.names())?.as_str()),
+fn told(alloc: Global, text: &str, view: &TypeView<'_>) -> Result<String, AllocError> {
+    match view {
+        TypeView::Path(path) => in_row(alloc, text, "Path", path.names()),
         TypeView::Bool => word(alloc, "Bool"),
         TypeView::Bytes => word(alloc, "Bytes"),
         TypeView::String => word(alloc, "String"),
@@ -36,14 +36,14 @@ fn told(alloc: Global, text: &str, type_: &Ref<'_, TypeKind>) -> Result<String, 
             let width = of.width();
             format!(in alloc; "Int {width}")
         }
-        TypeView::Tuple(members) => one(alloc, "Tuple", row(alloc, text, members)?.as_str()),
-        TypeView::Vector(element) => one(alloc, "Vector", slice(text, &element)),
-        TypeView::Set(element) => one(alloc, "Set", slice(text, &element)),
+        TypeView::Tuple(members) => in_row(alloc, text, "Tuple", members.again()),
+        TypeView::Vector(element) => one(alloc, "Vector", slice(text, element)),
+        TypeView::Set(element) => one(alloc, "Set", slice(text, element)),
         TypeView::Map { key, value } => two(
             alloc,
             "Map",
-            ("key", slice(text, &key)),
-            ("value", slice(text, &value)),
+            ("key", slice(text, key)),
+            ("value", slice(text, value)),
         ),
         TypeView::Enum(labels) => match labels.get(0) {
             Some(first) => label(alloc, text, &first),
@@ -51,9 +51,9 @@ fn told(alloc: Global, text: &str, type_: &Ref<'_, TypeKind>) -> Result<String, 
         },
         TypeView::Bitfield { width, ranges } => match ranges.get(0) {
             Some(first) => range(alloc, text, &first),
-            None => one(alloc, "Bitfield", slice(text, &width)),
+            None => one(alloc, "Bitfield", slice(text, width)),
         },
-        TypeView::Unit(unit) => one(alloc, "Unit", slice(text, &unit)),
+        TypeView::Unit(unit) => one(alloc, "Unit", slice(text, unit)),
     }
 }
 
@@ -68,7 +68,12 @@ pub fn look(
         return Ok(None);
     }
     match type_of(decl) {
-        Some(type_) => Ok(Some(told(alloc, text, &type_)?)),
+        Some(type_) => {
+            let view = type_.view();
+            let said = told(alloc, text, &view);
+            drop(view);
+            Ok(Some(said?))
+        }
         None => Ok(None),
     }
 }

@@ -11,25 +11,43 @@ use std::alloc::{AllocError, Global};
 fn unit(alloc: Global, text: &str, unit: &Ref<'_, UnitKind>) -> Result<String, AllocError> {
     let view = unit.view();
     let parameters = row(alloc, text, view.parameters)?;
-    let items = row(alloc, text, view.items)?;
-    two(
+    let items = match row(alloc, text, view.items) {
+        Ok(items) => items,
+        Err(fault) => {
+            drop(parameters);
+            return Err(fault);
+        }
+    };
+    let said = two(
         alloc,
         "Unit",
         ("parameters", parameters.as_str()),
         ("items", items.as_str()),
-    )
+    );
+    drop(parameters);
+    drop(items);
+    said
 }
 
 fn hook(alloc: Global, text: &str, hook: &Ref<'_, HookKind>) -> Result<String, AllocError> {
     let view = hook.view();
     let parameters = row(alloc, text, view.parameters)?;
-    let body = hook_body(alloc, text, &view.body)?;
-    two(
+    let body = match hook_body(alloc, text, &view.body) {
+        Ok(body) => body,
+        Err(fault) => {
+            drop(parameters);
+            return Err(fault);
+        }
+    };
+    let said = two(
         alloc,
         "Hook",
         ("parameters", parameters.as_str()),
         ("body", body.as_str()),
-    )
+    );
+    drop(parameters);
+    drop(body);
+    said
 }
 
 fn hook_body(
@@ -107,30 +125,70 @@ fn arm(alloc: Global, text: &str, arm: &Ref<'_, ArmKind>) -> Result<String, Allo
     )
 }
 
-fn field(alloc: Global, text: &str, field: &Ref<'_, FieldKind>) -> Result<String, AllocError> {
+/// A field of which all rows are told.
+fn field_of_rows(
+    alloc: Global,
+    text: &str,
+    field: &Ref<'_, FieldKind>,
+    counts: &str,
+    attributes: &str,
+    hooks: &str,
+) -> Result<String, AllocError> {
     let view = field.view();
-    let counts = row(alloc, text, view.counts)?;
-    let attributes = row(alloc, text, view.attributes)?;
-    let hooks = row(alloc, text, view.hooks)?;
     let front = three(
         alloc,
         "Field",
         ("name", optional(text, &view.name)),
         ("base", slice(text, &view.base)),
-        ("counts", counts.as_str()),
+        ("counts", counts),
     )?;
     let middle = two(
         alloc,
         front.as_str(),
-        ("attributes", attributes.as_str()),
+        ("attributes", attributes),
         ("condition", optional(text, &view.condition)),
-    )?;
-    two(
+    );
+    drop(front);
+    let middle = middle?;
+    let said = two(
         alloc,
         middle.as_str(),
         ("sink", optional(text, &view.sink)),
-        ("hooks", hooks.as_str()),
-    )
+        ("hooks", hooks),
+    );
+    drop(middle);
+    said
+}
+
+/// A field of which the counts and the attributes are told.
+fn field_with(
+    alloc: Global,
+    text: &str,
+    field: &Ref<'_, FieldKind>,
+    counts: &str,
+    attributes: &str,
+) -> Result<String, AllocError> {
+    let view = field.view();
+    let hooks = row(alloc, text, view.hooks)?;
+    let said = field_of_rows(alloc, text, field, counts, attributes, hooks.as_str());
+    drop(hooks);
+    said
+}
+
+fn field(alloc: Global, text: &str, field: &Ref<'_, FieldKind>) -> Result<String, AllocError> {
+    let view = field.view();
+    let counts = row(alloc, text, view.counts)?;
+    let attributes = match row(alloc, text, view.attributes) {
+        Ok(attributes) => attributes,
+        Err(fault) => {
+            drop(counts);
+            return Err(fault);
+        }
+    };
+    let said = field_with(alloc, text, field, counts.as_str(), attributes.as_str());
+    drop(counts);
+    drop(attributes);
+    said
 }
 
 fn base(alloc: Global, text: &str, base: &Ref<'_, BaseKind>) -> Result<String, AllocError> {
@@ -151,14 +209,23 @@ fn base(alloc: Global, text: &str, base: &Ref<'_, BaseKind>) -> Result<String, A
             attributes,
         } => {
             let counts = row(alloc, text, counts)?;
-            let attributes = row(alloc, text, attributes)?;
-            three(
+            let attributes = match row(alloc, text, attributes) {
+                Ok(attributes) => attributes,
+                Err(fault) => {
+                    drop(counts);
+                    return Err(fault);
+                }
+            };
+            let said = three(
                 alloc,
                 "Group",
                 ("base", slice(text, &base)),
                 ("counts", counts.as_str()),
                 ("attributes", attributes.as_str()),
-            )
+            );
+            drop(counts);
+            drop(attributes);
+            said
         }
         BaseView::Bytes(bytes) => {
             let count = bytes.len();

@@ -1,5 +1,5 @@
 // Whole runs over objects in memory.
-use sp_base::{ByteList, NoMemory, Text};
+use sp_base::{ByteList, NoMemory, Text, or_drop};
 use sp_driver::spicy_driver;
 use sp_io::{MemModules, MemOut, MemSource};
 use std::alloc::Global;
@@ -234,7 +234,8 @@ const RUNS: [Run; 21] = [
 fn texts(alloc: Global, words: &[&str]) -> Result<Vec<Text>, NoMemory> {
     let mut texts = Vec::new(alloc);
     for word in words {
-        texts.push(Text::new(alloc, word)?)?;
+        let text = or_drop!(Text::new(alloc, word); texts);
+        or_drop!(texts.push(text); texts);
     }
     Ok(texts)
 }
@@ -242,15 +243,17 @@ fn texts(alloc: Global, words: &[&str]) -> Result<Vec<Text>, NoMemory> {
 fn lists(alloc: Global, pieces: &[&[u8]]) -> Result<Vec<ByteList>, NoMemory> {
     let mut lists = Vec::new(alloc);
     for piece in pieces {
-        lists.push(ByteList::from_slice(alloc, piece)?)?;
+        let list = or_drop!(ByteList::from_slice(alloc, piece); lists);
+        or_drop!(lists.push(list); lists);
     }
     Ok(lists)
 }
 
 fn files(alloc: Global, text: &[u8]) -> Result<Vec<(Text, ByteList)>, NoMemory> {
     let mut files = Vec::new(alloc);
-    let path = Text::new(alloc, "m.spicy")?;
-    files.push((path, ByteList::from_slice(alloc, text)?))?;
+    let path = or_drop!(Text::new(alloc, "m.spicy"); files);
+    let bytes = or_drop!(ByteList::from_slice(alloc, text); files, path);
+    or_drop!(files.push((path, bytes)); files);
     Ok(files)
 }
 
@@ -270,24 +273,33 @@ fn answer_over(
     pieces: &[ByteList],
 ) -> Result<String, Fail> {
     let mut modules = MemModules::new(alloc, files, run.modules_fails)?;
-    let mut input = MemSource::new(alloc, pieces, run.source_fails)?;
-    let mut out = MemOut::new(alloc, run.out_fails)?;
-    let mut err = MemOut::new(alloc, &[])?;
+    let mut input = or_drop!(MemSource::new(alloc, pieces, run.source_fails); modules);
+    let mut out = or_drop!(MemOut::new(alloc, run.out_fails); modules, input);
+    let mut err = or_drop!(MemOut::new(alloc, &[]); modules, input, out);
     let status = spicy_driver(alloc, words, &mut modules, &mut input, &mut out, &mut err);
-    told(alloc, status, &out, &err)
+    drop(modules);
+    drop(input);
+    let answer = told(alloc, status, &out, &err);
+    drop(out);
+    drop(err);
+    answer
 }
 
 fn answer_of(alloc: Global, run: &Run) -> Result<String, Fail> {
     let words = texts(alloc, run.words)?;
-    let files = files(alloc, run.text)?;
-    let pieces = lists(alloc, run.pieces)?;
-    answer_over(
+    let files = or_drop!(files(alloc, run.text); words);
+    let pieces = or_drop!(lists(alloc, run.pieces); words, files);
+    let answer = answer_over(
         alloc,
         run,
         words.as_slice(),
         files.as_slice(),
         pieces.as_slice(),
-    )
+    );
+    drop(words);
+    drop(files);
+    drop(pieces);
+    answer
 }
 
 #[test]

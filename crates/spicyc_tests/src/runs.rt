@@ -1,5 +1,5 @@
 // Whole runs over objects in memory, and one over a directory.
-use sp_base::{ByteList, NoMemory, Text};
+use sp_base::{ByteList, NoMemory, Text, or_drop};
 use sp_io::{DirModules, MemModules, MemOut};
 use sp_spicyc::spicyc;
 use std::alloc::Global;
@@ -334,7 +334,8 @@ const RUNS: [Run; 40] = [
 fn texts(alloc: Global, words: &[&str]) -> Result<Vec<Text>, NoMemory> {
     let mut texts = Vec::new(alloc);
     for word in words {
-        texts.push(Text::new(alloc, word)?)?;
+        let text = or_drop!(Text::new(alloc, word); texts);
+        or_drop!(texts.push(text); texts);
     }
     Ok(texts)
 }
@@ -342,7 +343,9 @@ fn texts(alloc: Global, words: &[&str]) -> Result<Vec<Text>, NoMemory> {
 fn files(alloc: Global) -> Result<Vec<(Text, ByteList)>, NoMemory> {
     let mut files = Vec::new(alloc);
     for (path, text) in &FILES {
-        files.push((Text::new(alloc, path)?, ByteList::from_slice(alloc, text)?))?;
+        let path = or_drop!(Text::new(alloc, path); files);
+        let bytes = or_drop!(ByteList::from_slice(alloc, text); files, path);
+        or_drop!(files.push((path, bytes)); files);
     }
     Ok(files)
 }
@@ -362,15 +365,21 @@ fn answer_over(
     files: &[(Text, ByteList)],
 ) -> Result<String, Fail> {
     let mut modules = MemModules::new(alloc, files, run.modules_fails)?;
-    let mut out = MemOut::new(alloc, run.out_fails)?;
-    let mut err = MemOut::new(alloc, run.err_fails)?;
+    let mut out = or_drop!(MemOut::new(alloc, run.out_fails); modules);
+    let mut err = or_drop!(MemOut::new(alloc, run.err_fails); modules, out);
     let status = spicyc(alloc, words, &mut modules, &mut out, &mut err);
-    told(alloc, status, &out, &err)
+    drop(modules);
+    let answer = told(alloc, status, &out, &err);
+    drop(out);
+    drop(err);
+    answer
 }
 
 fn answer_of(alloc: Global, files: &[(Text, ByteList)], run: &Run) -> Result<String, Fail> {
     let words = texts(alloc, run.words)?;
-    answer_over(alloc, run, words.as_slice(), files)
+    let answer = answer_over(alloc, run, words.as_slice(), files);
+    drop(words);
+    answer
 }
 
 #[test]
@@ -424,9 +433,12 @@ fn real_answer(rt: &HostRuntime, words: &[Text]) -> Result<String, Fail> {
     let alloc = rt.alloc();
     let mut modules = DirModules::new(alloc, rt);
     let mut out = MemOut::new(alloc, &[])?;
-    let mut err = MemOut::new(alloc, &[])?;
+    let mut err = or_drop!(MemOut::new(alloc, &[]); out);
     let status = spicyc(alloc, words, &mut modules, &mut out, &mut err);
-    told(alloc, status, &out, &err)
+    let answer = told(alloc, status, &out, &err);
+    drop(out);
+    drop(err);
+    answer
 }
 
 /// What is printed of the module, with an absent directory and the folder as directories.
@@ -435,8 +447,12 @@ fn printed(rt: &HostRuntime, folder: &PathBuf, module: &PathBuf) -> Result<Strin
     let words = texts(
         rt.alloc(),
         &["-L", directories.as_str(), "--print", module.as_str()],
-    )?;
-    real_answer(rt, words.as_slice())
+    );
+    drop(directories);
+    let words = words?;
+    let answer = real_answer(rt, words.as_slice());
+    drop(words);
+    answer
 }
 
 /// An import is found in a directory. One that is not there, and a file in the place of one, hold nothing.

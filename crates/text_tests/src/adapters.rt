@@ -1,5 +1,5 @@
 // Each adapter over the real thing once, and over fakes that fail in mid-stream; and a table over the objects in memory.
-use sp_base::{ByteList, Text};
+use sp_base::{ByteList, Text, or_drop};
 use sp_io::{
     DirModules, FileSource, MemModules, MemOut, MemSource, Modules, Out, Source, StdOut, StdSource,
     SureModules, SureOut, SureSource, Took, put_all,
@@ -14,8 +14,12 @@ use std::{env, fs, io, process};
 fn small_file(rt: &HostRuntime, word: &str) -> Result<PathBuf, Fail> {
     let process = process::id(rt.process());
     let name = format!(in rt.alloc(); "sp_io_{word}_{process}.spicy")?;
-    let path = env::temp_dir(rt)?.join(rt.alloc(), &name)?;
-    fs::write(rt, &path, "module Small;\n")?;
+    let folder = or_drop!(env::temp_dir(rt); name);
+    let path = folder.join(rt.alloc(), &name);
+    drop(folder);
+    drop(name);
+    let path = path?;
+    or_drop!(fs::write(rt, &path, "module Small;\n"); path);
     Ok(path)
 }
 
@@ -39,7 +43,9 @@ fn reads<M: Modules>(alloc: Global, modules: &mut M, paths: &[&str]) -> Result<B
     for path in paths {
         let mark = match modules.read(path) {
             Ok(Some(bytes)) => {
-                told.append(bytes.as_slice())?;
+                let added = told.append(bytes.as_slice());
+                drop(bytes);
+                or_drop!(added; told);
                 b'|'
             }
             Ok(None) => b'-',
@@ -68,7 +74,8 @@ fn puts<O: Out>(alloc: Global, out: &mut O, pieces: &[&str]) -> Result<ByteList,
 fn pieces_of(alloc: Global, texts: &[&str]) -> Result<Vec<ByteList>, Fail> {
     let mut pieces = Vec::new(alloc);
     for text in texts {
-        pieces.push(ByteList::from_slice(alloc, text.as_bytes())?)?;
+        let piece = or_drop!(ByteList::from_slice(alloc, text.as_bytes()); pieces);
+        or_drop!(pieces.push(piece); pieces);
     }
     Ok(pieces)
 }
@@ -76,8 +83,9 @@ fn pieces_of(alloc: Global, texts: &[&str]) -> Result<Vec<ByteList>, Fail> {
 fn files_of(alloc: Global, files: &[(&str, &str)]) -> Result<Vec<(Text, ByteList)>, Fail> {
     let mut held = Vec::new(alloc);
     for file in files {
-        let bytes = ByteList::from_slice(alloc, file.1.as_bytes())?;
-        held.push((Text::new(alloc, file.0)?, bytes))?;
+        let bytes = or_drop!(ByteList::from_slice(alloc, file.1.as_bytes()); held);
+        let path = or_drop!(Text::new(alloc, file.0); held, bytes);
+        or_drop!(held.push((path, bytes)); held);
     }
     Ok(held)
 }
@@ -160,7 +168,9 @@ fn takes_from_a_reader_that_fails_in_mid_stream(rt: HostRuntime) -> Result<(), F
     ];
     let fake = Fake::new(rt.alloc(), b"abcdef", acts);
     let mut source = StdSource::new(rt.alloc(), fake)?;
-    let told = takes(rt.alloc(), &mut source, &[2, 9, 9, 9, 1, 9, 9])?;
+    let told = takes(rt.alloc(), &mut source, &[2, 9, 9, 9, 1, 9, 9]);
+    drop(source);
+    let told = told?;
     assert_eq!(rt; told.as_slice(), b"ab|c|d|!e|f|.".as_slice());
     Ok(())
 }
@@ -176,51 +186,102 @@ fn puts_into_a_writer_that_writes_less_and_fails(rt: HostRuntime) -> Result<(), 
         Act::Bytes(0),
     ];
     let mut out = StdOut::new(Fake::new(rt.alloc(), b"", acts));
-    assert_eq!(rt; out.put(b"abc")?, 2);
-    put_all(&mut out, b"cdef")?;
-    assert!(rt; out.put(b"g").is_err());
-    assert!(rt; out.put(b"h").is_err());
+    let count = or_drop!(out.put(b"abc"); out);
+    or_drop!(put_all(&mut out, b"cdef"); out);
+    let first_fails = out.put(b"g").is_err();
+    let second_fails = out.put(b"h").is_err();
+    drop(out);
+    assert_eq!(rt; count, 2);
+    assert!(rt; first_fails);
+    assert!(rt; second_fails);
     Ok(())
+}
+
+/// The path of a file whose name holds the number of the process.
+fn long_path(rt: &HostRuntime) -> Result<PathBuf, Fail> {
+    let process = process::id(rt.process());
+    let name = format!(in rt.alloc(); "sp_io_long_{process}.spicy")?;
+    let folder = or_drop!(env::temp_dir(rt); name);
+    let path = folder.join(rt.alloc(), &name);
+    drop(folder);
+    drop(name);
+    Ok(path?)
+}
+
+/// Makes a file of so many bytes, and answers how many bytes are told of a read of it.
+fn told_length<M: Modules>(
+    rt: &HostRuntime,
+    modules: &mut M,
+    path: &PathBuf,
+    length: usize,
+) -> Result<usize, Fail> {
+    let text = vec![in rt.alloc(); b' '; length]?;
+    let written = fs::write(rt, path, text.as_slice());
+    drop(text);
+    written?;
+    let told = reads(rt.alloc(), modules, &[path.as_str()])?;
+    let length = told.len();
+    drop(told);
+    Ok(length)
+}
+
+/// Those of files of as many bytes as a module may have, of one more, and of two more.
+fn told_lengths(rt: &HostRuntime, path: &PathBuf) -> Result<(usize, usize, usize), Fail> {
+    let mut modules = DirModules::new(rt.alloc(), rt);
+    let most = told_length(rt, &mut modules, path, 1_048_576)?;
+    let one_more = told_length(rt, &mut modules, path, 1_048_577)?;
+    let two_more = told_length(rt, &mut modules, path, 1_048_578)?;
+    fs::remove_file(rt, path)?;
+    Ok((most, one_more, two_more))
 }
 
 /// A module of one byte more than a module may have is read whole; of a longer one, no more than that.
 #[test]
 fn reads_one_byte_more_than_a_module_may_have(rt: HostRuntime) -> Result<(), Fail> {
-    let process = process::id(rt.process());
-    let name = format!(in rt.alloc(); "sp_io_long_{process}.spicy")?;
-    let path = env::temp_dir(&rt)?.join(rt.alloc(), &name)?;
-    let mut modules = DirModules::new(rt.alloc(), &rt);
-    for (length, read) in [
-        (1_048_576, 1_048_576),
-        (1_048_577, 1_048_577),
-        (1_048_578, 1_048_577),
-    ] {
-        let text = vec![in rt.alloc(); b' '; length]?;
-        fs::write(&rt, &path, text.as_slice())?;
-        let told = reads(rt.alloc(), &mut modules, &[path.as_str()])?;
-        assert_eq!(rt; told.len(), read + 1);
-    }
-    fs::remove_file(&rt, &path)?;
+    let path = long_path(&rt)?;
+    let told = told_lengths(&rt, &path);
+    drop(path);
+    let (most, one_more, two_more) = told?;
+    assert_eq!(rt; most, 1_048_577);
+    assert_eq!(rt; one_more, 1_048_578);
+    assert_eq!(rt; two_more, 1_048_578);
     Ok(())
+}
+
+/// What is told of a path below a file, and of two that are too long for the system.
+fn reads_of_none(rt: &HostRuntime, path: &PathBuf) -> Result<ByteList, Fail> {
+    let below = format!(in rt.alloc(); "{}/x.spicy", path.as_str())?;
+    let mut long = String::new(rt.alloc());
+    for _ in 0..500 {
+        or_drop!(long.push_str("a long name/"); below, long);
+    }
+    let name = or_drop!(format!(in rt.alloc(); "{:0>300}", 1); below, long);
+    let mut modules = DirModules::new(rt.alloc(), rt);
+    let told = reads(
+        rt.alloc(),
+        &mut modules,
+        &[below.as_str(), long.as_str(), name.as_str()],
+    );
+    drop(below);
+    drop(long);
+    drop(name);
+    told
 }
 
 /// Nothing stands below a file, nor at a path that is too long for the system.
 #[test]
 fn finds_no_module_where_none_can_be(rt: HostRuntime) -> Result<(), Fail> {
     let path = small_file(&rt, "below")?;
-    let below = format!(in rt.alloc(); "{}/x.spicy", path.as_str())?;
-    let mut long = String::new(rt.alloc());
-    for _ in 0..500 {
-        long.push_str("a long name/")?;
-    }
-    let name = format!(in rt.alloc(); "{:0>300}", 1)?;
-    let mut modules = DirModules::new(rt.alloc(), &rt);
-    let told = reads(
-        rt.alloc(),
-        &mut modules,
-        &[below.as_str(), long.as_str(), name.as_str()],
-    )?;
-    fs::remove_file(&rt, &path)?;
+    let told = match reads_of_none(&rt, &path) {
+        Ok(told) => told,
+        Err(fail) => {
+            drop(path);
+            return Err(fail);
+        }
+    };
+    let removed = fs::remove_file(&rt, &path);
+    drop(path);
+    or_drop!(removed; told);
     assert_eq!(rt; told.as_slice(), b"---".as_slice());
     Ok(())
 }
@@ -230,8 +291,16 @@ fn reads_modules_in_folders(rt: HostRuntime) -> Result<(), Fail> {
     let path = small_file(&rt, "modules")?;
     let mut modules = DirModules::new(rt.alloc(), &rt);
     // A directory can't be read.
-    let told = reads(rt.alloc(), &mut modules, &[path.as_str(), ".", "./absent"])?;
-    fs::remove_file(&rt, &path)?;
+    let told = match reads(rt.alloc(), &mut modules, &[path.as_str(), ".", "./absent"]) {
+        Ok(told) => told,
+        Err(fail) => {
+            drop(path);
+            return Err(fail);
+        }
+    };
+    let removed = fs::remove_file(&rt, &path);
+    drop(path);
+    or_drop!(removed; told);
     assert_eq!(rt; told.as_slice(), b"module Small;\n|!-".as_slice());
     Ok(())
 }
@@ -247,9 +316,13 @@ fn reads_the_front_of_a_file_without_an_end(rt: HostRuntime) -> Result<(), Fail>
 #[test]
 fn reads_a_file(rt: HostRuntime) -> Result<(), Fail> {
     let path = small_file(&rt, "file")?;
-    let mut source = FileSource::new(rt.alloc(), &rt, path.as_str())?;
-    fs::remove_file(&rt, &path)?;
-    let told = takes(rt.alloc(), &mut source, &[6, 65_536, 1])?;
+    let mut source = or_drop!(FileSource::new(rt.alloc(), &rt, path.as_str()); path);
+    let removed = fs::remove_file(&rt, &path);
+    drop(path);
+    or_drop!(removed; source);
+    let told = takes(rt.alloc(), &mut source, &[6, 65_536, 1]);
+    drop(source);
+    let told = told?;
     assert_eq!(rt; told.as_slice(), b"module| Small;\n|.".as_slice());
     Ok(())
 }
@@ -257,7 +330,9 @@ fn reads_a_file(rt: HostRuntime) -> Result<(), Fail> {
 #[test]
 fn fails_at_each_take_from_no_file(rt: HostRuntime) -> Result<(), Fail> {
     let mut source = FileSource::new(rt.alloc(), &rt, "./absent")?;
-    let told = takes(rt.alloc(), &mut source, &[1, 1])?;
+    let told = takes(rt.alloc(), &mut source, &[1, 1]);
+    drop(source);
+    let told = told?;
     assert_eq!(rt; told.as_slice(), b"!!".as_slice());
     Ok(())
 }
@@ -265,7 +340,9 @@ fn fails_at_each_take_from_no_file(rt: HostRuntime) -> Result<(), Fail> {
 #[test]
 fn reads_the_standard_input(rt: HostRuntime) -> Result<(), Fail> {
     let mut source = StdSource::new(rt.alloc(), rt.stdin())?;
-    let told = takes(rt.alloc(), &mut source, &[1])?;
+    let told = takes(rt.alloc(), &mut source, &[1]);
+    drop(source);
+    let told = told?;
     assert_eq!(rt; told.as_slice(), b".".as_slice());
     Ok(())
 }
@@ -273,9 +350,13 @@ fn reads_the_standard_input(rt: HostRuntime) -> Result<(), Fail> {
 #[test]
 fn writes_the_standard_streams(rt: HostRuntime) -> Result<(), Fail> {
     let mut out = StdOut::new(rt.stdout());
-    put_all(&mut out, b"out\n")?;
+    let put = put_all(&mut out, b"out\n");
+    drop(out);
+    put?;
     let mut err = StdOut::new(rt.stderr());
-    put_all(&mut err, b"err\n")?;
+    let put = put_all(&mut err, b"err\n");
+    drop(err);
+    put?;
     Ok(())
 }
 
@@ -284,8 +365,12 @@ const SIZES: [u64; 6] = [3, 9, 9, 2, 9, 9];
 #[test]
 fn takes_from_memory(rt: HostRuntime) -> Result<(), Fail> {
     let pieces = pieces_of(rt.alloc(), &["", "abcd", "", "", "ef", ""])?;
-    let mut source = MemSource::new(rt.alloc(), pieces.as_slice(), &[1])?;
-    let told = takes(rt.alloc(), &mut source, &SIZES)?;
+    let source = MemSource::new(rt.alloc(), pieces.as_slice(), &[1]);
+    drop(pieces);
+    let mut source = source?;
+    let told = takes(rt.alloc(), &mut source, &SIZES);
+    drop(source);
+    let told = told?;
     assert_eq!(rt; told.as_slice(), b"abc|!d|ef|..".as_slice());
     Ok(())
 }
@@ -293,8 +378,12 @@ fn takes_from_memory(rt: HostRuntime) -> Result<(), Fail> {
 #[test]
 fn takes_surely(rt: HostRuntime) -> Result<(), Fail> {
     let pieces = pieces_of(rt.alloc(), &["", "abcd", "", "", "ef", ""])?;
-    let mut source = SureSource::new(rt.alloc(), pieces.as_slice())?;
-    let told = takes(rt.alloc(), &mut source, &SIZES)?;
+    let source = SureSource::new(rt.alloc(), pieces.as_slice());
+    drop(pieces);
+    let mut source = source?;
+    let told = takes(rt.alloc(), &mut source, &SIZES);
+    drop(source);
+    let told = told?;
     assert_eq!(rt; told.as_slice(), b"abc|d|ef|...".as_slice());
     Ok(())
 }
@@ -306,8 +395,12 @@ const PATHS: [&str; 4] = ["a", "a", "b", "c"];
 #[test]
 fn reads_from_memory(rt: HostRuntime) -> Result<(), Fail> {
     let files = files_of(rt.alloc(), &FILES)?;
-    let mut modules = MemModules::new(rt.alloc(), files.as_slice(), &[0])?;
-    let told = reads(rt.alloc(), &mut modules, &PATHS)?;
+    let modules = MemModules::new(rt.alloc(), files.as_slice(), &[0]);
+    drop(files);
+    let mut modules = modules?;
+    let told = reads(rt.alloc(), &mut modules, &PATHS);
+    drop(modules);
+    let told = told?;
     assert_eq!(rt; told.as_slice(), b"!first|other|-".as_slice());
     Ok(())
 }
@@ -315,8 +408,12 @@ fn reads_from_memory(rt: HostRuntime) -> Result<(), Fail> {
 #[test]
 fn reads_surely(rt: HostRuntime) -> Result<(), Fail> {
     let files = files_of(rt.alloc(), &FILES)?;
-    let mut modules = SureModules::new(rt.alloc(), files.as_slice())?;
-    let told = reads(rt.alloc(), &mut modules, &PATHS)?;
+    let modules = SureModules::new(rt.alloc(), files.as_slice());
+    drop(files);
+    let mut modules = modules?;
+    let told = reads(rt.alloc(), &mut modules, &PATHS);
+    drop(modules);
+    let told = told?;
     assert_eq!(rt; told.as_slice(), b"first|first|other|-".as_slice());
     Ok(())
 }
@@ -324,7 +421,9 @@ fn reads_surely(rt: HostRuntime) -> Result<(), Fail> {
 #[test]
 fn puts_into_memory(rt: HostRuntime) -> Result<(), Fail> {
     let mut out = MemOut::new(rt.alloc(), &[1])?;
-    let told = puts(rt.alloc(), &mut out, &["ab", "cd", "ef"])?;
+    let told = puts(rt.alloc(), &mut out, &["ab", "cd", "ef"]);
+    drop(out);
+    let told = told?;
     assert_eq!(rt; told.as_slice(), b"+!+".as_slice());
     Ok(())
 }
@@ -332,7 +431,7 @@ fn puts_into_memory(rt: HostRuntime) -> Result<(), Fail> {
 #[test]
 fn puts_surely(rt: HostRuntime) -> Result<(), Fail> {
     let mut out = SureOut::new(rt.alloc())?;
-    put_all(&mut out, b"abc")?;
+    or_drop!(put_all(&mut out, b"abc"); out);
     assert_eq!(rt; out.written(), b"abc".as_slice());
     Ok(())
 }

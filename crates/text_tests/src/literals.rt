@@ -1,6 +1,6 @@
 // Literals with what they are worth.
 use sp_base::ByteList;
-use sp_lex::{Absent, ReadFault, TokenKind, lex};
+use sp_lex::{Absent, ReadFault, TokenKind, Tokens, lex};
 use sp_literals::{bytes_value, name_text, number_value, regex_text, string_value};
 use std::alloc::Global;
 use std::test::Fail;
@@ -38,30 +38,46 @@ const NUMBERS: [(&[u8], u64); 8] = [
     (b"0x", 0),
 ];
 
-fn worth(alloc: Global, source: &[u8]) -> Result<ByteList, ReadFault> {
-    let tokens = lex(alloc, source)?;
+/// What the first of these tokens stands for.
+fn first_worth(alloc: Global, tokens: &Tokens) -> Result<ByteList, ReadFault> {
     if tokens.is_empty() {
         return Ok(ByteList::new(alloc));
     }
     let text = match tokens.as_slice()[0].kind {
-        TokenKind::Id | TokenKind::Absent(Absent::Skip) => name_text(alloc, &tokens, 0)?,
-        TokenKind::String => string_value(alloc, &tokens, 0)?,
-        TokenKind::Regex => regex_text(alloc, &tokens, 0)?,
-        TokenKind::Bytes => return Ok(bytes_value(alloc, &tokens, 0)?),
+        TokenKind::Id | TokenKind::Absent(Absent::Skip) => name_text(alloc, tokens, 0)?,
+        TokenKind::String => string_value(alloc, tokens, 0)?,
+        TokenKind::Regex => regex_text(alloc, tokens, 0)?,
+        TokenKind::Bytes => return Ok(bytes_value(alloc, tokens, 0)?),
         _ => return Ok(ByteList::new(alloc)),
     };
-    Ok(ByteList::from_slice(alloc, text.as_str().as_bytes())?)
+    let bytes = ByteList::from_slice(alloc, text.as_str().as_bytes());
+    drop(text);
+    Ok(bytes?)
+}
+
+fn worth(alloc: Global, source: &[u8]) -> Result<ByteList, ReadFault> {
+    let tokens = lex(alloc, source)?;
+    let bytes = first_worth(alloc, &tokens);
+    drop(tokens);
+    bytes
+}
+
+/// The number that the first of these tokens is.
+fn first_number(tokens: &Tokens) -> Option<u64> {
+    if tokens.is_empty() {
+        return None;
+    }
+    match tokens.as_slice()[0].kind {
+        TokenKind::Number => Some(number_value(tokens, 0)),
+        _ => None,
+    }
 }
 
 fn number(alloc: Global, source: &[u8]) -> Result<Option<u64>, ReadFault> {
     let tokens = lex(alloc, source)?;
-    if tokens.is_empty() {
-        return Ok(None);
-    }
-    match tokens.as_slice()[0].kind {
-        TokenKind::Number => Ok(Some(number_value(&tokens, 0))),
-        _ => Ok(None),
-    }
+    let number = first_number(&tokens);
+    drop(tokens);
+    Ok(number)
 }
 
 #[test]

@@ -1,5 +1,5 @@
 // Lists of files in memory.
-use sp_base::{ByteList, NoMemory, Text};
+use sp_base::{ByteList, NoMemory, Text, or_drop};
 use sp_command::Refusal;
 use sp_front::{ModuleFile, read_list};
 use sp_io::MemModules;
@@ -121,7 +121,8 @@ const CALLS: [Call; 16] = [
 fn texts(alloc: Global, words: &[&str]) -> Result<Vec<Text>, NoMemory> {
     let mut texts = Vec::new(alloc);
     for word in words {
-        texts.push(Text::new(alloc, word)?)?;
+        let text = or_drop!(Text::new(alloc, word); texts);
+        or_drop!(texts.push(text); texts);
     }
     Ok(texts)
 }
@@ -129,13 +130,15 @@ fn texts(alloc: Global, words: &[&str]) -> Result<Vec<Text>, NoMemory> {
 /// A file of this path and text.
 fn file(alloc: Global, path: &str, text: &str) -> Result<(Text, ByteList), NoMemory> {
     let path = Text::new(alloc, path)?;
-    Ok((path, ByteList::from_slice(alloc, text.as_bytes())?))
+    let bytes = or_drop!(ByteList::from_slice(alloc, text.as_bytes()); path);
+    Ok((path, bytes))
 }
 
 fn files(alloc: Global) -> Result<Vec<(Text, ByteList)>, NoMemory> {
     let mut files = Vec::new(alloc);
     for (path, text) in &FILES {
-        files.push(file(alloc, path, text)?)?;
+        let one = or_drop!(file(alloc, path, text); files);
+        or_drop!(files.push(one); files);
     }
     Ok(files)
 }
@@ -168,9 +171,19 @@ fn answer_of(
     directories: &[Text],
 ) -> Result<String, Fail> {
     let mut modules = MemModules::new(alloc, files, fails)?;
-    match read_list(alloc, &mut modules, names, directories) {
-        Ok(files) => paths(alloc, &files),
-        Err(Unread::Refused(refusal)) => refused(alloc, &refusal),
+    let list = read_list(alloc, &mut modules, names, directories);
+    drop(modules);
+    match list {
+        Ok(files) => {
+            let told = paths(alloc, &files);
+            drop(files);
+            told
+        }
+        Err(Unread::Refused(refusal)) => {
+            let told = refused(alloc, &refusal);
+            drop(refusal);
+            told
+        }
         Err(Unread::ModulesFault) => Ok(String::from_str(alloc, "fault")?),
         Err(Unread::NoMemory) => Err(NoMemory.into()),
     }
@@ -178,8 +191,11 @@ fn answer_of(
 
 fn answer_to(alloc: Global, files: &[(Text, ByteList)], call: &Call) -> Result<String, Fail> {
     let names = texts(alloc, call.names)?;
-    let directories = texts(alloc, call.directories)?;
-    answer_of(alloc, files, &[], &names, &directories)
+    let directories = or_drop!(texts(alloc, call.directories); names);
+    let answer = answer_of(alloc, files, &[], &names, &directories);
+    drop(names);
+    drop(directories);
+    answer
 }
 
 #[test]
@@ -195,8 +211,11 @@ fn lists(rt: HostRuntime) -> Result<(), Fail> {
 /// The answer to one name, where the read of this number fails.
 fn failing(alloc: Global, fails: u64) -> Result<String, Fail> {
     let files = files(alloc)?;
-    let names = texts(alloc, &["a.spicy"])?;
-    answer_of(alloc, &files, &[fails], &names, &[])
+    let names = or_drop!(texts(alloc, &["a.spicy"]); files);
+    let answer = answer_of(alloc, &files, &[fails], &names, &[]);
+    drop(files);
+    drop(names);
+    answer
 }
 
 /// A read that fails, the first and one of an import.
@@ -227,34 +246,52 @@ fn last(alloc: Global, number: u32) -> Result<(Text, ByteList), NoMemory> {
 fn chain(alloc: Global, length: u32) -> Result<Vec<(Text, ByteList)>, NoMemory> {
     let mut files = Vec::new(alloc);
     for number in 0..length {
-        files.push(importing(alloc, number)?)?;
+        let one = or_drop!(importing(alloc, number); files);
+        or_drop!(files.push(one); files);
     }
-    files.push(last(alloc, length)?)?;
+    let one = or_drop!(last(alloc, length); files);
+    or_drop!(files.push(one); files);
     Ok(files)
 }
 
 /// How many modules are read from the first of a chain.
 fn length_from_first(alloc: Global, length: u32) -> Result<Option<usize>, Fail> {
     let first = texts(alloc, &["m0.spicy"])?;
-    let files = chain(alloc, length)?;
-    let mut modules = MemModules::new(alloc, &files, &[])?;
-    match read_list(alloc, &mut modules, &first, &[]) {
-        Ok(list) => Ok(Some(list.len())),
-        Err(_) => Ok(None),
+    let files = or_drop!(chain(alloc, length); first);
+    let modules = MemModules::new(alloc, &files, &[]);
+    drop(files);
+    let mut modules = or_drop!(modules; first);
+    let list = read_list(alloc, &mut modules, &first, &[]);
+    drop(modules);
+    drop(first);
+    match list {
+        Ok(list) => {
+            let count = list.len();
+            drop(list);
+            Ok(Some(count))
+        }
+        Err(unread) => {
+            drop(unread);
+            Ok(None)
+        }
     }
 }
 
 /// The answer to the first of a chain.
 fn answer_from_first(alloc: Global, length: u32) -> Result<String, Fail> {
     let first = texts(alloc, &["m0.spicy"])?;
-    let files = chain(alloc, length)?;
-    answer_of(alloc, &files, &[], &first, &[])
+    let files = or_drop!(chain(alloc, length); first);
+    let answer = answer_of(alloc, &files, &[], &first, &[]);
+    drop(files);
+    drop(first);
+    answer
 }
 
 fn names_of(alloc: Global, files: &[(Text, ByteList)]) -> Result<Vec<Text>, NoMemory> {
     let mut names = Vec::new(alloc);
     for (path, _) in files {
-        names.push(path.copy()?)?;
+        let name = or_drop!(path.copy(); names);
+        or_drop!(names.push(name); names);
     }
     Ok(names)
 }
@@ -262,8 +299,11 @@ fn names_of(alloc: Global, files: &[(Text, ByteList)]) -> Result<Vec<Text>, NoMe
 /// The answer to the names of a whole chain.
 fn answer_to_all(alloc: Global, length: u32) -> Result<String, Fail> {
     let files = chain(alloc, length)?;
-    let names = names_of(alloc, &files)?;
-    answer_of(alloc, &files, &[], &names, &[])
+    let names = or_drop!(names_of(alloc, &files); files);
+    let answer = answer_of(alloc, &files, &[], &names, &[]);
+    drop(files);
+    drop(names);
+    answer
 }
 
 /// A list has 256 modules at most, whether they are imported or named.

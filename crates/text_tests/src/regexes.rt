@@ -97,7 +97,11 @@ const CASES: [(&[u8], Result<u64, u64>); 79] = [
 /// The count of positions, or the place of the fault.
 fn told(alloc: Global, text: &[u8]) -> Result<u64, u64> {
     match parse(alloc, text) {
-        Ok(regex) => Ok(regex.positions()),
+        Ok(regex) => {
+            let count = regex.positions();
+            drop(regex);
+            Ok(count)
+        }
         Err(RegexFault::Bad(at)) => Err(at),
         Err(RegexFault::NoMemory) => Err(u64::MAX),
     }

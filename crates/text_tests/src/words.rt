@@ -1,12 +1,13 @@
 // Command lines, and what they want.
-use sp_base::{NoMemory, Text};
+use sp_base::{NoMemory, Text, or_drop};
 use sp_driver_words::words_wanted;
 use std::alloc::Global;
 
 fn texts(alloc: Global, words: &[&str]) -> Result<Vec<Text>, NoMemory> {
     let mut list = Vec::new(alloc);
     for word in words {
-        list.push(Text::new(alloc, word)?)?;
+        let text = or_drop!(Text::new(alloc, word); list);
+        or_drop!(list.push(text); list);
     }
     Ok(list)
 }
@@ -69,7 +70,9 @@ fn ranges_are_kept(rt: HostRuntime) -> Result<(), NoMemory> {
         ("-L", ":", true),
     ] {
         let words = texts(alloc, &[option, value, "m.spicy"])?;
-        assert_eq!(rt; words_wanted(&words).is_some(), wanted);
+        let found = words_wanted(&words).is_some();
+        drop(words);
+        assert_eq!(rt; found, wanted);
     }
     Ok(())
 }

@@ -1,5 +1,5 @@
 // Which unit of a few runs.
-use sp_base::{NoMemory, Span, Text};
+use sp_base::{NoMemory, Span, Text, or_drop};
 use sp_choose::chosen;
 use sp_typed_units::{Row, Unit};
 use std::alloc::Global;
@@ -31,9 +31,12 @@ fn choice(
 ) -> Result<Option<usize>, NoMemory> {
     let mut units = Vec::new(alloc);
     for row in rows {
-        units.push(unit(alloc, row.0, row.1, row.2)?)?;
+        let one = or_drop!(unit(alloc, row.0, row.1, row.2); units);
+        or_drop!(units.push(one); units);
     }
-    Ok(chosen(name, &units))
+    let found = chosen(name, &units);
+    drop(units);
+    Ok(found)
 }
 
 #[test]

@@ -1,5 +1,5 @@
 // Expressions with ample memory.
-use sp_base::{NoMemory, Span};
+use sp_base::{NoMemory, Span, or_drop};
 use sp_numbers::Width;
 use sp_typed::{
     Expr, ExprLevel, ExprParts, Leaf, LeafOp, MOST_LEVELS, Many, ManyOp, One, OneOp, Three, Two,
@@ -30,7 +30,10 @@ fn minus(alloc: Global, e: Expr) -> Result<Expr, NoMemory> {
 }
 
 fn is_of(e: &Expr, word: Word) -> bool {
-    e.ty().same(&Type::word(word))
+    let ty = Type::word(word);
+    let same = e.ty().same(&ty);
+    drop(ty);
+    same
 }
 
 const NARROW: Word = Word::Uint(Width::W8);
@@ -38,7 +41,9 @@ const NARROW: Word = Word::Uint(Width::W8);
 /// Whether a number takes a type, and where it stands.
 fn settled() -> (bool, u32) {
     let n = number(3, 7).settle(NARROW);
-    (is_of(&n, NARROW), n.span().from)
+    let told = (is_of(&n, NARROW), n.span().from);
+    drop(n);
+    told
 }
 
 /// Whether a number with a minus sign is a literal, and takes a type.
@@ -46,7 +51,10 @@ fn settled_once(alloc: Global) -> Result<(bool, bool), NoMemory> {
     let once = minus(alloc, number(3, 7))?;
     let literal = once.is_literal();
     let to = Word::Int(Width::W16);
-    Ok((literal, is_of(&once.settle(to), to)))
+    let settled = once.settle(to);
+    let takes = is_of(&settled, to);
+    drop(settled);
+    Ok((literal, takes))
 }
 
 /// The same of a number with two minus signs.
@@ -54,7 +62,10 @@ fn settled_twice(alloc: Global) -> Result<(bool, bool), NoMemory> {
     let once = minus(alloc, number(3, 7))?;
     let twice = minus(alloc, once)?;
     let literal = twice.is_literal();
-    Ok((literal, is_of(&twice.settle(NARROW), NARROW)))
+    let settled = twice.settle(NARROW);
+    let takes = is_of(&settled, NARROW);
+    drop(settled);
+    Ok((literal, takes))
 }
 
 #[test]
@@ -81,17 +92,19 @@ fn choice(alloc: Global) -> Result<Expr, NoMemory> {
         span: HERE,
         ty: Type::word(Word::Uint(Width::W64)),
     };
-    let condition = sum(alloc)?;
+    let condition = or_drop!(sum(alloc); head);
     Expr::three(alloc, head, condition, number(1, 1), number(2, 2))
 }
 
 /// Where the two parts of the sum stand.
 fn of_sum(alloc: Global) -> Result<Option<(u32, u32)>, NoMemory> {
     let sum = sum(alloc)?;
-    match sum.level() {
-        ExprLevel::Two(_, left, right) => Ok(Some((left.span().from, right.span().from))),
-        _ => Ok(None),
-    }
+    let told = match sum.level() {
+        ExprLevel::Two(_, left, right) => Some((left.span().from, right.span().from)),
+        _ => None,
+    };
+    drop(sum);
+    Ok(told)
 }
 
 #[test]
@@ -103,14 +116,14 @@ fn two_parts_are_told(rt: HostRuntime) -> Result<(), NoMemory> {
 /// How high the choice and its condition are, and where its last part stands.
 fn of_choice(alloc: Global) -> Result<Option<(u16, u16, u32)>, NoMemory> {
     let choice = choice(alloc)?;
-    match choice.level() {
-        ExprLevel::Three(_, condition, _, last) => Ok(Some((
-            choice.levels(),
-            condition.levels(),
-            last.span().from,
-        ))),
-        _ => Ok(None),
-    }
+    let told = match choice.level() {
+        ExprLevel::Three(_, condition, _, last) => {
+            Some((choice.levels(), condition.levels(), last.span().from))
+        }
+        _ => None,
+    };
+    drop(choice);
+    Ok(told)
 }
 
 #[test]
@@ -139,27 +152,41 @@ fn parts_are_taken_out(rt: HostRuntime) -> Result<(), NoMemory> {
 fn numbers(alloc: Global, n: u32) -> Result<Vec<Expr>, NoMemory> {
     let mut all = Vec::new(alloc);
     for at in 0..n {
-        all.push(number(at, 0))?;
+        or_drop!(all.push(number(at, 0)); all);
     }
     Ok(all)
 }
 
 /// Whether there is the one of so many.
 fn is_one(alloc: Global, n: u32) -> Result<bool, NoMemory> {
-    Ok(one_of(numbers(alloc, n)?).is_some())
+    let one = one_of(numbers(alloc, n)?);
+    let found = one.is_some();
+    drop(one);
+    Ok(found)
 }
 
 /// Where the two of two stand, and the three of three.
 fn both(alloc: Global) -> Result<Option<(u32, u32)>, NoMemory> {
     match two_of(numbers(alloc, 2)?) {
-        Some((a, b)) => Ok(Some((a.span().from, b.span().from))),
+        Some((a, b)) => {
+            let told = (a.span().from, b.span().from);
+            drop(a);
+            drop(b);
+            Ok(Some(told))
+        }
         None => Ok(None),
     }
 }
 
 fn all_three(alloc: Global) -> Result<Option<(u32, u32, u32)>, NoMemory> {
     match three_of(numbers(alloc, 3)?) {
-        Some((a, b, c)) => Ok(Some((a.span().from, b.span().from, c.span().from))),
+        Some((a, b, c)) => {
+            let told = (a.span().from, b.span().from, c.span().from);
+            drop(a);
+            drop(b);
+            drop(c);
+            Ok(Some(told))
+        }
         None => Ok(None),
     }
 }
@@ -171,8 +198,11 @@ fn height_of_a_row(alloc: Global) -> Result<u16, NoMemory> {
         ty: Type::word(Word::Unknown),
         op: ManyOp::Vector,
     };
-    let row = Expr::many(row, numbers(alloc, 9)?)?;
-    Ok(row.levels())
+    let parts = or_drop!(numbers(alloc, 9); row);
+    let row = Expr::many(row, parts)?;
+    let levels = row.levels();
+    drop(row);
+    Ok(levels)
 }
 
 #[test]
@@ -198,7 +228,13 @@ fn tower(alloc: Global) -> Result<Expr, NoMemory> {
 fn highest(alloc: Global) -> Result<(u16, bool), NoMemory> {
     let tower = tower(alloc)?;
     let levels = tower.levels();
-    Ok((levels, minus(alloc, tower).is_err()))
+    match minus(alloc, tower) {
+        Ok(higher) => {
+            drop(higher);
+            Ok((levels, false))
+        }
+        Err(_) => Ok((levels, true)),
+    }
 }
 
 #[test]

@@ -61,13 +61,17 @@ fn second_unit(program: &Program) -> Option<(u32, u32, u32)> {
 /// How many instructions and units the program has, where its second unit is, and whether the ninth instruction enters it.
 fn laid(alloc: Global) -> Result<(usize, usize, Option<(u32, u32, u32)>, bool), NoMemory> {
     let list = two_units(alloc)?;
-    let program = lower(alloc, &list)?;
-    Ok((
+    let program = lower(alloc, &list);
+    drop(list);
+    let program = program?;
+    let told = (
         program.code.len(),
         program.units.len(),
         second_unit(&program),
         matches!(program.code.get(8), Some(Instr::EnterUnit(1))),
-    ))
+    );
+    drop(program);
+    Ok(told)
 }
 
 #[test]

@@ -1,24 +1,32 @@
 // Types with ample memory.
-use sp_base::NoMemory;
+use sp_base::{NoMemory, or_drop};
 use sp_numbers::Width;
 use sp_types::{Maker, Type, Word};
 use std::alloc::Global;
 
 fn vector_of(alloc: Global, element: Type) -> Result<Type, NoMemory> {
-    let mut parts = Vec::with_capacity(alloc, 1)?;
-    parts.push(element)?;
+    let mut parts = or_drop!(Vec::with_capacity(alloc, 1); element);
+    or_drop!(parts.push(element); parts);
     Type::made(alloc, Maker::Vector, parts)
 }
 
 fn goes(from: Word, to: Word) -> bool {
-    Type::word(from).goes(&Type::word(to))
+    let from = Type::word(from);
+    let to = Type::word(to);
+    let goes = from.goes(&to);
+    drop(from);
+    drop(to);
+    goes
 }
 
 /// Whether a vector of narrow integers goes to one of these integers, and can be told and be a key.
 fn of_a_vector(alloc: Global, of: Word) -> Result<(bool, bool, bool), NoMemory> {
     let vector = vector_of(alloc, Type::word(Word::Uint(Width::W8)))?;
-    let other = vector_of(alloc, Type::word(of))?;
-    Ok((vector.goes(&other), vector.is_plain(), vector.is_key()))
+    let other = or_drop!(vector_of(alloc, Type::word(of)); vector);
+    let told = (vector.goes(&other), vector.is_plain(), vector.is_key());
+    drop(vector);
+    drop(other);
+    Ok(told)
 }
 
 #[test]
@@ -45,8 +53,16 @@ fn tower(alloc: Global) -> Result<Type, NoMemory> {
 fn of_the_tower(alloc: Global) -> Result<(u16, bool, bool), NoMemory> {
     let tower = tower(alloc)?;
     let written = tower.written();
-    let same = tower.same(&tower.copy()?);
-    Ok((written, same, vector_of(alloc, tower).is_err()))
+    let copy = or_drop!(tower.copy(); tower);
+    let same = tower.same(&copy);
+    drop(copy);
+    match vector_of(alloc, tower) {
+        Ok(larger) => {
+            drop(larger);
+            Ok((written, same, false))
+        }
+        Err(_) => Ok((written, same, true)),
+    }
 }
 
 #[test]

@@ -4,7 +4,7 @@
 ghost use Rattle.std.specs.Prelude.{IfOk};
 ghost use Rattle.sp_value.specs.Changes.{IsVector, IsMap};
 
-use sp_base::NoMemory;
+use sp_base::{NoMemory, or_drop};
 use sp_numbers::Width;
 use sp_value::{Level, Value, copy_all};
 use std::alloc::Global;
@@ -34,13 +34,20 @@ impl Order {
     }
 }
 
+/// The size of a value, or 0.
+fn size_of(value: Value) -> usize {
+    let size = value.size().unwrap_or(0);
+    drop(value);
+    size
+}
+
 /// A vector to which so many items were appended, one by one.
 fn filled(alloc: Global, count: u64) -> Result<Value, NoMemory>
     ensures { IfOk result IsVector }
 {
     let mut vector = Value::vector(Vec::new(alloc))?;
     for n in 0..count {
-        vector.push_back(Value::uint(Width::W64, n))?;
+        or_drop!(vector.push_back(Value::uint(Width::W64, n)); vector);
     }
     Ok(vector)
 }
@@ -52,27 +59,31 @@ fn asked(alloc: Global) -> Result<usize, NoMemory> {
     for _ in 0..COUNT {
         all = all.wrapping_add(vector.size().unwrap_or(0));
     }
+    drop(vector);
     Ok(all)
 }
 
 /// The size of a vector that grew to `COUNT` items, and of the copy that was held from half of them on.
 fn beside_a_copy(alloc: Global) -> Result<usize, NoMemory> {
     let mut vector = filled(alloc, COUNT / 2)?;
-    let held = vector.copy()?;
+    let held = or_drop!(vector.copy(); vector);
     for n in 0..COUNT / 2 {
-        vector.push_back(Value::uint(Width::W64, n))?;
+        or_drop!(vector.push_back(Value::uint(Width::W64, n)); vector, held);
     }
     let all = vector.size().unwrap_or(0);
-    Ok(all.wrapping_add(held.size().unwrap_or(0)))
+    let all = all.wrapping_add(held.size().unwrap_or(0));
+    drop(vector);
+    drop(held);
+    Ok(all)
 }
 
 /// The number of keys of a map that took `COUNT` of them in ascending order.
 fn keys(alloc: Global) -> Result<usize, NoMemory> {
     let mut map = Value::map(Vec::new(alloc))?;
     for n in 0..COUNT {
-        map.insert(Value::uint(Width::W64, n), Value::void())?;
+        or_drop!(map.insert(Value::uint(Width::W64, n), Value::void()); map);
     }
-    Ok(map.size().unwrap_or(0))
+    Ok(size_of(map))
 }
 
 /// A map that took `KEYS` keys in an order.
@@ -81,7 +92,7 @@ fn ordered(alloc: Global, order: Order) -> Result<Value, NoMemory>
 {
     let mut map = Value::map(Vec::new(alloc))?;
     for n in 0..KEYS {
-        map.insert(Value::uint(Width::W64, order.key(n)), Value::void())?;
+        or_drop!(map.insert(Value::uint(Width::W64, order.key(n)), Value::void()); map);
     }
     Ok(map)
 }
@@ -90,9 +101,12 @@ fn ordered(alloc: Global, order: Order) -> Result<Value, NoMemory>
 fn deleted(alloc: Global) -> Result<usize, NoMemory> {
     let mut map = ordered(alloc, Order::Mixed)?;
     for n in 0..KEYS - COUNT {
-        map.delete(&Value::uint(Width::W64, n))?;
+        let key = Value::uint(Width::W64, n);
+        let deleted = map.delete(&key);
+        drop(key);
+        or_drop!(deleted; map);
     }
-    Ok(map.size().unwrap_or(0))
+    Ok(size_of(map))
 }
 
 /// Appends an item to the vector that a map has at a key, in place.
@@ -136,13 +150,13 @@ fn copied(alloc: Global) -> Result<usize, NoMemory> {
 
 fn run(alloc: Global, word: &str) -> Result<usize, NoMemory> {
     match word {
-        "push" => Ok(filled(alloc, COUNT)?.size().unwrap_or(0)),
+        "push" => Ok(size_of(filled(alloc, COUNT)?)),
         "size" => asked(alloc),
         "held" => beside_a_copy(alloc),
         "keys" => keys(alloc),
-        "rising" => Ok(ordered(alloc, Order::Rising)?.size().unwrap_or(0)),
-        "falling" => Ok(ordered(alloc, Order::Falling)?.size().unwrap_or(0)),
-        "mixed" => Ok(ordered(alloc, Order::Mixed)?.size().unwrap_or(0)),
+        "rising" => Ok(size_of(ordered(alloc, Order::Rising)?)),
+        "falling" => Ok(size_of(ordered(alloc, Order::Falling)?)),
+        "mixed" => Ok(size_of(ordered(alloc, Order::Mixed)?)),
         "deleted" => deleted(alloc),
         "deep" => deep(alloc),
         "copy" => copied(alloc),

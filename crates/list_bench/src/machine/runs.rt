@@ -109,6 +109,33 @@ fn feed(fiber: &mut Fiber<'_>, piece: &[u8], told: &mut Vec<What>) -> Result<(),
     fiber.feed(piece, told)
 }
 
+/// Gives a fiber its whole input, so many bytes of it at once, and adds what comes of it.
+fn read_whole(
+    fiber: &mut Fiber<'_>,
+    told: &mut Vec<What>,
+    input: &[u8],
+    piece: u64,
+    sum: &mut Sum,
+) -> Result<(), NoMemory> {
+    for bytes in input.chunks(piece.max(1) as usize) {
+        feed(fiber, bytes, told)?;
+        sum.events = sum.events.saturating_add(told.len() as u64);
+        sum.kept = sum.kept.max(fiber.kept());
+        told.clear();
+    }
+    fiber.end(told)?;
+    sum.events = sum.events.saturating_add(told.len() as u64);
+    sum.runs = sum.runs.saturating_add(1);
+    sum.units = sum
+        .units
+        .saturating_add(fiber.machine().instances.len() as u64);
+    match fiber.stand() {
+        Stand::Done(_) => sum.done = sum.done.saturating_add(1),
+        Stand::Waiting | Stand::Failed(_) | Stand::Left => {}
+    }
+    Ok(())
+}
+
 /// One run over a whole input, of which the fiber is given so many bytes at once.
 fn run(
     alloc: Global,
@@ -122,23 +149,10 @@ fn run(
 {
     let mut fiber = Fiber::start(alloc, program, at, Values::new(Vec::new(alloc)), LIMITS);
     let mut told = Vec::new(alloc);
-    for bytes in input.chunks(piece.max(1) as usize) {
-        feed(&mut fiber, bytes, &mut told)?;
-        sum.events = sum.events.saturating_add(told.len() as u64);
-        sum.kept = sum.kept.max(fiber.kept());
-        told.clear();
-    }
-    fiber.end(&mut told)?;
-    sum.events = sum.events.saturating_add(told.len() as u64);
-    sum.runs = sum.runs.saturating_add(1);
-    sum.units = sum
-        .units
-        .saturating_add(fiber.machine().instances.len() as u64);
-    match fiber.stand() {
-        Stand::Done(_) => sum.done = sum.done.saturating_add(1),
-        Stand::Waiting | Stand::Failed(_) | Stand::Left => {}
-    }
-    Ok(())
+    let done = read_whole(&mut fiber, &mut told, input, piece, sum);
+    drop(told);
+    drop(fiber);
+    done
 }
 
 /// One run over each input that stands in these bytes, or over no bytes.

@@ -4,30 +4,30 @@ use Rattle.sp_typing.specs.Typing.{typed, pairs_typed, method_at, call_at}
 use Rattle.sp_typing.proofs.Called.{call, call_of_member, call_of_other, ok_is, pair_step, less_behind}
 use Rattle.sp_typing.proofs.typing.+typed.Goals as goal
 
-pub call_typed-returns-in_ok-list-in-Some : goal.call_typed-returns-in_ok-list-in-Some
-call_typed-returns-in_ok-list-in-Some g t c =
+pub call_typed-returns-in-Ok-or_drop : goal.call_typed-returns-in-Ok-or_drop
+call_typed-returns-in-Ok-or_drop g t c =
     let around = g.C.Context.around c.args.context.now in
     let span = c.args.span in
     let callee = c.args.callee.now in
     let object = c.in-Some.object in
     let name = c.in-Some.name in
     let args = c.args.arguments.now in
-    ok_is c.method_at.result (method_at around span c.span.result name c.in_ok-object-in-Some.object c.in_ok-list-in-Some.list.items) (typed around (call span callee args))
-    (ap (λ s. method_at around span s name c.in_ok-object-in-Some.object c.in_ok-list-in-Some.list.items) c.span.ensures
-    ∙ ap (λ e. method_at around span (span_of callee) name e c.in_ok-list-in-Some.list.items) c.in_ok-object-in-Some.ensures
-    ∙ ap (λ es. method_at around span (span_of callee) name (typed around object) es) c.in_ok-list-in-Some.ensures
+    ok_is c.method_at.result (method_at around span c.span.result name c.in_ok-object-in-Some.object c.in-Ok-or_drop.field-0.items) (typed around (call span callee args))
+    (ap (λ s. method_at around span s name c.in_ok-object-in-Some.object c.in-Ok-or_drop.field-0.items) c.span.ensures
+    ∙ ap (λ e. method_at around span (span_of callee) name e c.in-Ok-or_drop.field-0.items) c.in_ok-object-in-Some.ensures
+    ∙ ap (λ es. method_at around span (span_of callee) name (typed around object) es) c.in-Ok-or_drop.ensures
     ∙ call_of_member around span (span_of callee) object name callee args c.in-Some.ensures.some)
     c.method_at.ensures
 
-pub call_typed-returns-in_ok-list-in-None : goal.call_typed-returns-in_ok-list-in-None
-call_typed-returns-in_ok-list-in-None g t c =
+pub call_typed-returns-in-Ok-or_drop-list : goal.call_typed-returns-in-Ok-or_drop-list
+call_typed-returns-in-Ok-or_drop-list g t c =
     let around = g.C.Context.around c.args.context.now in
     let span = c.args.span in
     let callee = c.args.callee.now in
     let args = c.args.arguments.now in
-    ok_is c.call_at.result (call_at around span c.in_ok-called-in-None.called c.in_ok-list-in-None.list.items) (typed around (call span callee args))
-    (ap (λ e. call_at around span e c.in_ok-list-in-None.list.items) c.in_ok-called-in-None.ensures
-    ∙ ap (λ es. call_at around span (typed around callee) es) c.in_ok-list-in-None.ensures
+    ok_is c.call_at.result (call_at around span c.in_ok-called-in-None.called c.in-Ok-or_drop-list.field-0.items) (typed around (call span callee args))
+    (ap (λ e. call_at around span e c.in-Ok-or_drop-list.field-0.items) c.in_ok-called-in-None.ensures
+    ∙ ap (λ es. call_at around span (typed around callee) es) c.in-Ok-or_drop-list.ensures
     ∙ call_of_other around span callee args c.in-None.ensures.none)
     c.call_at.ensures
 
@@ -36,7 +36,7 @@ pairs_typed-loop-pair-preserved g t c =
     let around = g.C.Context.around c.args.context.now in (
       tt,
       tt,
-      pair_step around c.loop-pair.all.items c.push.new.self.items c.loop-pair.pair-iterator c.next.new.self c.in-Some.pair c.view-pair.result.key c.view-pair.result.value (span_of c.in-Some.pair) c.in_ok-key.key c.in_ok-value.value (pairs_typed around (trees c.args.pairs.now)) c.in-Some.ensures.steps c.view-pair.ensures c.in_ok-key.ensures c.in_ok-value.ensures c.in_ok-push.ensures.items c.loop-pair.invariant.2,
+      pair_step around c.loop-pair.all.items c.push.new.self.items c.loop-pair.pair-iterator c.next.new.self c.in-Some.pair c.view-pair.result.key c.view-pair.result.value (span_of c.in-Some.pair) c.in-Ok-or_drop.field-0 c.in-Ok-or_drop-value.field-0 (pairs_typed around (trees c.args.pairs.now)) c.in-Some.ensures.steps c.view-pair.ensures c.in-Ok-or_drop.ensures c.in-Ok-or_drop-value.ensures c.in-Ok-or_drop-2.ensures.items c.loop-pair.invariant.2,
       less_behind c.loop-pair.pair-iterator c.next.new.self c.in-Some.pair (trees_size (trees c.args.pairs.now)) c.in-Some.ensures.steps c.loop-pair.invariant.3,
     )
 

@@ -64,43 +64,43 @@ block_typed-returns-clause-scope g t c =
     on_ok c.new.result
     (block_scope c.args.body.now around c.args.in_loop c.args.scope.now c.stmts_typed.new.scope c.close.new.self c.args.block.now (span_of c.args.block.now) c.statements.result c.mark-mark.result c.statements.ensures c.mark-mark.ensures c.close.ensures c.in_ok-list.ensures.scope)
 
-pub branch_typed-returns-clause-scope : goal.branch_typed-returns-clause-scope
-branch_typed-returns-clause-scope g t c =
+pub branch_typed-returns-2-clause-scope : goal.branch_typed-returns-2-clause-scope
+branch_typed-returns-2-clause-scope g t c =
     let around = g.C.Context.around c.args.context.now in
-    branch_scope c.args.body.now around c.args.in_loop c.args.scope.now c.value_in.new.scope c.typed_stmt.new.scope c.close.new.self c.args.branch.now c.view-view.result.condition c.view-view.result.body (span_of c.args.branch.now) c.mark-mark.result c.view-view.ensures c.mark-mark.ensures c.in_ok-condition.ensures.scope c.in_ok-stmt.ensures.scope c.close.ensures
+    branch_scope c.args.body.now around c.args.in_loop c.args.scope.now c.value_in.new.scope c.typed_stmt.new.scope c.close.new.self c.args.branch.now c.view-view.result.condition c.view-view.result.body (span_of c.args.branch.now) c.mark-mark.result c.view-view.ensures c.mark-mark.ensures c.in_ok-condition.ensures.scope c.in-Ok-or_drop.ensures.scope c.close.ensures
 
-pub if_typed-returns-clause-scope : goal.if_typed-returns-clause-scope
-if_typed-returns-clause-scope g t c =
+pub if_typed-returns-3-clause-scope : goal.if_typed-returns-3-clause-scope
+if_typed-returns-3-clause-scope g t c =
     let around = g.C.Context.around c.args.context.now in
     on_ok c.new-2.result
-    (if_scope c.args.body.now around c.args.in_loop c.args.scope.now c.branches_typed.new.scope c.otherwise_typed.new.scope c.close.new.self c.args.branches.now c.args.otherwise.now c.mark-mark.result c.mark-mark.ensures c.in_ok-list.ensures.scope c.in_ok-other.ensures.scope c.close.ensures)
+    (if_scope c.args.body.now around c.args.in_loop c.args.scope.now c.branches_typed.new.scope c.otherwise_typed.new.scope c.close.new.self c.args.branches.now c.args.otherwise.now c.mark-mark.result c.mark-mark.ensures c.in_ok-list.ensures.scope c.in-Ok-or_drop.ensures.scope c.close.ensures)
 
-pub while_typed-returns-clause-scope : goal.while_typed-returns-clause-scope
-while_typed-returns-clause-scope g t c =
+pub while_typed-returns-3-clause-scope : goal.while_typed-returns-3-clause-scope
+while_typed-returns-3-clause-scope g t c =
     let around = g.C.Context.around c.args.context.now in
     on_ok c.new-2.result
-    (while_scope c.args.body.now around c.args.scope.now c.value_in.new.scope c.typed_stmt.new.scope c.close.new.self c.args.condition.now c.args.inner.now c.mark-mark.result c.mark-mark.ensures c.in_ok-condition.ensures.scope c.in_ok-inner.ensures.scope c.close.ensures)
+    (while_scope c.args.body.now around c.args.scope.now c.value_in.new.scope c.typed_stmt.new.scope c.close.new.self c.args.condition.now c.args.inner.now c.mark-mark.result c.mark-mark.ensures c.in_ok-condition.ensures.scope c.in-Ok-or_drop.ensures.scope c.close.ensures)
 
-pub for_typed-returns-clause-scope : goal.for_typed-returns-clause-scope
-for_typed-returns-clause-scope g t c =
+pub for_typed-returns-6-clause-scope : goal.for_typed-returns-6-clause-scope
+for_typed-returns-6-clause-scope g t c =
     let around = g.C.Context.around c.args.context.now in
     on_ok c.new-2.result
-    (for_scope c.args.body.now around c.args.scope.now c.value_in.new.scope c.loop_head.new.scope c.typed_stmt.new.scope c.close.new.self c.args.name.now c.args.sequence.now c.args.inner.now c.in_ok-sequence.sequence c.in_ok-seen.field-0 c.in_ok-ty.ty c.mark-mark.result c.mark-mark.ensures c.in_ok-sequence.ensures.expr c.in_ok-sequence.ensures.scope c.in_ok-seen.ensures c.in_ok-ty.ensures c.in_ok-head.ensures.scope c.in_ok-stmt.ensures.scope c.close.ensures)
+    (for_scope c.args.body.now around c.args.scope.now c.value_in.new.scope c.loop_head.new.scope c.typed_stmt.new.scope c.close.new.self c.args.name.now c.args.sequence.now c.args.inner.now c.in_ok-sequence.sequence c.in-Ok-or_drop.field-0 c.in-Ok-or_drop-ty.field-0 c.mark-mark.result c.mark-mark.ensures c.in_ok-sequence.ensures.expr c.in_ok-sequence.ensures.scope c.in-Ok-or_drop.ensures c.in-Ok-or_drop-ty.ensures c.in-Ok-or_drop-head.ensures.scope c.in-Ok-or_drop-stmt.ensures.scope c.close.ensures)
 
-pub case_typed-returns-clause-scope : goal.case_typed-returns-clause-scope
-case_typed-returns-clause-scope g t c =
+pub case_typed-returns-2-clause-scope : goal.case_typed-returns-2-clause-scope
+case_typed-returns-2-clause-scope g t c =
     let around = g.C.Context.around c.args.context.now in
-    case_scope c.args.body.now around c.args.in_loop c.args.subject.now c.args.scope.now c.values_in.new.scope c.typed_stmt.new.scope c.close.new.self c.args.case.now c.view-view.result.body c.view-view.result.values (span_of c.args.case.now) c.mark-before.result c.view-view.ensures c.mark-before.ensures c.in_ok-values.ensures.scope c.in_ok-stmt.ensures.scope c.close.ensures
+    case_scope c.args.body.now around c.args.in_loop c.args.subject.now c.args.scope.now c.values_in.new.scope c.typed_stmt.new.scope c.close.new.self c.args.case.now c.view-view.result.body c.view-view.result.values (span_of c.args.case.now) c.mark-before.result c.view-view.ensures c.mark-before.ensures c.in_ok-values.ensures.scope c.in-Ok-or_drop.ensures.scope c.close.ensures
 
-pub switch_typed-returns-clause-stmt : goal.switch_typed-returns-clause-stmt
-switch_typed-returns-clause-stmt g t c =
+pub switch_typed-returns-6-clause-stmt : goal.switch_typed-returns-6-clause-stmt
+switch_typed-returns-6-clause-stmt g t c =
     let around = g.C.Context.around c.args.context.now in
-    ok_is c.switch_of.result (switch c.in_ok-slot.slot c.in_ok-subject.subject (case_row c.in_ok-list.list.items) c.in_ok-other.other) (typed_stmt c.args.body.now around c.args.in_loop c.args.scope.now (switch_tree c.args.subject.now c.args.cases.now c.args.otherwise.now)).0
-    (switch_is c.args.body.now around c.args.in_loop c.args.scope.now c.value_in.new.scope c.take_slot.new.self c.cases_typed.new.scope c.args.subject.now c.args.cases.now c.args.otherwise.now c.in_ok-slot.slot c.in_ok-ty.ty c.in_ok-copy.field-0 c.in_ok-subject.subject c.in_ok-list.list.items c.in_ok-other.other c.in_ok-subject.ensures.expr c.in_ok-subject.ensures.scope c.in_ok-ty.ensures c.in_ok-copy.ensures c.in_ok-slot.ensures.slot c.in_ok-slot.ensures.scope c.in_ok-list.ensures.cases c.in_ok-list.ensures.scope c.in_ok-other.ensures.stmt)
+    ok_is c.switch_of.result (switch c.in-Ok-or_drop-slot.field-0 c.in_ok-subject.subject (case_row c.in-Ok-or_drop-list.field-0.items) c.in-Ok-or_drop-other.field-0) (typed_stmt c.args.body.now around c.args.in_loop c.args.scope.now (switch_tree c.args.subject.now c.args.cases.now c.args.otherwise.now)).0
+    (switch_is c.args.body.now around c.args.in_loop c.args.scope.now c.value_in.new.scope c.take_slot.new.self c.cases_typed-list.new.scope c.args.subject.now c.args.cases.now c.args.otherwise.now c.in-Ok-or_drop-slot.field-0 c.in-Ok-or_drop.field-0 c.in-Ok-or_drop-copy.field-0 c.in_ok-subject.subject c.in-Ok-or_drop-list.field-0.items c.in-Ok-or_drop-other.field-0 c.in_ok-subject.ensures.expr c.in_ok-subject.ensures.scope c.in-Ok-or_drop.ensures c.in-Ok-or_drop-copy.ensures c.in-Ok-or_drop-slot.ensures.slot c.in-Ok-or_drop-slot.ensures.scope c.in-Ok-or_drop-list.ensures.cases c.in-Ok-or_drop-list.ensures.scope c.in-Ok-or_drop-other.ensures.stmt)
     c.switch_of.ensures
 
-pub switch_typed-returns-clause-scope : goal.switch_typed-returns-clause-scope
-switch_typed-returns-clause-scope g t c =
+pub switch_typed-returns-6-clause-scope : goal.switch_typed-returns-6-clause-scope
+switch_typed-returns-6-clause-scope g t c =
     let around = g.C.Context.around c.args.context.now in
     on_ok c.switch_of.result
-    (switch_scope c.args.body.now around c.args.in_loop c.args.scope.now c.value_in.new.scope c.take_slot.new.self c.cases_typed.new.scope c.otherwise_typed.new.scope c.close.new.self c.args.subject.now c.args.cases.now c.args.otherwise.now c.in_ok-ty.ty c.in_ok-copy.field-0 c.in_ok-subject.subject c.mark-mark.result c.mark-mark.ensures c.in_ok-subject.ensures.expr c.in_ok-subject.ensures.scope c.in_ok-ty.ensures c.in_ok-copy.ensures c.in_ok-slot.ensures.scope c.in_ok-list.ensures.scope c.in_ok-other.ensures.scope c.close.ensures)
+    (switch_scope c.args.body.now around c.args.in_loop c.args.scope.now c.value_in.new.scope c.take_slot.new.self c.cases_typed-list.new.scope c.otherwise_typed.new.scope c.close.new.self c.args.subject.now c.args.cases.now c.args.otherwise.now c.in-Ok-or_drop.field-0 c.in-Ok-or_drop-copy.field-0 c.in_ok-subject.subject c.mark-mark.result c.mark-mark.ensures c.in_ok-subject.ensures.expr c.in_ok-subject.ensures.scope c.in-Ok-or_drop.ensures c.in-Ok-or_drop-copy.ensures c.in-Ok-or_drop-slot.ensures.scope c.in-Ok-or_drop-list.ensures.scope c.in-Ok-or_drop-other.ensures.scope c.close.ensures)
