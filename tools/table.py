@@ -101,6 +101,14 @@ def action_in_code(action):
     return f"Action::{camel(action)}"
 
 
+def action_name(action):
+    """What tests call the action."""
+    if action in OPERATIONS:
+        variant, _, operator = OPERATIONS[action]
+        return f"Assign({operator})" if variant == "Assign" else operator
+    return camel(action)
+
+
 def action_in_contracts(action):
     if action in OPERATIONS:
         variant, _, operator = OPERATIONS[action]
@@ -313,7 +321,7 @@ use sp_words::{AssignOp, BinaryOp, UnaryOp};
 
 /// What is built where a derivation passes an action. `Begin` opens a tree. An action with the name of an alternative closes
 /// it, or makes it of one token or of the trees before it; `Binary`, `Unary` and `Assign` make an operation by this operator.
-#[derive(Clone, Copy, Debug)]
+#[derive(Clone, Copy)]
 pub enum Action {
 %s}
 
@@ -345,6 +353,17 @@ pub fn action_of(number: u8) -> Option<Action>
         None
     }
 }
+
+/// Their names; those of operations between operands and before one are the operators'.
+#[rattlefmt::skip]
+static NAMES: [&str; %d] = [
+%s];
+
+/// The name of the action with a number in the table, empty if there is none.
+pub fn action_name(number: u8) -> &'static str {
+    let place = number as usize;
+    if place < NAMES.len() { NAMES[place] } else { "" }
+}
 """
 
 
@@ -357,6 +376,8 @@ def action_enum(g, _):
         "".join(f"            {name} => {number},\n" for number, name in enumerate(names)),
         len(names),
         lines_of(names, 3, "    "),
+        len(names),
+        lines_of([f'"{action_name(action)}"' for action in g.actions], 4, "    "),
     )
 
 

@@ -7,7 +7,7 @@ use sp_words::{AssignOp, BinaryOp, UnaryOp};
 
 /// What is built where a derivation passes an action. `Begin` opens a tree. An action with the name of an alternative closes
 /// it, or makes it of one token or of the trees before it; `Binary`, `Unary` and `Assign` make an operation by this operator.
-#[derive(Clone, Copy, Debug)]
+#[derive(Clone, Copy)]
 pub enum Action {
     Begin,
     Name,
@@ -349,4 +349,51 @@ pub fn action_of(number: u8) -> Option<Action>
     } else {
         None
     }
+}
+
+/// Their names; those of operations between operands and before one are the operators'.
+#[rattlefmt::skip]
+static NAMES: [&str; 143] = [
+    "Begin", "Name", "Row", "ModuleDecl",
+    "ImportDecl", "ByteOrderDecl", "String", "VersionDecl",
+    "TypeDecl", "ConstDecl", "FunctionDecl", "OnDecl",
+    "PublicTypeDecl", "PublicConstDecl", "PublicFunctionDecl", "Path",
+    "Absent", "HookName", "Hook", "EachBody",
+    "HookBody", "InoutParameter", "Parameter", "PathType",
+    "IntType", "BoolType", "BytesType", "StringType",
+    "VoidType", "TupleType", "VectorType", "SetType",
+    "MapType", "EnumType", "Number", "BitfieldType",
+    "Unit", "UnitType", "Label", "Bits",
+    "FilterItem", "ByteOrderItem", "MimeTypeItem", "DescriptionItem",
+    "VariableItem", "SinkItem", "OnItem", "PartItem",
+    "NameTarget", "HookTarget", "SwitchPart", "OtherwiseGuard",
+    "Arm", "ValuesGuard", "LookAheadGuard", "NothingBody",
+    "OneBody", "ManyBody", "Field", "FieldPart",
+    "Count", "Attribute", "TypeBase", "BytesBase",
+    "RegexBase", "GroupBase", "UnitBase", "NumberBase",
+    "IntBase", "Block", "Branch", "IfStmt",
+    "BlockStmt", "LocalStmt", "WhileStmt", "ForStmt",
+    "SwitchStmt", "ReturnStmt", "BreakStmt", "ContinueStmt",
+    "StopStmt", "ConfirmStmt", "RejectStmt", "PrintStmt",
+    "ThrowStmt", "AssertStmt", "AddStmt", "DeleteStmt",
+    "Case", "Assign(Set)", "Assign(Add)", "Assign(Subtract)",
+    "ExprStmt", "Choice", "Or", "And",
+    "In", "NotIn", "Equal", "NotEqual",
+    "Less", "LessEqual", "Greater", "GreaterEqual",
+    "BitOr", "BitXor", "BitAnd", "ShiftLeft",
+    "ShiftRight", "Add", "Subtract", "Multiply",
+    "Divide", "Remainder", "Not", "Negate",
+    "Complement", "Member", "SetMember", "Index",
+    "Call", "PathExpr", "SelfExpr", "CurrentExpr",
+    "NumberExpr", "StringExpr", "BytesExpr", "RegexExpr",
+    "TrueExpr", "FalseExpr", "VectorExpr", "EmptyVectorExpr",
+    "TypedNumberExpr", "CastExpr", "NewExpr", "SizeExpr",
+    "Paren", "TupleExpr", "SetExpr", "EmptySetExpr",
+    "MapExpr", "EmptyMapExpr", "Pair",
+];
+
+/// The name of the action with a number in the table, empty if there is none.
+pub fn action_name(number: u8) -> &'static str {
+    let place = number as usize;
+    if place < NAMES.len() { NAMES[place] } else { "" }
 }

@@ -7,7 +7,7 @@ mod laws;
 mod tables;
 mod terminals;
 
-pub use actions::{Action, action_of};
+pub use actions::{Action, action_name, action_of};
 pub use language::{Language, Start, parse_kinds};
 pub use laws::{grammar_is_unambiguous, numbers_are_apart, table_reads_the_grammar};
 pub use tables::{ROWS, SPANS, SYMBOLS};
