@@ -1,4 +1,4 @@
-// The loops of lib_bench in plain Rust, with the same types of results.
+// The loops of `leaf_bench` on the library in plain Rust, with the same types of results.
 use std::collections::BTreeMap;
 use std::io::BufRead;
 use std::rc::Rc;

@@ -1,4 +1,4 @@
-// Matches a text token by token by RE2, from an input like that of match_bench: its members are one regular expression,
+// Matches a text token by token by RE2, from an input like that of `leaf_bench tokens`: its members are one regular expression,
 // of which the longest match is taken. Says how many tokens there were, and how many bytes they have.
 #include <cstdio>
 #include <iostream>

@@ -1,4 +1,4 @@
-// The loops of `values_bench` in plain Rust, for a look at both times side by side. The values stand behind `Rc` alike.
+// The loops of `leaf_bench` on values in plain Rust, for a look at both times side by side. The values stand behind `Rc` alike.
 #![allow(dead_code)]
 
 use std::collections::BTreeMap;

@@ -1,4 +1,0 @@
-use Rattle.batch_bench.proofs.records.Goals as goal
-
-pub read_record-requires : goal.read_record-requires
-read_record-requires c = c.loop.invariant

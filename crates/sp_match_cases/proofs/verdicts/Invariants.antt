@@ -1,6 +1,0 @@
-use Rattle.std.proofs.Common.{◌≡◌}
-use Rattle.sp_match.specs.Sizes.{steps}
-use Rattle.sp_match_cases.proofs.verdicts.Given as goal
-
-abbrev pub invariant-loop-byte : goal.invariant-loop-byte
-invariant-loop-byte l = steps l.matcher ≡ l.byte-index

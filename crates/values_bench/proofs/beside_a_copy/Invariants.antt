@@ -1,5 +1,0 @@
-use Rattle.sp_value.specs.Changes.{IsVector}
-use Rattle.values_bench.proofs.beside_a_copy.Given as goal
-
-abbrev pub invariant-loop-n : goal.invariant-loop-n
-invariant-loop-n l = IsVector l.vector
