@@ -15,3 +15,16 @@ row() { # NAME FILE [WORDS]: the seconds with these words, and what came out
     end=$(date +%s.%N)
     printf '%-22s %9d bytes  %s s  %s\n' "$name" "$(wc -c <"$file")" "$(echo "$end $start" | awk '{ printf "%.3f", $1 - $2 }')" "$said"
 }
+used() { # RUNS FILE COMMAND..: the microseconds of the processor that the command takes with the file as its input, the best of so many runs
+    python3 -c 'if True:
+        import os, subprocess, sys
+        least = None
+        for _ in range(int(sys.argv[1])):
+            with open(sys.argv[2], "rb") as file:
+                run = subprocess.Popen(sys.argv[3:], stdin=file, stdout=subprocess.DEVNULL, stderr=subprocess.DEVNULL)
+                taken = os.wait4(run.pid, 0)[2]
+            seconds = taken.ru_utime + taken.ru_stime
+            least = seconds if least is None else min(least, seconds)
+        print(round(least * 1000000))
+    ' "$@"
+}

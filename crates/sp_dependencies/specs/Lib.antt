@@ -1,4 +1,3 @@
 pub mod Tries
 pub mod TryLaws
 pub mod Endless
-pub mod Links

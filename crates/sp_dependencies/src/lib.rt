@@ -5,8 +5,6 @@
 mod dependent;
 mod laws;
 mod search;
-#[cfg(test)]
-mod tests;
 
 pub use dependent::Dependent;
 pub use laws::none_is_endless;

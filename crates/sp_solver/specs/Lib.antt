@@ -1,4 +1,3 @@
 pub mod Told
 pub mod Rounds
 pub mod Rows
-pub mod Links

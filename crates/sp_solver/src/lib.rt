@@ -4,8 +4,6 @@
 mod attempt;
 mod laws;
 mod search;
-#[cfg(test)]
-mod tests;
 
 pub use attempt::{Attempt, Questions};
 pub use laws::{no_round_answers, settled_is_one};

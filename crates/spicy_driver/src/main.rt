@@ -1,9 +1,6 @@
 //! The command `spicy-driver`: the driver over the real files and streams.
 #![tactic(auto)]
 
-#[cfg(test)]
-mod tests;
-
 use sp_base::{NoMemory, Text};
 use sp_driver::spicy_driver;
 use sp_io::{DirModules, StdOut, StdSource};

@@ -1,4 +1,0 @@
-pub mod Passing
-pub mod Compiled
-pub mod Starts
-pub mod Chosen

@@ -1,0 +1,5 @@
+use Rattle.sp_value.specs.Changes.{IsMap}
+use Rattle.tests.proofs.values.tenfold.Given as goal
+
+abbrev pub invariant-loop-n : goal.invariant-loop-n
+invariant-loop-n l = IsMap l.map
