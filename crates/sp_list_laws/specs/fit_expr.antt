@@ -5,3 +5,4 @@ pub mod Test
 pub mod Constants
 pub mod Passes
 pub mod Rows
+pub mod Laws

@@ -4,3 +4,4 @@ pub mod Bodies
 pub mod Units
 pub mod Passes
 pub mod Rows
+pub mod Laws

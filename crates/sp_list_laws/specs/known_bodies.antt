@@ -2,3 +2,4 @@ pub mod Slots
 pub mod Decided
 pub mod Trees
 pub mod Rows
+pub mod Laws

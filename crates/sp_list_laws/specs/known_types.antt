@@ -4,3 +4,4 @@ pub mod Clear
 pub mod Given
 pub mod Stmts
 pub mod Rows
+pub mod Laws

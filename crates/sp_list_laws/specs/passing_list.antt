@@ -2,3 +2,4 @@ pub mod Built
 pub mod Hooked
 pub mod Rows
 pub mod Stored
+pub mod Laws

@@ -3,3 +3,4 @@ pub mod Trees
 pub mod Whole
 pub mod Known
 pub mod Rows
+pub mod Laws

@@ -1,47 +1,19 @@
 // What is known of a body in which no rule is broken.
-ghost use Rattle.std.specs.Prelude.{◌≡◌, ℕ, List, Bool, Option, IsTrue};
-ghost use Rattle.std.specs.List.{list_all};
-ghost use Rattle.sp_ast.specs.Trees.{Tree};
-ghost use Rattle.sp_ast.specs.Slots.{is_formed};
-ghost use Rattle.sp_types.specs.Types.{Ty};
-ghost use Rattle.sp_typed.specs.declared.words.OneOp.{OneOp};
-ghost use Rattle.sp_typed.specs.Exprs.{Expr};
-ghost use Rattle.sp_typed.specs.Nodes.{holds};
-ghost use Rattle.sp_typed.specs.StmtNodes.{stmts_in, nodes_hold};
-ghost use Rattle.sp_typing.specs.Contexts.{Around};
-ghost use Rattle.sp_typing_stmts.specs.declared.body.Body.{Body};
-ghost use Rattle.sp_typing_stmts.specs.Scopes.{Scope};
-ghost use Rattle.sp_typing_stmts.specs.Owners.{kept};
-ghost use Rattle.sp_typing_stmts.specs.Statements.{typed_body};
-ghost use Rattle.sp_body_rules.specs.Known.{Known};
-ghost use Rattle.sp_list_laws.specs.known_types.Full.{is_right};
-ghost use Rattle.sp_list_laws.specs.known_types.Clear.{is_clear};
-ghost use Rattle.sp_list_laws.specs.known_types.Trees.{written_hold};
-ghost use Rattle.sp_list_laws.specs.known_types.Given.{IsKnown};
-ghost use Rattle.sp_list_laws.specs.known_types.Stmts.{is_good, exprs_hold, is_quiet};
-ghost use Rattle.sp_list_laws.specs.known_bodies.Slots.{plain, IsBlind};
-ghost use Rattle.sp_list_laws.specs.known_bodies.Decided.{DecidesUnder};
-ghost use Rattle.sp_list_laws.specs.known_bodies.Trees.{is_body};
+ghost use Rattle.sp_list_laws.specs.known_bodies.Laws.{KeptIsPlain, BodiesAreKnown, FormedIsBody};
 
 /// An expression whose owners are kept in slots is plainly what it was.
 pub fn kept_is_plain()
-    ensures { (sc : Scope) (e : Expr) → plain (kept sc e).0 ≡ plain e }
+    ensures { KeptIsPlain }
 {}
 
 /// Where all that can be named round a body is known, also whether indexes are constant behind locals of full types, and no rule is broken at its nodes and statements, each node of each
 /// expression in it is a value of a full type, but that `add` and `delete` may take the key of a set.
 pub fn bodies_are_known()
-    ensures { (g : Around) (only : OneOp → Bool) (k : Known) (m : ℕ) (is_type is_path : Tree → Bool)
-        (b : Body) (wanted : Option Ty) (slots : List Ty) (t : Tree)
-        → IsKnown g only k m is_type is_path → IsBlind k → DecidesUnder g only k m is_type is_path → IsTrue (is_body is_type is_path t)
-        → IsTrue (nodes_hold (is_clear only k m) (typed_body b g slots t).0)
-        → IsTrue (list_all (is_quiet k wanted m) (stmts_in (typed_body b g slots t).0))
-        → IsTrue (exprs_hold (holds is_right) is_good (typed_body b g slots t).0) }
+    ensures { BodiesAreKnown }
 {}
 
 /// A tree in which each alternative has its parts is one of a body, where tests hold of each type and of each path that is
 /// written in it.
 pub fn formed_is_body()
-    ensures { (is_type is_path : Tree → Bool) (t : Tree) → IsTrue (is_formed t)
-        → IsTrue (written_hold is_type is_path t) → IsTrue (is_body is_type is_path t) }
+    ensures { FormedIsBody }
 {}

@@ -1,73 +1,32 @@
 // What is known of constants and labels.
-ghost use Rattle.std.specs.Prelude.{◌≡◌, ◌<◌, ℕ, Bool, List, Option, length, IsTrue};
-ghost use Rattle.std.specs.List.{list_all};
-ghost use Rattle.sp_ast.specs.Trees.{Tree};
-ghost use Rattle.sp_ast.specs.Groups.{is_of};
-ghost use Rattle.sp_ast.specs.declared.groups.Group.TheVariants.{Types};
-ghost use Rattle.sp_types.specs.Types.{Ty};
-ghost use Rattle.sp_typed.specs.declared.words.OneOp.{OneOp};
-ghost use Rattle.sp_typed.specs.Exprs.{Expr};
-ghost use Rattle.sp_typed.specs.Nodes.{holds};
-ghost use Rattle.sp_typed_units.specs.declared.declarations.Typed.{Typed};
-ghost use Rattle.sp_names.specs.declared.sort.DeclSort.TheVariants.{Constant};
-ghost use Rattle.sp_names.specs.Declarations.{sort_at, number_at};
-ghost use Rattle.sp_around.specs.Arounds.{around};
-ghost use Rattle.sp_constants.specs.Known.{Known as Values};
-ghost use Rattle.sp_constants.specs.Outcomes.{is_constant};
-ghost use Rattle.sp_constants.specs.Values.{value_of};
-ghost use Rattle.sp_body_rules.specs.Known.{Known};
-ghost use Rattle.sp_list_rules.specs.Told.{values_of};
-ghost use Rattle.sp_declared_values.specs.declared.answer.Answer.{Answer};
-ghost use Rattle.sp_declared_values.specs.Valued.{valued};
-ghost use Rattle.sp_declared_values.specs.Answers.{constant_type};
-ghost use Rattle.sp_list_laws.specs.known_types.Full.{is_full};
-ghost use Rattle.sp_list_laws.specs.known_types.Clear.{may_stand};
-ghost use Rattle.sp_list_laws.specs.known_values.Given.{AreTold};
-ghost use Rattle.sp_list_laws.specs.whole_list.Types.{is_type};
-ghost use Rattle.sp_list_laws.specs.whole_list.Whole.{is_known_constant, is_known_enum};
-ghost use Rattle.sp_list_laws.specs.known_constants.Good.{constant_op, is_answered, is_told};
-ghost use Rattle.sp_list_laws.specs.known_constants.Fine.{IsFine};
-ghost use Rattle.sp_list_laws.specs.known_constants.Given.{facts_with, AreUnbroken};
+ghost use Rattle.sp_list_laws.specs.known_constants.Laws.{ConstantsTakeNoMember, WrittenTypesAreTypes, ConstantsAreAnsweredAnswered, ConstantsAreAnsweredTyped, ConstantsAreKnownConstants, ConstantsAreKnownEnums, NamesAreToldTrees, NamesAreToldNames};
 
 /// No node of an expression that is constant takes a member.
 pub fn constants_take_no_member()
-    ensures { (k : Values) (e : Expr) → IsTrue (is_constant (value_of k e))
-        → IsTrue (holds (may_stand constant_op) e) }
+    ensures { ConstantsTakeNoMember }
 {}
 
 /// Where each alternative has its parts and each name in a type names something, each type that is written is one.
 pub fn written_types_are_types()
-    ensures { (list : List Tree) (f : ℕ → Option Ty) (m : ℕ) (t : Tree) → IsTrue (is_of Types t)
-        → IsFine list f m t → IsTrue (is_type list f m t) }
+    ensures { WrittenTypesAreTypes }
 {}
 
 /// In a list in which no rule on them is broken each constant and each label has an answer, of a full type and with a value that
 /// fits it; and each constant is of a full type.
 pub fn constants_are_answered()
-    ensures answered { (list : List Tree) (f : ℕ → Option Ty) (known : ℕ → Option Answer) (t : Typed)
-        → AreUnbroken list f known t → (i : ℕ) → i < length (valued list f)
-        → IsTrue (is_answered (known i)) }
-    ensures typed { (list : List Tree) (f : ℕ → Option Ty) (known : ℕ → Option Answer) (t : Typed)
-        → AreUnbroken list f known t → (g : ℕ) → sort_at list g ≡ Constant
-        → IsTrue (is_full (constant_type list f known (number_at list g))) }
+    ensures answered { ConstantsAreAnsweredAnswered }
+    ensures typed { ConstantsAreAnsweredTyped }
 {}
 
 /// All is known of the constants and the enums of such a list: each node of their values and their numbers is a value of a full type.
 pub fn constants_are_known()
-    ensures constants { (list : List Tree) (f : ℕ → Option Ty) (known : ℕ → Option Answer) (t : Typed)
-        → AreUnbroken list f known t → IsTrue (list_all is_known_constant t.constants) }
-    ensures enums { (list : List Tree) (f : ℕ → Option Ty) (known : ℕ → Option Answer) (t : Typed)
-        → AreUnbroken list f known t → IsTrue (list_all is_known_enum t.enums) }
+    ensures constants { ConstantsAreKnownConstants }
+    ensures enums { ConstantsAreKnownEnums }
 {}
 
 /// In such a list all that is named in any tree is told, and so are the names round the expressions of each module, with the values
 /// that the typed list tells.
 pub fn names_are_told()
-    ensures trees { (list : List Tree) (f : ℕ → Option Ty) (known : ℕ → Option Answer) (t : Typed)
-        → AreUnbroken list f known t → (m : ℕ) (u : Tree) → IsTrue (is_told list f known m u) }
-    ensures names { (list : List Tree) (f : ℕ → Option Ty) (known : ℕ → Option Answer) (t : Typed)
-        → AreUnbroken list f known t
-        → (only : OneOp → Bool) (k : Known) (rules m : ℕ) (stored : ℕ → ℕ → Ty) (number : Expr → Option ℕ)
-        → AreTold (around list (facts_with list f known stored number) m) only k rules (values_of t)
-        (is_told list f known m) }
+    ensures trees { NamesAreToldTrees }
+    ensures names { NamesAreToldNames }
 {}

@@ -1,75 +1,29 @@
 // What is known of declarations, and of what stands round the expressions of a module.
-ghost use Rattle.std.specs.Prelude.{◌≡◌, ℕ, Bool, false, List, Option, Some, IsTrue, is_none};
-ghost use Rattle.sp_ast.specs.Trees.{Tree};
-ghost use Rattle.sp_types.specs.Types.{Ty};
-ghost use Rattle.sp_solver.specs.Rounds.{IsSettled};
-ghost use Rattle.sp_typed.specs.declared.words.OneOp.{OneOp};
-ghost use Rattle.sp_typed_units.specs.declared.declarations.Typed.{Typed};
-ghost use Rattle.sp_names.specs.declared.rows.Declaration.{Declaration};
-ghost use Rattle.sp_names.specs.Declarations.{declaration_at, sort_of};
-ghost use Rattle.sp_names.specs.Types.{type_in};
-ghost use Rattle.sp_names.specs.Aliases.{tries};
-ghost use Rattle.sp_typing.specs.Contexts.{Around};
-ghost use Rattle.sp_typing_heads.specs.Functions.{function_of};
-ghost use Rattle.sp_around.specs.declared.written.Place.TheVariants.{Whole};
-ghost use Rattle.sp_around.specs.Written.{misplaced_in};
-ghost use Rattle.sp_around.specs.Arounds.{Facts, around};
-ghost use Rattle.sp_constants.specs.Known.{Known as Values};
-ghost use Rattle.sp_body_rules.specs.Known.{Known};
-ghost use Rattle.sp_list_rows.specs.Aliases.{is_alias};
-ghost use Rattle.sp_list_rules.specs.Names.{stmt_names};
-ghost use Rattle.sp_list_rules.specs.Told.{known_in};
-ghost use Rattle.sp_list_rules.specs.Bodies.{function_tests};
-ghost use Rattle.sp_list_laws.specs.known_types.Full.{is_full};
-ghost use Rattle.sp_list_laws.specs.known_types.Clear.{none_hold, any_op};
-ghost use Rattle.sp_list_laws.specs.known_types.Given.{IsKnown};
-ghost use Rattle.sp_list_laws.specs.known_values.Given.{AreTold};
-ghost use Rattle.sp_list_laws.specs.known_bodies.Decided.{Decides};
-ghost use Rattle.sp_list_laws.specs.whole_list.Types.{is_type};
-ghost use Rattle.sp_list_laws.specs.whole_list.Trees.{is_function};
-ghost use Rattle.sp_list_laws.specs.whole_list.Known.{Stands, HasType, AreKnown};
-ghost use Rattle.sp_list_laws.specs.whole_list.Whole.{is_known_function};
+ghost use Rattle.sp_list_laws.specs.whole_list.Laws.{TypesAreFull, WrittenTypesAreFull, ModulesAreKnown, IndexesAreDecided, FunctionsAreKnown};
 
 /// Where each alias has an answer and is written as a type may be, each declaration of a type has a full type.
 pub fn types_are_full()
-    ensures { (list : List Tree) (f : ℕ → Option Ty) → IsSettled (tries list) f
-        → ((g : ℕ) (d : Declaration) → declaration_at list g ≡ Some d → IsTrue (is_alias (sort_of d.tree)) → Stands list f g d)
-        → (g : ℕ) → HasType list f g }
+    ensures { TypesAreFull }
 {}
 
 /// Where each declaration of a type has a full one, a type that is written in a module is full, unless it can't stand there.
 pub fn written_types_are_full()
-    ensures { (list : List Tree) (f : ℕ → Option Ty) (m : ℕ) (t : Tree)
-        → ((g : ℕ) → HasType list f g) → IsTrue (is_type list f m t)
-        → IsTrue (is_none (misplaced_in list f m Whole t)) → IsTrue (is_full (type_in list f m t)) }
+    ensures { WrittenTypesAreFull }
 {}
 
 /// Where declarations have full types, all is known that the expressions of a module can name.
 pub fn modules_are_known()
-    ensures { (list : List Tree) (facts : Facts) (only : OneOp → Bool) (k : Known) (m n : ℕ)
-        (is_path : Tree → Bool)
-        → AreKnown list facts only → Decides (around list facts m) only k n (is_type list facts.answers m) is_path
-        → IsKnown (around list facts m) only k n (is_type list facts.answers m) is_path }
+    ensures { ModulesAreKnown }
 {}
 
 /// Where it is known what names mean as constants, and that fits their types, it is known of each unsigned expression in which no rule
 /// is broken whether it is constant.
 pub fn indexes_are_decided()
-    ensures { (t : Typed) (values : Values) (slots : List ℕ) (g : Around) (only : OneOp → Bool) (m : ℕ)
-        (is_type is_path : Tree → Bool)
-        → AreTold g only (known_in t values slots) m values is_path
-        → Decides g only (known_in t values slots) m is_type is_path }
+    ensures { IndexesAreDecided }
 {}
 
 /// A function in which no test holds, in a context in which all that can be named is known, and fits its type where it is a
 /// constant: all is known of the function, its parameters, its result, and each node of its body.
 pub fn functions_are_known()
-    ensures { (t : Typed) (values : Values) (g : Around) (owner : List ℕ) (m : ℕ)
-        (is_type is_path : Tree → Bool) (d : Tree)
-        → ((slots : List ℕ) → IsKnown g any_op (known_in t values slots) m is_type is_path)
-        → ((slots : List ℕ) → AreTold g any_op (known_in t values slots) m values is_path)
-        → IsTrue (is_function is_type is_path d)
-        → IsTrue (none_hold (stmt_names m (function_of g owner m d).body))
-        → IsTrue (none_hold (function_tests t values (function_of g owner m d)))
-        → IsTrue (is_known_function (function_of g owner m d)) }
+    ensures { FunctionsAreKnown }
 {}
