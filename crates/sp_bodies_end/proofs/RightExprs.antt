@@ -40,7 +40,7 @@ use Rattle.sp_bodies.specs.Places.{put_means, key_means}
 use Rattle.sp_code.specs.Kinds.{kind_of_two, kind_of_one, kind_of_cast, of_place, in_turn}
 use Rattle.sp_code.specs.Machine.{Plain}
 use Rattle.sp_code.specs.Shapes.{Shapes, OfUnit, OfFunction, IsSelf, IsMember, Enters, Holds}
-use Rattle.sp_lower_expr.specs.Code.{count, kind_of, kinds_on}
+use Rattle.sp_code_programs.specs.exprs.Code.{count, kind_of, kinds_on}
 use Rattle.sp_code_means.specs.Parts.{OneOf, OneFits, BinaryFits, TwoFits, ManyFits, Demands, IsLocal, IsParameter, IsConstant, LeafFits, UnlessLiteral, IsKept, Fits, AllFit, ReceiverFits, PlaceFits}
 use Rattle.sp_code_bodies.specs.Fits.{KeyFits}
 use Rattle.sp_code_keeps.proofs.Operators.{IfKind, Kept, two_keep, one_keeps, cast_keeps}

@@ -31,7 +31,7 @@ use Rattle.sp_bodies.specs.Stmts.{fails_with, printed, bare_means, valued_means,
 use Rattle.sp_code.specs.Kinds.{kind_of_two}
 use Rattle.sp_code.specs.Machine.{Plain}
 use Rattle.sp_code.specs.Shapes.{Shapes, Round, OfFunction, OfHook, IsResult, IsKeyOf, Holds}
-use Rattle.sp_lower_expr.specs.Code.{kind_of, kind_at}
+use Rattle.sp_code_programs.specs.exprs.Code.{kind_of, kind_at}
 use Rattle.sp_code_means.specs.Parts.{Fits, PlaceFits}
 use Rattle.sp_code_bodies.specs.Fits.{IsSetFor, IsAssigned, BareFits, ValuedFits, ValuesFit, StmtFits, StmtsFit, BranchesFit, CasesFit}
 use Rattle.sp_code_keeps.proofs.Members.{OnSome, row_kept, key_added, key_deleted}

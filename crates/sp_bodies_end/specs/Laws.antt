@@ -17,7 +17,7 @@ use Rattle.sp_bodies.specs.Stmts.{stmt_means}
 use Rattle.sp_bodies.specs.Calls.{is_foreach, body_means, call_means, hook_means, hooks_mean}
 use Rattle.sp_code.specs.Machine.{Plain}
 use Rattle.sp_code.specs.Shapes.{Shapes, Round, OfFunction, Enters, Holds}
-use Rattle.sp_lower_expr.specs.Code.{kind_of}
+use Rattle.sp_code_programs.specs.exprs.Code.{kind_of}
 use Rattle.sp_code_means.specs.Parts.{Fits}
 use Rattle.sp_code_bodies.specs.Fits.{StmtFits}
 use Rattle.sp_bodies_end.specs.Built.{ExprIsBuilt, StmtIsBuilt}

@@ -34,7 +34,7 @@ use Rattle.sp_bodies.specs.Stmts.{stmt_means}
 use Rattle.sp_bodies.specs.Calls.{call_means, hook_means, hooks_mean}
 use Rattle.sp_code.specs.Machine.{Body, Plain}
 use Rattle.sp_code.specs.Shapes.{BodyKinds, Shape, Shapes, Round, OfFunction, body_shape, Holds}
-use Rattle.sp_lower_unit.specs.Bodies.{function_entry}
+use Rattle.sp_code_programs.specs.units.Bodies.{function_entry}
 use Rattle.sp_bodies_end.specs.Built.{ExprIsBuilt, StmtIsBuilt}
 use Rattle.sp_bodies_end.specs.Finished.{Part, AStatement, MayEndAs, HookFits, FunctionFits, FunctionsFit}
 

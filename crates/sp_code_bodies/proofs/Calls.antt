@@ -21,9 +21,9 @@ use Rattle.sp_code.specs.declared.instr.Instr.TheVariants as does
 use Rattle.sp_code.specs.Machine.{Frame, Plain, Config, At, Next, Goes, counted, nested, raise, landed, call_next, step}
 use Rattle.sp_code.specs.Shapes.{Shape, push}
 use Rattle.sp_code.specs.Runs.{Ways, leads, here, Halts, Runs}
-use Rattle.sp_lower_expr.specs.Marked.{mark, constant}
-use Rattle.sp_lower_unit.specs.Code.{stmt_code}
-use Rattle.sp_lower_unit.specs.Bodies.{body_code, function_code, function_entry, HasFunction, HasBodies}
+use Rattle.sp_code_programs.specs.exprs.Marked.{mark, constant}
+use Rattle.sp_code_programs.specs.units.Code.{stmt_code}
+use Rattle.sp_code_programs.specs.units.Bodies.{body_code, function_code, function_entry, HasFunction, HasBodies}
 use Rattle.sp_code_means.specs.Laws.{CallsRun}
 use Rattle.sp_code_means.proofs.Steps.{then_comes, one, after_one, act_at}
 use Rattle.sp_code_means.proofs.Lists.{take_all, drop_all}

@@ -31,10 +31,10 @@ use Rattle.sp_code.specs.declared.instr.Instr.TheVariants as does
 use Rattle.sp_code.specs.Machine.{Frame, Plain, Config, At, Ending, Goes, raise_with, act, step}
 use Rattle.sp_code.specs.Shapes.{Shape, with_operands, push}
 use Rattle.sp_code.specs.Runs.{leads, Runs}
-use Rattle.sp_lower_expr.specs.Marked.{Marked, mark, constant, HasAt}
-use Rattle.sp_lower_expr.specs.Sizes.{keep_size, expr_size, exprs_size, load_size}
-use Rattle.sp_lower_expr.specs.Code.{count, kind_of, kinds_on, pending, keep_code, owner_code, expr_code, exprs_code, load_code, store_code, put_code, update_code, key_code}
-use Rattle.sp_lower_unit.specs.Code.{message, message_kind, bare_code, valued_code, assign_code}
+use Rattle.sp_code_programs.specs.exprs.Marked.{Marked, mark, constant, HasAt}
+use Rattle.sp_code_programs.specs.exprs.Sizes.{keep_size, expr_size, exprs_size, load_size}
+use Rattle.sp_code_programs.specs.exprs.Code.{count, kind_of, kinds_on, pending, keep_code, owner_code, expr_code, exprs_code, load_code, store_code, put_code, update_code, key_code}
+use Rattle.sp_code_programs.specs.units.Code.{message, message_kind, bare_code, valued_code, assign_code}
 use Rattle.sp_code_means.specs.Parts.{AreCounted, AllAreCounted}
 use Rattle.sp_code_means.specs.Laws.{CallsRun}
 use Rattle.sp_code_means.proofs.Sizes.{keep_sized, expr_sized, exprs_sized, load_sized}

@@ -19,9 +19,9 @@ use Rattle.sp_code.specs.declared.instr.Instr.TheVariants as does
 use Rattle.sp_code.specs.Machine.{Frame, Plain, Config, At, Next, Goes, counted, raise, is_failing, hook_next, step}
 use Rattle.sp_code.specs.Shapes.{Shape, push}
 use Rattle.sp_code.specs.Runs.{Ways, Spot, leads, Comes, here, Runs}
-use Rattle.sp_lower_expr.specs.Marked.{Marked, mark, HasAt}
-use Rattle.sp_lower_expr.specs.Code.{kind_at}
-use Rattle.sp_lower_unit.specs.Bodies.{handed, hook_code, HasBodies, loads_code, loaded, hooks_code}
+use Rattle.sp_code_programs.specs.exprs.Marked.{Marked, mark, HasAt}
+use Rattle.sp_code_programs.specs.exprs.Code.{kind_at}
+use Rattle.sp_code_programs.specs.units.Bodies.{handed, hook_code, HasBodies, loads_code, loaded, hooks_code}
 use Rattle.sp_code_means.proofs.Steps.{then_comes, one, after_runs, act_at, has_front, has_back, has_instr}
 use Rattle.sp_code_means.proofs.Lists.{take_all, drop_all}
 use Rattle.sp_code_bodies.specs.Parts.{StmtIsCounted, BodiesAreCounted}

@@ -22,11 +22,11 @@ use Rattle.sp_code.specs.declared.instr.Instr.TheVariants as does
 use Rattle.sp_code.specs.Kinds.{kind_of_two, IsPlaceIn}
 use Rattle.sp_code.specs.Machine.{Plain}
 use Rattle.sp_code.specs.Shapes.{Shape, Shapes, with_operands, push, IsMember, IsResult, IsKeyOf, Shown, Keeps}
-use Rattle.sp_lower_expr.specs.Marked.{Marked, mark, constant, Shows}
-use Rattle.sp_lower_expr.specs.Sizes.{keep_size, expr_size, exprs_size, load_size}
-use Rattle.sp_lower_expr.specs.Code.{keep_code, owner_code, member_of, count, kind_at, kind_of, kinds_on, pending, place_local, expr_code, exprs_code, load_code, store_code, put_code, update_code, key_code}
-use Rattle.sp_lower_unit.specs.Sizes.{values_size, stmt_size, stmts_size, branches_size, cases_size}
-use Rattle.sp_lower_unit.specs.Code.{message, message_kind, bare_code, valued_code, assign_code, values_code, stmt_code, stmts_code, branches_code, cases_code}
+use Rattle.sp_code_programs.specs.exprs.Marked.{Marked, mark, constant, Shows}
+use Rattle.sp_code_programs.specs.exprs.Sizes.{keep_size, expr_size, exprs_size, load_size}
+use Rattle.sp_code_programs.specs.exprs.Code.{keep_code, owner_code, member_of, count, kind_at, kind_of, kinds_on, pending, place_local, expr_code, exprs_code, load_code, store_code, put_code, update_code, key_code}
+use Rattle.sp_code_programs.specs.units.Sizes.{values_size, stmt_size, stmts_size, branches_size, cases_size}
+use Rattle.sp_code_programs.specs.units.Code.{message, message_kind, bare_code, valued_code, assign_code, values_code, stmt_code, stmts_code, branches_code, cases_code}
 use Rattle.sp_code_means.specs.Parts.{Fits, AllFit, PlaceFits}
 use Rattle.sp_code_means.proofs.Sizes.{keep_sized, expr_sized, exprs_sized, load_sized}
 use Rattle.sp_code_means.proofs.Keeping.{Leads, shown_at, shows_front, shows_back, keep_both, moved, nothing, behind, does_keep, constant_keeps}

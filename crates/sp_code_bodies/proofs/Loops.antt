@@ -13,7 +13,7 @@ use Rattle.sp_code.specs.declared.instr.Instr.TheVariants as does
 use Rattle.sp_code.specs.Machine.{Frame, Plain, At, Goes, each_next}
 use Rattle.sp_code.specs.Shapes.{Shape}
 use Rattle.sp_code.specs.Runs.{Ways, leads, here, Runs}
-use Rattle.sp_lower_expr.specs.Marked.{Marked, mark, HasAt}
+use Rattle.sp_code_programs.specs.exprs.Marked.{Marked, mark, HasAt}
 use Rattle.sp_code_means.proofs.Steps.{then_comes, one, after_one, act_at, has_front, has_back, has_instr, Does}
 use Rattle.sp_code_bodies.proofs.Runs.{ways_out, got_runs, done_runs, round_runs, same_end, chosen_runs, turn_runs, Acts}
 

@@ -10,7 +10,7 @@ use Rattle.sp_code.specs.declared.instr.Instr.TheVariants as does
 use Rattle.sp_code.specs.Machine.{Frame, Plain, Config, At, Ending, Next, Goes, counted, raise, act, step}
 use Rattle.sp_code.specs.Shapes.{Shape}
 use Rattle.sp_code.specs.Runs.{Ways, Spot, Now, Waiting, leads, Comes, here, next, Reaches, Runs}
-use Rattle.sp_lower_expr.specs.Marked.{Marked, mark, HasAt}
+use Rattle.sp_code_programs.specs.exprs.Marked.{Marked, mark, HasAt}
 use Rattle.sp_code_means.proofs.Steps.{one, after_one, Follows, on_end_runs, then_jump, act_at, has_front, has_back, has_instr, Does, does_to}
 
 -- the ways out of a statement over these operands

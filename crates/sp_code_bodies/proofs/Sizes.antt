@@ -17,11 +17,11 @@ use Rattle.sp_methods.specs.Kinds.{Bools, Unsigned}
 use Rattle.sp_code.specs.declared.instr.Instr.{Instr}
 use Rattle.sp_code.specs.declared.instr.Instr.TheVariants as does
 use Rattle.sp_code.specs.Shapes.{Shape, push}
-use Rattle.sp_lower_expr.specs.Marked.{Marked}
-use Rattle.sp_lower_expr.specs.Sizes.{expr_size, exprs_size, keep_size, load_size, put_size, update_size, key_size}
-use Rattle.sp_lower_expr.specs.Code.{kind_at, kind_of, pending, expr_code, exprs_code, put_code, update_code, key_code}
-use Rattle.sp_lower_unit.specs.Sizes.{bare_size, valued_size, assign_size, values_size, stmt_size, stmts_size, branches_size, cases_size}
-use Rattle.sp_lower_unit.specs.Code.{bare_code, valued_code, assign_code, values_code, stmt_code, stmts_code, branches_code, cases_code}
+use Rattle.sp_code_programs.specs.exprs.Marked.{Marked}
+use Rattle.sp_code_programs.specs.exprs.Sizes.{expr_size, exprs_size, keep_size, load_size, put_size, update_size, key_size}
+use Rattle.sp_code_programs.specs.exprs.Code.{kind_at, kind_of, pending, expr_code, exprs_code, put_code, update_code, key_code}
+use Rattle.sp_code_programs.specs.units.Sizes.{bare_size, valued_size, assign_size, values_size, stmt_size, stmts_size, branches_size, cases_size}
+use Rattle.sp_code_programs.specs.units.Code.{bare_code, valued_code, assign_code, values_code, stmt_code, stmts_code, branches_code, cases_code}
 use Rattle.sp_code_means.proofs.Sizes.{keep_sized, owner_sized, expr_sized, exprs_sized, load_sized, store_sized}
 
 module _ (globals : Globals) (layout : Layout) where

@@ -23,11 +23,11 @@ use Rattle.sp_code.specs.declared.instr.Instr.TheVariants as does
 use Rattle.sp_code.specs.Machine.{Frame, Plain, Config, At, Goes, act, step}
 use Rattle.sp_code.specs.Shapes.{Shape, push}
 use Rattle.sp_code.specs.Runs.{Ways, leads, here, Runs}
-use Rattle.sp_lower_expr.specs.Marked.{Marked, mark, HasAt}
-use Rattle.sp_lower_expr.specs.Sizes.{expr_size}
-use Rattle.sp_lower_expr.specs.Code.{kind_at, kind_of, expr_code}
-use Rattle.sp_lower_unit.specs.Sizes.{values_size, stmt_size, stmts_size, branches_size, cases_size}
-use Rattle.sp_lower_unit.specs.Code.{bare_code, valued_code, assign_code, values_code, stmt_code, stmts_code, branches_code, cases_code}
+use Rattle.sp_code_programs.specs.exprs.Marked.{Marked, mark, HasAt}
+use Rattle.sp_code_programs.specs.exprs.Sizes.{expr_size}
+use Rattle.sp_code_programs.specs.exprs.Code.{kind_at, kind_of, expr_code}
+use Rattle.sp_code_programs.specs.units.Sizes.{values_size, stmt_size, stmts_size, branches_size, cases_size}
+use Rattle.sp_code_programs.specs.units.Code.{bare_code, valued_code, assign_code, values_code, stmt_code, stmts_code, branches_code, cases_code}
 use Rattle.sp_code_means.specs.Parts.{AreCounted, AllAreCounted}
 use Rattle.sp_code_means.specs.Laws.{CallsRun}
 use Rattle.sp_code_means.proofs.Sizes.{expr_sized}

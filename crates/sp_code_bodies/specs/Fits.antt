@@ -16,7 +16,7 @@ use Rattle.sp_bodies.specs.Exprs.{slot_local}
 use Rattle.sp_code.specs.Kinds.{kind_of_two, IsGoneOver}
 use Rattle.sp_code.specs.Machine.{Plain}
 use Rattle.sp_code.specs.Shapes.{Round, Shapes, IsResult, IsKeyOf}
-use Rattle.sp_lower_expr.specs.Code.{kind_of, kind_at}
+use Rattle.sp_code_programs.specs.exprs.Code.{kind_of, kind_at}
 use Rattle.sp_code_means.specs.Parts.{IsAlways, IsLocal, Fits, AllFit, PlaceFits}
 
 -- a set that gets a key

@@ -6,10 +6,10 @@ use Rattle.sp_typed.specs.Stmts.{Stmt}
 use Rattle.sp_bodies.specs.Globals.{Globals, Layout}
 use Rattle.sp_code.specs.Machine.{Plain}
 use Rattle.sp_code.specs.Shapes.{Shape, Shapes, IsResult, Shown}
-use Rattle.sp_lower_expr.specs.Marked.{Shows}
-use Rattle.sp_lower_unit.specs.Sizes.{stmt_size}
-use Rattle.sp_lower_unit.specs.Code.{stmt_code}
-use Rattle.sp_lower_unit.specs.Bodies.{body_code}
+use Rattle.sp_code_programs.specs.exprs.Marked.{Shows}
+use Rattle.sp_code_programs.specs.units.Sizes.{stmt_size}
+use Rattle.sp_code_programs.specs.units.Code.{stmt_code}
+use Rattle.sp_code_programs.specs.units.Bodies.{body_code}
 use Rattle.sp_code_means.specs.Laws.{AllKeep}
 use Rattle.sp_code_bodies.specs.Fits.{StmtFits}
 

@@ -12,10 +12,10 @@ use Rattle.sp_bodies.specs.Calls.{call_means, hooks_mean}
 use Rattle.sp_code.specs.Machine.{Plain, At, is_failing}
 use Rattle.sp_code.specs.Shapes.{Shape}
 use Rattle.sp_code.specs.Runs.{Ways, leads, Runs}
-use Rattle.sp_lower_expr.specs.Marked.{HasAt}
-use Rattle.sp_lower_unit.specs.Sizes.{stmt_size}
-use Rattle.sp_lower_unit.specs.Code.{stmt_code}
-use Rattle.sp_lower_unit.specs.Bodies.{HasBodies, handed, hooks_code}
+use Rattle.sp_code_programs.specs.exprs.Marked.{HasAt}
+use Rattle.sp_code_programs.specs.units.Sizes.{stmt_size}
+use Rattle.sp_code_programs.specs.units.Code.{stmt_code}
+use Rattle.sp_code_programs.specs.units.Bodies.{HasBodies, handed, hooks_code}
 use Rattle.sp_code_means.specs.Laws.{CallsRun}
 use Rattle.sp_code_bodies.specs.Parts.{StmtIsCounted, BodiesAreCounted}
 

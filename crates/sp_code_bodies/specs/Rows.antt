@@ -17,7 +17,7 @@ use Rattle.sp_bodies.specs.Globals.{Globals, globals_of}
 use Rattle.sp_code.specs.declared.instr.Instr.TheVariants as does
 use Rattle.sp_code.specs.Machine.{Plain}
 use Rattle.sp_code.specs.Shapes.{Shape, OfFunction, body_shape}
-use Rattle.sp_lower_unit.specs.Bodies.{function_entry, hook_entry, HasFunction, HasHook, HasBodies}
+use Rattle.sp_code_programs.specs.units.Bodies.{function_entry, hook_entry, HasFunction, HasHook, HasBodies}
 use Rattle.sp_code_bodies.specs.Parts.{StmtIsCounted, BodiesAreCounted}
 
 abbrev here : Span

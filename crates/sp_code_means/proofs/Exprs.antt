@@ -15,9 +15,9 @@ use Rattle.sp_bodies.specs.Exprs.{Changes, negative_literal, one_means, offset_l
 use Rattle.sp_code.specs.declared.instr.Instr.TheVariants as does
 use Rattle.sp_code.specs.Machine.{Plain}
 use Rattle.sp_code.specs.Shapes.{Shape, with_operands, push}
-use Rattle.sp_lower_expr.specs.Marked.{Marked, mark}
-use Rattle.sp_lower_expr.specs.Sizes.{keep_size, expr_size, exprs_size, load_size}
-use Rattle.sp_lower_expr.specs.Code.{one_code, count, result_code, kind_of, kinds_on, pending, many_code, with_result, expr_code, exprs_code, receiver_code, load_code, store_code}
+use Rattle.sp_code_programs.specs.exprs.Marked.{Marked, mark}
+use Rattle.sp_code_programs.specs.exprs.Sizes.{keep_size, expr_size, exprs_size, load_size}
+use Rattle.sp_code_programs.specs.exprs.Code.{one_code, count, result_code, kind_of, kinds_on, pending, many_code, with_result, expr_code, exprs_code, receiver_code, load_code, store_code}
 use Rattle.sp_code_means.specs.Parts.{AreCounted, AllAreCounted}
 use Rattle.sp_code_means.specs.Laws.{CallsRun, ExpressionsRun}
 use Rattle.sp_code_means.proofs.Sizes.{keep_sized, expr_sized, exprs_sized, load_sized}

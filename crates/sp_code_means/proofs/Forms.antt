@@ -28,8 +28,8 @@ use Rattle.sp_code.specs.declared.instr.Instr.TheVariants as does
 use Rattle.sp_code.specs.Machine.{Frame, Plain, At, Goes, put, act, step}
 use Rattle.sp_code.specs.Shapes.{Shape, push}
 use Rattle.sp_code.specs.Runs.{leads, Runs}
-use Rattle.sp_lower_expr.specs.Marked.{Marked, mark, constant}
-use Rattle.sp_lower_expr.specs.Code.{unless_literal, one_code, constant_code, leaf_code, binary_code, two_code}
+use Rattle.sp_code_programs.specs.exprs.Marked.{Marked, mark, constant}
+use Rattle.sp_code_programs.specs.exprs.Code.{unless_literal, one_code, constant_code, leaf_code, binary_code, two_code}
 use Rattle.sp_code_means.proofs.Steps.{Does, one as one_step, after_one, act_at, has_instr, then_got, gives, answers, sets, gives_constant, choice}
 
 module _ (p : Plain) (reads : Reading → Ask → Read) where

@@ -6,7 +6,7 @@ use Rattle.sp_code.specs.declared.instr.Instr.{Instr}
 use Rattle.sp_code.specs.declared.instr.Instr.TheVariants as does
 use Rattle.sp_code.specs.Machine.{Plain}
 use Rattle.sp_code.specs.Shapes.{Shape, Shapes, push, Shown, Keeps}
-use Rattle.sp_lower_expr.specs.Marked.{Marked, mark, constant, Shows}
+use Rattle.sp_code_programs.specs.exprs.Marked.{Marked, mark, constant, Shows}
 use Rattle.sp_code_means.specs.Laws.{AllKeep}
 
 module _ (p : Plain) (shapes : Shapes) where

@@ -15,9 +15,9 @@ use Rattle.sp_code.specs.declared.instr.Instr.TheVariants as does
 use Rattle.sp_code.specs.Kinds.{of_place}
 use Rattle.sp_code.specs.Machine.{Plain}
 use Rattle.sp_code.specs.Shapes.{Shape, Shapes, with_operands, push, IsMember}
-use Rattle.sp_lower_expr.specs.Marked.{Marked, mark, constant}
-use Rattle.sp_lower_expr.specs.Sizes.{keep_size, expr_size, exprs_size, load_size}
-use Rattle.sp_lower_expr.specs.Code.{one_code, keep_code, owner_code, member_of, count, kind_of, kinds_on, pending, place_local, expr_code, exprs_code, receiver_code, load_code, store_code}
+use Rattle.sp_code_programs.specs.exprs.Marked.{Marked, mark, constant}
+use Rattle.sp_code_programs.specs.exprs.Sizes.{keep_size, expr_size, exprs_size, load_size}
+use Rattle.sp_code_programs.specs.exprs.Code.{one_code, keep_code, owner_code, member_of, count, kind_of, kinds_on, pending, place_local, expr_code, exprs_code, receiver_code, load_code, store_code}
 use Rattle.sp_code_means.specs.Parts.{OneFits, IsKept, Fits, AllFit, ReceiverFits, PlaceFits}
 use Rattle.sp_code_means.specs.Laws.{ExpressionsKeep}
 use Rattle.sp_code_means.proofs.Sizes.{keep_sized, expr_sized, exprs_sized, load_sized}

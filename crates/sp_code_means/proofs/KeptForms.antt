@@ -25,8 +25,8 @@ use Rattle.sp_code.specs.declared.instr.Instr.{Instr}
 use Rattle.sp_code.specs.declared.instr.Instr.TheVariants as does
 use Rattle.sp_code.specs.Machine.{Plain}
 use Rattle.sp_code.specs.Shapes.{Shape, Shapes, with_operands, push, Shown, Keeps}
-use Rattle.sp_lower_expr.specs.Marked.{Marked, mark, constant}
-use Rattle.sp_lower_expr.specs.Code.{unless_literal, one_code, constant_code, leaf_code, many_code, kept_offset, changing, binary_code, two_code}
+use Rattle.sp_code_programs.specs.exprs.Marked.{Marked, mark, constant}
+use Rattle.sp_code_programs.specs.exprs.Code.{unless_literal, one_code, constant_code, leaf_code, many_code, kept_offset, changing, binary_code, two_code}
 use Rattle.sp_code_means.specs.Parts.{OneOf, OneFits, BinaryFits, TwoFits, ManyFits, Demands, IsLocal, IsParameter, IsConstant, LeafFits, UnlessLiteral}
 use Rattle.sp_code_means.proofs.Keeping.{Leads, behind, does_keep, constant_keeps, choice_keeps}
 

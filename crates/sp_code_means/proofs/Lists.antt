@@ -24,8 +24,8 @@ use Rattle.sp_code.specs.declared.instr.Instr.TheVariants as does
 use Rattle.sp_code.specs.Machine.{Frame, Plain, At, Goes, put_all, act, step}
 use Rattle.sp_code.specs.Shapes.{Shape}
 use Rattle.sp_code.specs.Runs.{Ways, leads, Runs}
-use Rattle.sp_lower_expr.specs.Marked.{Marked, mark}
-use Rattle.sp_lower_expr.specs.Code.{many_code, kept_offset, changing}
+use Rattle.sp_code_programs.specs.exprs.Marked.{Marked, mark}
+use Rattle.sp_code_programs.specs.exprs.Code.{many_code, kept_offset, changing}
 use Rattle.sp_code_means.specs.Parts.{IsCounted}
 use Rattle.sp_code_means.specs.Laws.{CallsRun}
 use Rattle.sp_code_means.proofs.Steps.{Does, one, act_at, has_instr, gives, answers}

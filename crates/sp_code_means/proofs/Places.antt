@@ -19,8 +19,8 @@ use Rattle.sp_code.specs.declared.instr.Instr.TheVariants as does
 use Rattle.sp_code.specs.Machine.{Frame, Plain, At, Goes, put_all, act, step}
 use Rattle.sp_code.specs.Shapes.{Shape, push}
 use Rattle.sp_code.specs.Runs.{Ways, leads, Comes, here, Runs}
-use Rattle.sp_lower_expr.specs.Marked.{Marked, mark, constant, HasAt}
-use Rattle.sp_lower_expr.specs.Code.{keep_code, owner_code, result_code}
+use Rattle.sp_code_programs.specs.exprs.Marked.{Marked, mark, constant, HasAt}
+use Rattle.sp_code_programs.specs.exprs.Code.{keep_code, owner_code, result_code}
 use Rattle.sp_code_means.proofs.Steps.{Does, one, after_one, act_at, has_instr, does_to, then_got, then_done, gives, answers, sets, gives_constant}
 use Rattle.sp_code_means.proofs.Forms.{moved}
 

@@ -23,9 +23,9 @@ use Rattle.sp_bodies.specs.Globals.{Globals, Layout}
 use Rattle.sp_bodies.specs.Exprs.{negative_literal, offset_local, is_self, slot_local, slot_of_receiver, gives_result}
 use Rattle.sp_code.specs.declared.instr.Instr.TheVariants as does
 use Rattle.sp_code.specs.Shapes.{Shape, push}
-use Rattle.sp_lower_expr.specs.Marked.{Marked, mark, constant}
-use Rattle.sp_lower_expr.specs.Sizes.{size_or, one_size, binary_size, two_size, many_size, keep_size, owner_size, method_size, expr_size, exprs_size, receiver_size, load_size, store_size}
-use Rattle.sp_lower_expr.specs.Code.{unless_literal, one_code, keep_code, owner_code, count, result_code, kind_of, constant_code, parameter_code, leaf_code, pending, many_code, kept_offset, changing, method_code, binary_code, two_code, with_result, expr_code, exprs_code, receiver_code, load_code, store_code}
+use Rattle.sp_code_programs.specs.exprs.Marked.{Marked, mark, constant}
+use Rattle.sp_code_programs.specs.exprs.Sizes.{size_or, one_size, binary_size, two_size, many_size, keep_size, owner_size, method_size, expr_size, exprs_size, receiver_size, load_size, store_size}
+use Rattle.sp_code_programs.specs.exprs.Code.{unless_literal, one_code, keep_code, owner_code, count, result_code, kind_of, constant_code, parameter_code, leaf_code, pending, many_code, kept_offset, changing, method_code, binary_code, two_code, with_result, expr_code, exprs_code, receiver_code, load_code, store_code}
 
 literal_sized : (o : Option Val) (s : Shape) (ms : List Marked) (n : ℕ) → length ms ≡ n → length (unless_literal o s ms) ≡ size_or o n
 literal_sized (Some v) s ms n h = refl

@@ -11,7 +11,7 @@ use Rattle.sp_code.specs.declared.instr.Instr.TheVariants as does
 use Rattle.sp_code.specs.Machine.{Frame, Plain, Config, At, Goes, put, push_set, act, step}
 use Rattle.sp_code.specs.Shapes.{Shape}
 use Rattle.sp_code.specs.Runs.{Ways, Spot, Now, Waiting, leads, Comes, here, next, Reaches, Runs}
-use Rattle.sp_lower_expr.specs.Marked.{Marked, mark, constant, HasAt}
+use Rattle.sp_code_programs.specs.exprs.Marked.{Marked, mark, constant, HasAt}
 
 module _ (p : Plain) (reads : Reading → Ask → Read) where
   pub then_comes : {c d e : Config} {es fs : List What} → Comes p reads c es d → Comes p reads d fs e → Comes p reads c (es ++ fs) e

@@ -11,9 +11,9 @@ use Rattle.sp_code.specs.declared.instr.Instr.TheVariants as does
 use Rattle.sp_code.specs.Machine.{Body, Plain, At}
 use Rattle.sp_code.specs.Shapes.{Shape, Shapes, push, Shown, Keeps}
 use Rattle.sp_code.specs.Runs.{Ways, leads, Runs}
-use Rattle.sp_lower_expr.specs.Marked.{Marked, IsWanted, HasAt, Shows}
-use Rattle.sp_lower_expr.specs.Sizes.{expr_size}
-use Rattle.sp_lower_expr.specs.Code.{kind_of, expr_code}
+use Rattle.sp_code_programs.specs.exprs.Marked.{Marked, IsWanted, HasAt, Shows}
+use Rattle.sp_code_programs.specs.exprs.Sizes.{expr_size}
+use Rattle.sp_code_programs.specs.exprs.Code.{kind_of, expr_code}
 use Rattle.sp_code_means.specs.Parts.{AreCounted, Fits}
 
 -- a call runs to what the function means

@@ -26,7 +26,7 @@ use Rattle.sp_bodies.specs.Exprs.{negative_literal, offset_local, is_self, slot_
 use Rattle.sp_code.specs.Kinds.{kind_of_two, kind_of_one, kind_of_cast, IsSized, IsPlaceIn, IsItemOf, in_turn}
 use Rattle.sp_code.specs.Machine.{Body, Plain}
 use Rattle.sp_code.specs.Shapes.{UnitKinds, Shapes, OfFunction, IsMember, Enters}
-use Rattle.sp_lower_expr.specs.Code.{count, kind_of, kinds_on, place_local, member_of}
+use Rattle.sp_code_programs.specs.exprs.Code.{count, kind_of, kinds_on, place_local, member_of}
 
 -- a call gives its function as many values as that takes
 abbrev pub IsCounted : Plain → ManyOp → ℕ → Type 0

@@ -23,9 +23,9 @@ use Rattle.sp_bodies.specs.Globals.{Globals, Layout}
 use Rattle.sp_bodies.specs.Exprs.{negative_literal, offset_local, is_self, slot_local, slot_of_receiver, gives_result}
 use Rattle.sp_code.specs.declared.instr.Instr.TheVariants as does
 use Rattle.sp_code.specs.Shapes.{Shape, with_operands, push}
-use Rattle.sp_lower_expr.specs.Marked.{Marked, mark, constant}
-use Rattle.sp_lower_expr.specs.Sizes.{keep_size, owner_size, expr_size, exprs_size, load_size}
-use Rattle.sp_lower_expr.specs.Code.{unless_literal, one_code, keep_code, owner_code, count, result_code, kind_of, kinds_on, constant_code, parameter_code, leaf_code, pending, many_code, kept_offset, changing, method_code, binary_code, two_code, with_result, expr_code, exprs_code, receiver_code, load_code, store_code}
+use Rattle.sp_code_programs.specs.exprs.Marked.{Marked, mark, constant}
+use Rattle.sp_code_programs.specs.exprs.Sizes.{keep_size, owner_size, expr_size, exprs_size, load_size}
+use Rattle.sp_code_programs.specs.exprs.Code.{unless_literal, one_code, keep_code, owner_code, count, result_code, kind_of, kinds_on, constant_code, parameter_code, leaf_code, pending, many_code, kept_offset, changing, method_code, binary_code, two_code, with_result, expr_code, exprs_code, receiver_code, load_code, store_code}
 use Rattle.sp_code_means.proofs.Sizes.{keep_sized, owner_sized, expr_sized, exprs_sized, load_sized, store_sized}
 use Rattle.sp_code_turns.proofs.Forward.{IsForward, to_next, then_forward}
 

@@ -9,11 +9,11 @@ use Rattle.sp_typed.specs.Stmts.{Stmt, Stmts, Branches, Cases, bare, valued, ass
 use Rattle.sp_bodies.specs.Globals.{Globals, Layout}
 use Rattle.sp_bodies.specs.Exprs.{slot_local}
 use Rattle.sp_code.specs.Shapes.{Shape, push}
-use Rattle.sp_lower_expr.specs.Marked.{Marked}
-use Rattle.sp_lower_expr.specs.Sizes.{expr_size, exprs_size}
-use Rattle.sp_lower_expr.specs.Code.{kind_of, expr_code, exprs_code}
-use Rattle.sp_lower_unit.specs.Sizes.{bare_size, valued_size, assign_size, values_size, stmt_size, stmts_size, branches_size, cases_size}
-use Rattle.sp_lower_unit.specs.Code.{bare_code, valued_code, assign_code, values_code, stmt_code, stmts_code, branches_code, cases_code}
+use Rattle.sp_code_programs.specs.exprs.Marked.{Marked}
+use Rattle.sp_code_programs.specs.exprs.Sizes.{expr_size, exprs_size}
+use Rattle.sp_code_programs.specs.exprs.Code.{kind_of, expr_code, exprs_code}
+use Rattle.sp_code_programs.specs.units.Sizes.{bare_size, valued_size, assign_size, values_size, stmt_size, stmts_size, branches_size, cases_size}
+use Rattle.sp_code_programs.specs.units.Code.{bare_code, valued_code, assign_code, values_code, stmt_code, stmts_code, branches_code, cases_code}
 use Rattle.sp_code_means.proofs.Sizes.{expr_sized, exprs_sized}
 use Rattle.sp_code_bodies.proofs.Sizes.{values_sized, stmt_sized, branches_sized, cases_sized}
 use Rattle.sp_code_turns.specs.Loops.{BareKeepsToLoops, KeepsToLoops, AllKeepToLoops, BranchesKeepToLoops, CasesKeepToLoops}

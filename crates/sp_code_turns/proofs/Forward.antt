@@ -2,7 +2,7 @@
 use Rattle.std.proofs.Common.{◌≡◌, ℕ, zero, suc, ◌+◌, ◌<◌, ◌≤◌, List, [], ◌∷◌, ◌++◌, length, refl, sym, subst, arith, length-append, eq-or-lt_of_le, inl, inr}
 use Rattle.std.specs.Prelude.{◌⊎◌}
 use Rattle.sp_code.specs.Turns.{AreLower}
-use Rattle.sp_lower_expr.specs.Marked.{Marked}
+use Rattle.sp_code_programs.specs.exprs.Marked.{Marked}
 use Rattle.sp_code_turns.specs.Falling.{leads_to, HaveHeights, AllFall}
 use Rattle.sp_code_turns.specs.Heights.{falling}
 

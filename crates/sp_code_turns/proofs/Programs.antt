@@ -11,10 +11,10 @@ use Rattle.sp_code.specs.declared.instr.Instr.TheVariants as does
 use Rattle.sp_code.specs.Machine.{Plain}
 use Rattle.sp_code.specs.Turns.{edges, AreLower}
 use Rattle.sp_code.specs.Shapes.{Shape, push}
-use Rattle.sp_lower_expr.specs.Marked.{Wanted, Does, Constant, Marked, mark, constant, IsWanted, HasAt}
-use Rattle.sp_lower_unit.specs.Sizes.{stmt_size}
-use Rattle.sp_lower_unit.specs.Code.{stmt_code}
-use Rattle.sp_lower_unit.specs.Bodies.{body_code}
+use Rattle.sp_code_programs.specs.exprs.Marked.{Wanted, Does, Constant, Marked, mark, constant, IsWanted, HasAt}
+use Rattle.sp_code_programs.specs.units.Sizes.{stmt_size}
+use Rattle.sp_code_programs.specs.units.Code.{stmt_code}
+use Rattle.sp_code_programs.specs.units.Bodies.{body_code}
 use Rattle.sp_code_bodies.proofs.Sizes.{stmt_sized}
 use Rattle.sp_code_turns.specs.Loops.{KeepsToLoops}
 use Rattle.sp_code_turns.specs.Falling.{leads_to, HaveHeights, AllFall, AreAtMost, joined}

@@ -14,11 +14,11 @@ use Rattle.sp_code.specs.declared.instr.Instr.{Instr}
 use Rattle.sp_code.specs.declared.instr.Instr.TheVariants as does
 use Rattle.sp_code.specs.Turns.{edges}
 use Rattle.sp_code.specs.Shapes.{Shape, push}
-use Rattle.sp_lower_expr.specs.Marked.{Marked}
-use Rattle.sp_lower_expr.specs.Sizes.{keep_size, owner_size, expr_size, load_size}
-use Rattle.sp_lower_expr.specs.Code.{kind_at, kind_of, pending, keep_code, owner_code, expr_code, load_code, store_code, put_code, update_code, key_code}
-use Rattle.sp_lower_unit.specs.Sizes.{values_size}
-use Rattle.sp_lower_unit.specs.Code.{valued_code, assign_code, values_code}
+use Rattle.sp_code_programs.specs.exprs.Marked.{Marked}
+use Rattle.sp_code_programs.specs.exprs.Sizes.{keep_size, owner_size, expr_size, load_size}
+use Rattle.sp_code_programs.specs.exprs.Code.{kind_at, kind_of, pending, keep_code, owner_code, expr_code, load_code, store_code, put_code, update_code, key_code}
+use Rattle.sp_code_programs.specs.units.Sizes.{values_size}
+use Rattle.sp_code_programs.specs.units.Code.{valued_code, assign_code, values_code}
 use Rattle.sp_code_means.proofs.Sizes.{keep_sized, owner_sized, expr_sized, load_sized}
 use Rattle.sp_code_bodies.proofs.Sizes.{values_sized}
 use Rattle.sp_code_turns.proofs.Forward.{AreAhead, IsForward, to_next, forward_at, then_forward}

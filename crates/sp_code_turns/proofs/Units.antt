@@ -15,11 +15,11 @@ use Rattle.sp_bodies.specs.Calls.{hook_bodies}
 use Rattle.sp_bodies.specs.Units.{IntegerForm, integer_field, last_order, module_order, offset_slot, value_slot, unit_layout, is_of_unit}
 use Rattle.sp_code.specs.declared.instr.Instr.TheVariants as does
 use Rattle.sp_code.specs.Shapes.{Shape, OfUnit, OfEnding, OfFailing, push, read_kind}
-use Rattle.sp_lower_expr.specs.Marked.{Marked, mark}
-use Rattle.sp_lower_expr.specs.Sizes.{expr_size}
-use Rattle.sp_lower_expr.specs.Code.{kind_of, kind_at, expr_code}
-use Rattle.sp_lower_unit.specs.Bodies.{loads_code, hooks_code}
-use Rattle.sp_lower_unit.specs.Units.{unit_shape, member_code, member_kind, stored_code, kept_code, field_code, where_integer, part_code, parts_code, begin_code, variable_code, variables_code, unit_hook_code, unit_parts_code}
+use Rattle.sp_code_programs.specs.exprs.Marked.{Marked, mark}
+use Rattle.sp_code_programs.specs.exprs.Sizes.{expr_size}
+use Rattle.sp_code_programs.specs.exprs.Code.{kind_of, kind_at, expr_code}
+use Rattle.sp_code_programs.specs.units.Bodies.{loads_code, hooks_code}
+use Rattle.sp_code_programs.specs.units.Units.{unit_shape, member_code, member_kind, stored_code, kept_code, field_code, where_integer, part_code, parts_code, begin_code, variable_code, variables_code, unit_hook_code, unit_parts_code}
 use Rattle.sp_code_means.proofs.Sizes.{expr_sized}
 use Rattle.sp_code_turns.specs.Falling.{AllTurn}
 use Rattle.sp_code_turns.specs.Heights.{falling}

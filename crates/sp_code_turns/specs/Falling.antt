@@ -1,7 +1,7 @@
 -- Code whose heights fall along all that it leads to without a turn.
 use Rattle.std.specs.Prelude.{◌≡◌, ℕ, ◌+◌, ◌≤◌, List, [], ◌∷◌, ◌++◌, length, Some}
 use Rattle.sp_code.specs.Turns.{edges, AreLower}
-use Rattle.sp_lower_expr.specs.Marked.{Wanted, Does, Constant, Marked}
+use Rattle.sp_code_programs.specs.exprs.Marked.{Wanted, Does, Constant, Marked}
 
 -- the addresses in the same body to which code to be leads without a turn
 abbrev pub leads_to : Wanted → ℕ → List ℕ

@@ -9,11 +9,11 @@ use Rattle.sp_bodies.specs.Globals.{Globals, Layout}
 use Rattle.sp_code.specs.Machine.{Plain}
 use Rattle.sp_code.specs.Shapes.{Shape, Shapes, Round}
 use Rattle.sp_code.specs.Turns.{Turns}
-use Rattle.sp_lower_expr.specs.Marked.{Marked, HasAt}
-use Rattle.sp_lower_unit.specs.Sizes.{stmt_size}
-use Rattle.sp_lower_unit.specs.Code.{stmt_code}
-use Rattle.sp_lower_unit.specs.Bodies.{body_code}
-use Rattle.sp_lower_unit.specs.Units.{unit_code, ending_code, failing_code}
+use Rattle.sp_code_programs.specs.exprs.Marked.{Marked, HasAt}
+use Rattle.sp_code_programs.specs.units.Sizes.{stmt_size}
+use Rattle.sp_code_programs.specs.units.Code.{stmt_code}
+use Rattle.sp_code_programs.specs.units.Bodies.{body_code}
+use Rattle.sp_code_programs.specs.units.Units.{unit_code, ending_code, failing_code}
 use Rattle.sp_code_bodies.specs.Fits.{StmtFits}
 use Rattle.sp_code_turns.specs.Loops.{KeepsToLoops}
 use Rattle.sp_code_turns.specs.Falling.{HaveHeights, AllFall, AllTurn, joined, EachTurns}

@@ -28,10 +28,10 @@ use Rattle.sp_code.specs.declared.instr.Instr.TheVariants as does
 use Rattle.sp_code.specs.Machine.{Plain}
 use Rattle.sp_code.specs.Shapes.{Shape, OfFunction, body_shape}
 use Rattle.sp_code.specs.Turns.{Turns}
-use Rattle.sp_lower_expr.specs.Marked.{Marked, mark, HasAt}
-use Rattle.sp_lower_unit.specs.Code.{stmt_code}
-use Rattle.sp_lower_unit.specs.Bodies.{body_code}
-use Rattle.sp_lower_unit.specs.Units.{unit_code, ending_code, failing_code}
+use Rattle.sp_code_programs.specs.exprs.Marked.{Marked, mark, HasAt}
+use Rattle.sp_code_programs.specs.units.Code.{stmt_code}
+use Rattle.sp_code_programs.specs.units.Bodies.{body_code}
+use Rattle.sp_code_programs.specs.units.Units.{unit_code, ending_code, failing_code}
 use Rattle.sp_code_turns.specs.Loops.{KeepsToLoops}
 use Rattle.sp_code_turns.specs.Falling.{leads_to, HaveHeights, AllFall, AreAtMost, AllTurn}
 use Rattle.sp_code_turns.specs.Heights.{stmt_heights, body_heights}

@@ -22,10 +22,10 @@ use Rattle.sp_code.specs.declared.instr.Instr.TheVariants as does
 use Rattle.sp_code.specs.Machine.{Plain, At, Goes, is_failing, raise, read_next, step}
 use Rattle.sp_code.specs.Shapes.{Shape, push, read_kind}
 use Rattle.sp_code.specs.Runs.{Ways, leads, Comes, here, Runs}
-use Rattle.sp_lower_expr.specs.Marked.{Marked, mark}
-use Rattle.sp_lower_expr.specs.Code.{kind_of, expr_code}
-use Rattle.sp_lower_unit.specs.Bodies.{HasBodies, hooks_code}
-use Rattle.sp_lower_unit.specs.Units.{int_form, member_code, stored_code, kept_code, member_kind, field_code, where_integer, part_code, parts_code, begin_code, variable_code, variables_code, unit_hook_code}
+use Rattle.sp_code_programs.specs.exprs.Marked.{Marked, mark}
+use Rattle.sp_code_programs.specs.exprs.Code.{kind_of, expr_code}
+use Rattle.sp_code_programs.specs.units.Bodies.{HasBodies, hooks_code}
+use Rattle.sp_code_programs.specs.units.Units.{int_form, member_code, stored_code, kept_code, member_kind, field_code, where_integer, part_code, parts_code, begin_code, variable_code, variables_code, unit_hook_code}
 use Rattle.sp_code_means.proofs.Steps.{one, after_one, act_at, has_instr, Does, then_got, then_done}
 use Rattle.sp_code_means.proofs.Forms.{then_constant}
 use Rattle.sp_code_means.proofs.Places.{puts_member}

@@ -19,10 +19,10 @@ use Rattle.sp_code.specs.declared.instr.Instr.{Instr}
 use Rattle.sp_code.specs.declared.instr.Instr.TheVariants as does
 use Rattle.sp_code.specs.Machine.{Plain}
 use Rattle.sp_code.specs.Shapes.{Shape, Shapes, Round, OfUnit, OfEnding, OfFailing, OfHook, body_shape, with_operands, push, IsOfUnit, read_kind, IsMember, Enters, AlwaysHave, Shown, Keeps}
-use Rattle.sp_lower_expr.specs.Marked.{Marked, mark, constant, Shows}
-use Rattle.sp_lower_expr.specs.Code.{kind_at, kind_of, expr_code}
-use Rattle.sp_lower_unit.specs.Bodies.{loads_code, loaded, hooks_code}
-use Rattle.sp_lower_unit.specs.Units.{slot_kinds, unit_shape, int_form, member_code, stored_code, kept_code, member_kind, field_code, where_integer, part_code, parts_code, begin_code, variable_code, variables_code, unit_hook_code, unit_parts_code, unit_code, ending_code, failing_code, unit_entry}
+use Rattle.sp_code_programs.specs.exprs.Marked.{Marked, mark, constant, Shows}
+use Rattle.sp_code_programs.specs.exprs.Code.{kind_at, kind_of, expr_code}
+use Rattle.sp_code_programs.specs.units.Bodies.{loads_code, loaded, hooks_code}
+use Rattle.sp_code_programs.specs.units.Units.{slot_kinds, unit_shape, int_form, member_code, stored_code, kept_code, member_kind, field_code, where_integer, part_code, parts_code, begin_code, variable_code, variables_code, unit_hook_code, unit_parts_code, unit_code, ending_code, failing_code, unit_entry}
 use Rattle.sp_code_means.specs.Laws.{AllKeep}
 use Rattle.sp_code_means.proofs.Keeping.{Leads, shows_front, shows_back, keep_both, nothing, behind, does_keep, constant_keeps}
 use Rattle.sp_code_means.proofs.KeptExprs.{expr_keeps}

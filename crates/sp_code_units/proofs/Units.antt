@@ -18,9 +18,9 @@ use Rattle.sp_code.specs.declared.instr.Instr.TheVariants as does
 use Rattle.sp_code.specs.Machine.{UnitCode, Frame, Plain, Config, At, Ending, Next, Goes, counted, nested, raise, landed, caught_unless, unless_caught, parts_frame, entered, unit_next, step}
 use Rattle.sp_code.specs.Shapes.{OfUnit, OfEnding, OfFailing}
 use Rattle.sp_code.specs.Runs.{Ways, Spot, Now, Waiting, leads, Comes, here, Runs}
-use Rattle.sp_lower_expr.specs.Marked.{mark}
-use Rattle.sp_lower_unit.specs.Bodies.{HasBodies}
-use Rattle.sp_lower_unit.specs.Units.{unit_shape, unit_parts_code, begin_code, variables_code, unit_hook_code, parts_code, unit_entry, HasUnit}
+use Rattle.sp_code_programs.specs.exprs.Marked.{mark}
+use Rattle.sp_code_programs.specs.units.Bodies.{HasBodies}
+use Rattle.sp_code_programs.specs.units.Units.{unit_shape, unit_parts_code, begin_code, variables_code, unit_hook_code, parts_code, unit_entry, HasUnit}
 use Rattle.sp_code_means.proofs.Steps.{then_comes, one, after_one, Follows, on_end_runs, act_at, has_front, has_back, has_instr}
 use Rattle.sp_code_means.proofs.Lists.{take_all, drop_all}
 use Rattle.sp_code_bodies.specs.Parts.{BodiesAreCounted}

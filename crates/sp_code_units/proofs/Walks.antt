@@ -7,7 +7,7 @@ use Rattle.sp_code.specs.declared.instr.Instr.{Instr}
 use Rattle.sp_code.specs.Machine.{Plain, At, Goes, act}
 use Rattle.sp_code.specs.Shapes.{Shape}
 use Rattle.sp_code.specs.Runs.{Ways, leads, Runs}
-use Rattle.sp_lower_expr.specs.Marked.{Marked, mark, HasAt}
+use Rattle.sp_code_programs.specs.exprs.Marked.{Marked, mark, HasAt}
 use Rattle.sp_code_means.proofs.Steps.{after_one, act_at, has_front, has_back, has_instr, Does}
 use Rattle.sp_code_bodies.proofs.Runs.{got_runs, done_runs, same_end}
 

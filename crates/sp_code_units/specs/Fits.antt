@@ -15,8 +15,8 @@ use Rattle.sp_bodies.specs.Calls.{hook_bodies}
 use Rattle.sp_bodies.specs.Units.{IntegerForm, integer_field, last_order, module_order, unit_layout, is_of_unit, first_value}
 use Rattle.sp_code.specs.Machine.{Plain}
 use Rattle.sp_code.specs.Shapes.{Shapes, OfHook, read_kind, IsMember, Enters}
-use Rattle.sp_lower_expr.specs.Code.{kind_of}
-use Rattle.sp_lower_unit.specs.Units.{slot_kinds, member_kind}
+use Rattle.sp_code_programs.specs.exprs.Code.{kind_of}
+use Rattle.sp_code_programs.specs.units.Units.{slot_kinds, member_kind}
 use Rattle.sp_code_means.specs.Parts.{Fits}
 
 -- In a program with these shapes the unit u of a list of modules runs.

@@ -6,8 +6,8 @@ use Rattle.sp_typed_units.specs.declared.declarations.Unit.{Unit as TypedUnit}
 use Rattle.sp_code.specs.declared.instr.Instr.TheVariants as does
 use Rattle.sp_code.specs.Machine.{Plain}
 use Rattle.sp_code.specs.Shapes.{UnitKinds, Shape, Shapes, OfUnit, OfEnding, OfFailing, Shown, Takes, Keeps}
-use Rattle.sp_lower_expr.specs.Marked.{Shows}
-use Rattle.sp_lower_unit.specs.Units.{slot_kinds, unit_shape, unit_code, ending_code, failing_code, HasUnit}
+use Rattle.sp_code_programs.specs.exprs.Marked.{Shows}
+use Rattle.sp_code_programs.specs.units.Units.{slot_kinds, unit_shape, unit_code, ending_code, failing_code, HasUnit}
 use Rattle.sp_code_means.specs.Laws.{AllKeep}
 use Rattle.sp_code_units.specs.Fits.{UnitFits}
 

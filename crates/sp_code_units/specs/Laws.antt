@@ -9,8 +9,8 @@ use Rattle.sp_bodies.specs.Units.{unit_means}
 use Rattle.sp_code.specs.declared.instr.Instr.TheVariants as does
 use Rattle.sp_code.specs.Machine.{Plain, At}
 use Rattle.sp_code.specs.Runs.{Ways, leads, Runs}
-use Rattle.sp_lower_unit.specs.Bodies.{HasBodies}
-use Rattle.sp_lower_unit.specs.Units.{HasUnits}
+use Rattle.sp_code_programs.specs.units.Bodies.{HasBodies}
+use Rattle.sp_code_programs.specs.units.Units.{HasUnits}
 use Rattle.sp_code_bodies.specs.Parts.{BodiesAreCounted}
 use Rattle.sp_code_units.specs.Parts.{UnitsAreCounted}
 

@@ -24,9 +24,9 @@ use Rattle.sp_code.specs.declared.instr.Instr.{Instr}
 use Rattle.sp_code.specs.declared.instr.Instr.TheVariants as does
 use Rattle.sp_code.specs.Machine.{Plain}
 use Rattle.sp_code.specs.Shapes.{UnitKinds, Shape, Shapes, OfUnit, OfEnding, OfFailing, OfFunction, OfHook, push, body_shape, Shown, Takes, Keeps, IsSound}
-use Rattle.sp_lower_expr.specs.Marked.{Shows}
-use Rattle.sp_lower_unit.specs.Bodies.{handed, hook_entry, HasHook, HasBodies}
-use Rattle.sp_lower_unit.specs.Units.{slot_kinds, unit_shape, unit_code, ending_code, failing_code, unit_entry, HasUnit, HasUnits}
+use Rattle.sp_code_programs.specs.exprs.Marked.{Shows}
+use Rattle.sp_code_programs.specs.units.Bodies.{handed, hook_entry, HasHook, HasBodies}
+use Rattle.sp_code_programs.specs.units.Units.{slot_kinds, unit_shape, unit_code, ending_code, failing_code, unit_entry, HasUnit, HasUnits}
 use Rattle.sp_code_units.specs.Parts.{UnitIsCounted, UnitsAreCounted}
 use Rattle.sp_code_units.specs.Fits.{UnitFits}
 use Rattle.sp_code_units.specs.Keeps.{AreKindsOf}

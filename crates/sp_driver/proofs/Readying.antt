@@ -12,8 +12,8 @@ use Rattle.sp_typed_units.specs.declared.declarations.Typed.{Typed}
 use Rattle.sp_typed_units.specs.declared.declarations.Unit.{Unit as TypedUnit}
 use Rattle.sp_bodies.specs.Globals.{globals_of}
 use Rattle.sp_code.specs.declared.program.Program.{Program}
-use Rattle.sp_lower_unit.specs.Units.{kinds_over, starter_kinds}
-use Rattle.sp_program.specs.Whole.{IsCompiled}
+use Rattle.sp_code_programs.specs.units.Units.{kinds_over, starter_kinds}
+use Rattle.sp_code_programs.specs.programs.Whole.{IsCompiled}
 use Rattle.sp_list_runs.specs.Laws.{CompiledListsRun}
 use Rattle.sp_lower.specs.Literals.{ListLiteralsFit}
 use Rattle.sp_list_laws.specs.fit_list.Passes.{ListPasses}

@@ -3,7 +3,7 @@ use Rattle.std.proofs.Common.{◌≡◌, ℕ, ◌+◌, List, [], ◌∷◌, ◌+
 use Rattle.sp_methods.specs.Kinds.{Kind}
 use Rattle.sp_code.specs.declared.instr.Instr.{Instr}
 use Rattle.sp_code.specs.Shapes.{Shape}
-use Rattle.sp_lower_expr.specs.Marked.{Marked, mark}
+use Rattle.sp_code_programs.specs.exprs.Marked.{Marked, mark}
 use Rattle.sp_emit.specs.Emitted.{Emitted, Adds, TurnsTo, Redirects, redirected}
 use Rattle.sp_emit.proofs.Growing.{grows_not, grows_then}
 

@@ -10,7 +10,7 @@ use Rattle.sp_code.specs.declared.program.ShapeRow.{ShapeRow}
 use Rattle.sp_code.specs.Machine.{Plain}
 use Rattle.sp_code.specs.Programs.{kinds_at, round_of, stack_at, opens_at, shape_of, shapes_at}
 use Rattle.sp_code.specs.Shapes.{Shape, Opens}
-use Rattle.sp_lower_expr.specs.Marked.{IsWanted, HasAt, Shows}
+use Rattle.sp_code_programs.specs.exprs.Marked.{IsWanted, HasAt, Shows}
 use Rattle.sp_emit.specs.declared.emitter.Step.{Step}
 use Rattle.sp_emit.specs.Numbered.{Numbered, row_parts, shape_in}
 use Rattle.sp_emit.specs.Emitted.{marked, value_at, ConstantBelow}

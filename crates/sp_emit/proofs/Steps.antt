@@ -11,7 +11,7 @@ use Rattle.sp_code.specs.declared.program.RoundRow.TheVariants as round_is
 use Rattle.sp_code.specs.declared.program.ShapeRow.{ShapeRow}
 use Rattle.sp_code.specs.Programs.{round_of}
 use Rattle.sp_code.specs.Shapes.{Shape, OfFunction}
-use Rattle.sp_lower_expr.specs.Marked.{Marked, mark, constant}
+use Rattle.sp_code_programs.specs.exprs.Marked.{Marked, mark, constant}
 use Rattle.sp_emit.specs.declared.emitter.Step.{Step}
 use Rattle.sp_emit.specs.Kinds.{Grows}
 use Rattle.sp_emit.specs.Stacks.{Extends}

@@ -2,7 +2,7 @@
 use Rattle.std.specs.Prelude.{◌≡◌, [], length}
 use Rattle.sp_code.specs.Machine.{Plain}
 use Rattle.sp_code.specs.Programs.{kinds_from, stacks_from, opens_from, shapes_at}
-use Rattle.sp_lower_expr.specs.Marked.{HasAt, Shows}
+use Rattle.sp_code_programs.specs.exprs.Marked.{HasAt, Shows}
 use Rattle.sp_emit.specs.declared.emission.Emission.{Emission}
 use Rattle.sp_emit.specs.Emitted.{Emitted}
 

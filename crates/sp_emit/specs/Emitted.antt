@@ -5,7 +5,7 @@ use Rattle.sp_methods.specs.Kinds.{Kind}
 use Rattle.sp_code.specs.declared.instr.Instr.{Instr}
 use Rattle.sp_code.specs.declared.instr.Instr.TheVariants.{Const}
 use Rattle.sp_code.specs.Shapes.{Shape, OfUnit, with_operands, body_shape}
-use Rattle.sp_lower_expr.specs.Marked.{Marked, mark, constant}
+use Rattle.sp_code_programs.specs.exprs.Marked.{Marked, mark, constant}
 use Rattle.sp_emit.specs.Kinds.{Grows}
 
 -- the code, in which a constant is written as its value; the shape behind it; and the kinds

@@ -9,7 +9,7 @@ use Rattle.sp_code.specs.declared.program.RoundRow.TheVariants as round_is
 use Rattle.sp_code.specs.declared.instr.Instr.TheVariants as does
 use Rattle.sp_code.specs.Programs.{kinds_from}
 use Rattle.sp_code.specs.Shapes.{Shape, OfUnit, body_shape, with_operands}
-use Rattle.sp_lower_expr.specs.Marked.{mark, constant}
+use Rattle.sp_code_programs.specs.exprs.Marked.{mark, constant}
 use Rattle.sp_emit.specs.Kinds.{NameEarlier}
 use Rattle.sp_emit.specs.Stacks.{StandEarlier}
 use Rattle.sp_emit.specs.Numbered.{row_parts}

@@ -52,7 +52,7 @@ impl Emitter {
     ghost use Rattle.sp_bodies.specs.Globals.{range_counts};
     ghost use Rattle.sp_code.specs.Programs.{kind_at, kind_of_row, kinds_at, round_of};
     ghost use Rattle.sp_code.specs.Shapes.{push, body_shape};
-    ghost use Rattle.sp_lower_expr.specs.Marked.{mark, constant};
+    ghost use Rattle.sp_code_programs.specs.exprs.Marked.{mark, constant};
     ghost use Rattle.sp_emit.specs.Kinds.{IsNumberOf, NamesBelow};
     ghost use Rattle.sp_emit.specs.Numbered.{RoundBelow};
     ghost use Rattle.sp_emit.specs.Emission.{IsEmission};

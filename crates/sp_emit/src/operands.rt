@@ -4,7 +4,7 @@ ghost use Rattle.sp_running.specs.Types.{kind_of_type};
 ghost use Rattle.sp_bodies.specs.Globals.{range_counts};
 ghost use Rattle.sp_code.specs.Programs.{kind_at, kind_of_row};
 ghost use Rattle.sp_code.specs.Shapes.{push};
-ghost use Rattle.sp_lower_expr.specs.Marked.{mark};
+ghost use Rattle.sp_code_programs.specs.exprs.Marked.{mark};
 ghost use Rattle.sp_emit.specs.Kinds.{NamesBelow};
 ghost use Rattle.sp_emit.specs.Emitted.{Adds, TurnsTo, IsOther, popped};
 

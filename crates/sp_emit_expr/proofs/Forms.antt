@@ -11,9 +11,9 @@ use Rattle.sp_typed.specs.Exprs.{Expr, three}
 use Rattle.sp_bodies.specs.Globals.{Globals, Layout}
 use Rattle.sp_code.specs.declared.instr.Instr.TheVariants as does
 use Rattle.sp_code.specs.Shapes.{Shape, push}
-use Rattle.sp_lower_expr.specs.Marked.{Marked, mark, constant}
-use Rattle.sp_lower_expr.specs.Sizes.{expr_size}
-use Rattle.sp_lower_expr.specs.Code.{kind_of, expr_code, binary_code, two_code}
+use Rattle.sp_code_programs.specs.exprs.Marked.{Marked, mark, constant}
+use Rattle.sp_code_programs.specs.exprs.Sizes.{expr_size}
+use Rattle.sp_code_programs.specs.exprs.Code.{kind_of, expr_code, binary_code, two_code}
 use Rattle.sp_emit.specs.Emitted.{Emitted, Adds, TurnsTo, Redirects, popped}
 use Rattle.sp_emit.proofs.Adding.{adds_as, adds_long, adds_then, adds_behind, adds_turn, adds_redirected}
 use Rattle.sp_emit_expr.specs.declared.two.Takes.{Takes}

@@ -13,9 +13,9 @@ use Rattle.sp_typed.specs.inside.ExprCodes.{expr_size, exprs_size}
 use Rattle.sp_bodies.specs.Globals.{Globals, Layout}
 use Rattle.sp_bodies.specs.Exprs.{is_self}
 use Rattle.sp_code.specs.Shapes.{Shape, push, with_operands}
-use Rattle.sp_lower_expr.specs.Marked.{Marked}
-use Rattle.sp_lower_expr.specs.Sizes as sizes
-use Rattle.sp_lower_expr.specs.Code.{kind_of, kinds_on, count, many_code, kept_offset, changing, expr_code, exprs_code, pending}
+use Rattle.sp_code_programs.specs.exprs.Marked.{Marked}
+use Rattle.sp_code_programs.specs.exprs.Sizes as sizes
+use Rattle.sp_code_programs.specs.exprs.Code.{kind_of, kinds_on, count, many_code, kept_offset, changing, expr_code, exprs_code, pending}
 use Rattle.sp_emit.specs.Emitted.{Emitted, Adds, TurnsTo, lowest, lowered}
 use Rattle.sp_emit.proofs.Adding.{adds_as, adds_then, adds_behind, adds_turn}
 use Rattle.sp_emit_expr.specs.declared.rows.Row.TheVariants as row_is

@@ -9,9 +9,9 @@ use Rattle.sp_bodies.specs.Globals.{Globals, Layout}
 use Rattle.sp_code.specs.declared.instr.Instr.{Instr}
 use Rattle.sp_code.specs.declared.instr.Instr.TheVariants as does
 use Rattle.sp_code.specs.Shapes.{Shape, push}
-use Rattle.sp_lower_expr.specs.Marked.{Marked, mark}
-use Rattle.sp_lower_expr.specs.Sizes.{expr_size, keep_size, load_size}
-use Rattle.sp_lower_expr.specs.Code.{keep_code, owner_code, member_of, kind_of, pending, expr_code, load_code, store_code, put_code, update_code, key_code}
+use Rattle.sp_code_programs.specs.exprs.Marked.{Marked, mark}
+use Rattle.sp_code_programs.specs.exprs.Sizes.{expr_size, keep_size, load_size}
+use Rattle.sp_code_programs.specs.exprs.Code.{keep_code, owner_code, member_of, kind_of, pending, expr_code, load_code, store_code, put_code, update_code, key_code}
 use Rattle.sp_emit.specs.Emitted.{Emitted, Adds, popped}
 use Rattle.sp_emit.proofs.Adding.{adds_as, adds_then, adds_behind}
 use Rattle.sp_code_means.proofs.Sizes.{expr_sized, keep_sized, load_sized}

@@ -14,9 +14,9 @@ use Rattle.sp_bodies.specs.Globals.{Globals, Layout}
 use Rattle.sp_bodies.specs.Exprs.{slot_local}
 use Rattle.sp_code.specs.declared.instr.Instr.TheVariants as does
 use Rattle.sp_code.specs.Shapes.{Shape, push, with_operands}
-use Rattle.sp_lower_expr.specs.Marked.{Marked, mark}
-use Rattle.sp_lower_expr.specs.Sizes.{expr_size, exprs_size, keep_size, load_size}
-use Rattle.sp_lower_expr.specs.Code.{keep_code, owner_code, member_of, result_code, kind_of, kinds_on, pending, with_result, kept_offset, changing, expr_code, exprs_code, receiver_code, load_code, store_code}
+use Rattle.sp_code_programs.specs.exprs.Marked.{Marked, mark}
+use Rattle.sp_code_programs.specs.exprs.Sizes.{expr_size, exprs_size, keep_size, load_size}
+use Rattle.sp_code_programs.specs.exprs.Code.{keep_code, owner_code, member_of, result_code, kind_of, kinds_on, pending, with_result, kept_offset, changing, expr_code, exprs_code, receiver_code, load_code, store_code}
 use Rattle.sp_emit.specs.Emitted.{Emitted, Adds, TurnsTo, lowered}
 use Rattle.sp_emit.proofs.Adding.{adds_as, adds_then, adds_behind, adds_turn}
 use Rattle.sp_emit_expr.specs.declared.rows.Row.TheVariants as row_is

@@ -10,9 +10,9 @@ use Rattle.sp_typed.specs.declared.words.TwoOp.{TwoOp}
 use Rattle.sp_typed.specs.Exprs.{Expr, Exprs, three, many, more}
 use Rattle.sp_code.specs.Shapes.{Shape, push, with_operands}
 use Rattle.sp_code.specs.declared.instr.Instr.TheVariants as does
-use Rattle.sp_lower_expr.specs.Marked.{Marked, mark}
-use Rattle.sp_lower_expr.specs.Code.{keep_code, owner_code, kind_of, kinds_on, pending, two_code, expr_code, exprs_code, receiver_code, load_code, store_code}
-use Rattle.sp_lower_expr.specs.Sizes.{expr_size}
+use Rattle.sp_code_programs.specs.exprs.Marked.{Marked, mark}
+use Rattle.sp_code_programs.specs.exprs.Code.{keep_code, owner_code, kind_of, kinds_on, pending, two_code, expr_code, exprs_code, receiver_code, load_code, store_code}
+use Rattle.sp_code_programs.specs.exprs.Sizes.{expr_size}
 use Rattle.sp_emit.specs.Emitted.{Emitted, Adds}
 use Rattle.sp_emit_expr.specs.declared.around.Around.{Around}
 use Rattle.sp_emit_expr.specs.Around.{globals_in, layout_in}

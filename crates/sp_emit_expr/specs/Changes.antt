@@ -3,8 +3,8 @@ use Rattle.std.specs.Prelude.{ℕ, length, Option}
 use Rattle.sp_words.specs.declared.operators.BinaryOp.{BinaryOp}
 use Rattle.sp_typed.specs.Exprs.{Expr}
 use Rattle.sp_code.specs.declared.instr.Instr.{Instr}
-use Rattle.sp_lower_expr.specs.Sizes.{expr_size}
-use Rattle.sp_lower_expr.specs.Code.{kind_of, expr_code, put_code, update_code, key_code}
+use Rattle.sp_code_programs.specs.exprs.Sizes.{expr_size}
+use Rattle.sp_code_programs.specs.exprs.Code.{kind_of, expr_code, put_code, update_code, key_code}
 use Rattle.sp_emit.specs.Emitted.{Emitted, Adds}
 use Rattle.sp_emit_expr.specs.declared.around.Around.{Around}
 use Rattle.sp_emit_expr.specs.Around.{globals_in, layout_in}

@@ -3,8 +3,8 @@ ghost use Rattle.std.specs.Prelude.{◌≡◌, [], ◌∷◌, IfOk, OnOk, slice_
 ghost use Rattle.sp_value.specs.Val.{str, bytes, void};
 ghost use Rattle.sp_typed.specs.Exprs.{leaf};
 ghost use Rattle.sp_bodies.specs.Globals.{constant_value, number_of, label_numbers, label_value};
-ghost use Rattle.sp_lower_expr.specs.Marked.{constant};
-ghost use Rattle.sp_lower_expr.specs.Code.{constant_code, parameter_code, leaf_code};
+ghost use Rattle.sp_code_programs.specs.exprs.Marked.{constant};
+ghost use Rattle.sp_code_programs.specs.exprs.Code.{constant_code, parameter_code, leaf_code};
 ghost use Rattle.sp_emit.specs.Emitted.{Adds};
 ghost use Rattle.sp_emit_expr.specs.Around.{globals_in, layout_in, constant_at};
 ghost use Rattle.sp_emit_expr.specs.Added.{AddsExpr};

@@ -6,8 +6,8 @@ ghost use Rattle.sp_running.specs.Types.{plain_type};
 ghost use Rattle.sp_code.specs.declared.instr.Instr.TheVariants.{Cast};
 ghost use Rattle.sp_code.specs.Shapes.{Shape, push};
 ghost use Rattle.sp_typed.specs.declared.words.OneOp.TheVariants.{Bit};
-ghost use Rattle.sp_lower_expr.specs.Marked.{mark, constant};
-ghost use Rattle.sp_lower_expr.specs.Code.{one_code};
+ghost use Rattle.sp_code_programs.specs.exprs.Marked.{mark, constant};
+ghost use Rattle.sp_code_programs.specs.exprs.Code.{one_code};
 ghost use Rattle.sp_emit.specs.Emitted.{Adds};
 ghost use Rattle.sp_emit_expr.specs.Literals.{number_behind, negative_number};
 

@@ -2,7 +2,7 @@
 ghost use Rattle.std.specs.Prelude.{OnOk};
 ghost use Rattle.sp_running.specs.Types.{kind_of_type};
 ghost use Rattle.sp_code.specs.Shapes.{push};
-ghost use Rattle.sp_lower_expr.specs.Code.{kind_of};
+ghost use Rattle.sp_code_programs.specs.exprs.Code.{kind_of};
 ghost use Rattle.sp_emit.specs.Emitted.{TurnsTo};
 ghost use Rattle.sp_emit_expr.specs.Around.{globals_in, layout_in};
 

@@ -2,7 +2,7 @@
 ghost use Rattle.std.specs.Prelude.{◌≡◌, IfSome, IfNone, OnOk};
 ghost use Rattle.sp_typed.specs.Exprs.{exprs, more, none};
 ghost use Rattle.sp_bodies.specs.Exprs.{itself, is_self, offset_local};
-ghost use Rattle.sp_lower_expr.specs.Code.{many_code};
+ghost use Rattle.sp_code_programs.specs.exprs.Code.{many_code};
 ghost use Rattle.sp_emit.specs.Emitted.{Adds};
 ghost use Rattle.sp_emit_expr.specs.Around.{globals_in, layout_in, layout_of};
 ghost use Rattle.sp_emit_expr.specs.Many.{row_of};

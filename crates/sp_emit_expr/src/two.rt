@@ -5,7 +5,7 @@ ghost use Rattle.sp_value.specs.Val.{uint};
 ghost use Rattle.sp_methods.specs.Kinds.{Kind, Bools, Only};
 ghost use Rattle.sp_code.specs.Shapes.{Shape, push};
 ghost use Rattle.sp_code.specs.declared.instr.Instr.TheVariants.{Index};
-ghost use Rattle.sp_lower_expr.specs.Marked.{mark, constant};
+ghost use Rattle.sp_code_programs.specs.exprs.Marked.{mark, constant};
 ghost use Rattle.sp_emit.specs.Emitted.{Adds, TurnsTo, IsOther};
 ghost use Rattle.sp_emit_expr.specs.Joints.{joint_of, taking};
 

@@ -9,7 +9,7 @@ use Rattle.sp_value.specs.Val.{Val}
 use Rattle.sp_typed.specs.declared.words.ManyOp.{ManyOp}
 use Rattle.sp_typed.specs.declared.words.ManyOp.TheVariants as many_is
 use Rattle.sp_typed.specs.declared.words.UnitMethod.TheVariants as unit_method
-use Rattle.sp_lower_expr.specs.Sizes.{size_or, binary_size, many_size}
+use Rattle.sp_code_programs.specs.exprs.Sizes.{size_or, binary_size, many_size}
 use Rattle.sp_emit_expr.specs.declared.rows.Row.TheVariants as row_is
 use Rattle.sp_emit_expr.specs.Many.{row_of}
 use Rattle.sp_emit_size.specs.Beside.{beside}

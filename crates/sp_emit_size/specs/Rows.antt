@@ -1,7 +1,7 @@
 -- What the definitions say of a few operators.
 use Rattle.std.specs.Prelude.{◌≡◌, ◌+◌, refl}
 use Rattle.sp_words.specs.declared.operators.BinaryOp.TheVariants as op_is
-use Rattle.sp_lower_expr.specs.Sizes.{binary_size}
+use Rattle.sp_code_programs.specs.exprs.Sizes.{binary_size}
 use Rattle.sp_emit_size.specs.Beside.{beside}
 
 -- both parts of a sum have two instructions

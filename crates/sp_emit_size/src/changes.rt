@@ -1,8 +1,8 @@
 // Sizes of what changes places.
 ghost use Rattle.std.specs.Prelude.{◌≡◌, IfOk};
 ghost use Rattle.sp_bodies.specs.Exprs.{slot_local};
-ghost use Rattle.sp_lower_expr.specs.Sizes.{expr_size, put_size, update_size, key_size};
-ghost use Rattle.sp_lower_unit.specs.Sizes.{assign_size};
+ghost use Rattle.sp_code_programs.specs.exprs.Sizes.{expr_size, put_size, update_size, key_size};
+ghost use Rattle.sp_code_programs.specs.units.Sizes.{assign_size};
 ghost use Rattle.sp_emit_expr.specs.Around.{layout_in};
 
 use crate::forms::{changed_size, keep_size, member_size};

@@ -2,7 +2,7 @@
 ghost use Rattle.std.specs.Prelude.{◌≡◌, ◌+◌, IfOk, is_some, if◌then◌else◌};
 ghost use Rattle.sp_types.specs.Types.{Ty};
 ghost use Rattle.sp_bodies.specs.Exprs.{negative, negative_literal, gives_result};
-ghost use Rattle.sp_lower_expr.specs.Sizes.{one_size, binary_size, two_size, change_size, keep_size, owner_size};
+ghost use Rattle.sp_code_programs.specs.exprs.Sizes.{one_size, binary_size, two_size, change_size, keep_size, owner_size};
 ghost use Rattle.sp_emit_size.specs.Beside.{beside};
 
 use sp_base::NoMemory;

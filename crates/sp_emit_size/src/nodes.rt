@@ -2,7 +2,7 @@
 ghost use Rattle.std.specs.Prelude.{◌≡◌, IfOk};
 ghost use Rattle.sp_typed.specs.Exprs.{one, many, more, exprs};
 ghost use Rattle.sp_typed.specs.declared.words.ManyOp.TheVariants as many_is;
-ghost use Rattle.sp_lower_expr.specs.Sizes.{owner_size, expr_size, exprs_size, receiver_size, load_size, store_size};
+ghost use Rattle.sp_code_programs.specs.exprs.Sizes.{owner_size, expr_size, exprs_size, receiver_size, load_size, store_size};
 ghost use Rattle.sp_emit_expr.specs.Around.{layout_in};
 
 use crate::forms::{

@@ -1,7 +1,7 @@
 // Sizes of statements in which no other one stands.
 ghost use Rattle.std.specs.Prelude.{◌≡◌, IfOk};
 ghost use Rattle.sp_typed.specs.Exprs.{exprs};
-ghost use Rattle.sp_lower_unit.specs.Sizes.{bare_size, valued_size, values_size};
+ghost use Rattle.sp_code_programs.specs.units.Sizes.{bare_size, valued_size, values_size};
 ghost use Rattle.sp_emit_expr.specs.Around.{layout_in};
 
 use crate::changes::key_size;

@@ -1,7 +1,7 @@
 // Sizes of statements.
 ghost use Rattle.std.specs.Prelude.{◌≡◌, IfOk};
 ghost use Rattle.sp_typed.specs.Stmts.{stmts, branch_row, case_row};
-ghost use Rattle.sp_lower_unit.specs.Sizes.{stmt_size, stmts_size, branches_size, cases_size};
+ghost use Rattle.sp_code_programs.specs.units.Sizes.{stmt_size, stmts_size, branches_size, cases_size};
 ghost use Rattle.sp_emit_expr.specs.Around.{layout_in};
 
 use crate::changes::assign_size;

@@ -6,11 +6,11 @@ use Rattle.sp_typed.specs.Stmts.{Stmt, Branches, Cases, branch, switch, no_branc
 use Rattle.sp_bodies.specs.Globals.{Globals, Layout}
 use Rattle.sp_code.specs.declared.instr.Instr.TheVariants as does
 use Rattle.sp_code.specs.Shapes.{Shape, push}
-use Rattle.sp_lower_expr.specs.Marked.{Marked, mark}
-use Rattle.sp_lower_expr.specs.Sizes.{expr_size}
-use Rattle.sp_lower_expr.specs.Code.{kind_of, expr_code}
-use Rattle.sp_lower_unit.specs.Sizes.{values_size, stmt_size, branches_size, cases_size}
-use Rattle.sp_lower_unit.specs.Code.{values_code, stmt_code, branches_code, cases_code}
+use Rattle.sp_code_programs.specs.exprs.Marked.{Marked, mark}
+use Rattle.sp_code_programs.specs.exprs.Sizes.{expr_size}
+use Rattle.sp_code_programs.specs.exprs.Code.{kind_of, expr_code}
+use Rattle.sp_code_programs.specs.units.Sizes.{values_size, stmt_size, branches_size, cases_size}
+use Rattle.sp_code_programs.specs.units.Code.{values_code, stmt_code, branches_code, cases_code}
 use Rattle.sp_emit.specs.Emitted.{Emitted, Adds, popped}
 use Rattle.sp_emit.proofs.Adding.{adds_as, adds_long, adds_then, adds_behind}
 use Rattle.sp_code_means.proofs.Sizes.{expr_sized}

@@ -8,11 +8,11 @@ use Rattle.sp_running.specs.Types.{kind_of_type}
 use Rattle.sp_bodies.specs.Globals.{Globals, Layout}
 use Rattle.sp_code.specs.declared.instr.Instr.TheVariants as does
 use Rattle.sp_code.specs.Shapes.{Shape, push}
-use Rattle.sp_lower_expr.specs.Marked.{Marked, mark}
-use Rattle.sp_lower_expr.specs.Sizes.{expr_size}
-use Rattle.sp_lower_expr.specs.Code.{kind_of, expr_code}
-use Rattle.sp_lower_unit.specs.Sizes.{stmt_size}
-use Rattle.sp_lower_unit.specs.Code.{stmt_code}
+use Rattle.sp_code_programs.specs.exprs.Marked.{Marked, mark}
+use Rattle.sp_code_programs.specs.exprs.Sizes.{expr_size}
+use Rattle.sp_code_programs.specs.exprs.Code.{kind_of, expr_code}
+use Rattle.sp_code_programs.specs.units.Sizes.{stmt_size}
+use Rattle.sp_code_programs.specs.units.Code.{stmt_code}
 use Rattle.sp_emit.specs.Emitted.{Emitted, Adds, TurnsTo, popped}
 use Rattle.sp_emit.proofs.Adding.{adds_as, adds_long, adds_then, adds_behind, adds_turn}
 use Rattle.sp_emit_stmt.specs.Added.{each_code, left_code}

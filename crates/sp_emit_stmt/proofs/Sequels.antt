@@ -7,10 +7,10 @@ use Rattle.sp_bodies.specs.Globals.{Globals, Layout}
 use Rattle.sp_code.specs.declared.instr.Instr.TheVariants as does
 use Rattle.sp_code.specs.Programs.{kind_at}
 use Rattle.sp_code.specs.Shapes.{Shape, push}
-use Rattle.sp_lower_expr.specs.Marked.{Marked, mark, constant}
-use Rattle.sp_lower_unit.specs.Sizes.{stmt_size}
-use Rattle.sp_lower_unit.specs.Code.{stmt_code, stmts_code}
-use Rattle.sp_lower_unit.specs.Bodies.{body_code}
+use Rattle.sp_code_programs.specs.exprs.Marked.{Marked, mark, constant}
+use Rattle.sp_code_programs.specs.units.Sizes.{stmt_size}
+use Rattle.sp_code_programs.specs.units.Code.{stmt_code, stmts_code}
+use Rattle.sp_code_programs.specs.units.Bodies.{body_code}
 use Rattle.sp_emit.specs.Kinds.{Grows}
 use Rattle.sp_emit.specs.Emitted.{Emitted, Adds, TurnsTo, popped}
 use Rattle.sp_emit.proofs.Adding.{adds_as, adds_then, adds_behind, adds_turn}

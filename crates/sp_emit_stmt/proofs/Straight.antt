@@ -5,7 +5,7 @@ use Rattle.sp_methods.specs.Kinds.{Kind, Bools}
 use Rattle.sp_code.specs.declared.instr.Instr.{Instr}
 use Rattle.sp_code.specs.declared.instr.Instr.TheVariants as does
 use Rattle.sp_code.specs.Shapes.{Shape, push}
-use Rattle.sp_lower_expr.specs.Marked.{Marked, mark, constant}
+use Rattle.sp_code_programs.specs.exprs.Marked.{Marked, mark, constant}
 use Rattle.sp_emit.specs.Emitted.{Emitted, Adds, TurnsTo, popped}
 use Rattle.sp_emit.proofs.Adding.{adds_as, adds_then, adds_turn}
 

@@ -7,10 +7,10 @@ use Rattle.sp_typed.specs.Exprs.{Expr, Exprs, none, more, exprs}
 use Rattle.sp_bodies.specs.Globals.{Globals, Layout}
 use Rattle.sp_code.specs.declared.instr.Instr.TheVariants as does
 use Rattle.sp_code.specs.Shapes.{Shape, push, with_operands}
-use Rattle.sp_lower_expr.specs.Marked.{Marked, mark}
-use Rattle.sp_lower_expr.specs.Sizes.{expr_size}
-use Rattle.sp_lower_expr.specs.Code.{kind_at, kind_of, kinds_on, count, expr_code, exprs_code}
-use Rattle.sp_lower_unit.specs.Code.{values_code}
+use Rattle.sp_code_programs.specs.exprs.Marked.{Marked, mark}
+use Rattle.sp_code_programs.specs.exprs.Sizes.{expr_size}
+use Rattle.sp_code_programs.specs.exprs.Code.{kind_at, kind_of, kinds_on, count, expr_code, exprs_code}
+use Rattle.sp_code_programs.specs.units.Code.{values_code}
 use Rattle.sp_emit.specs.Emitted.{Emitted, Adds, TurnsTo, popped, lowered}
 use Rattle.sp_emit.proofs.Adding.{adds_as, adds_then, adds_behind, adds_turn}
 use Rattle.sp_emit_expr.proofs.Many.{count_is, lowered_row}

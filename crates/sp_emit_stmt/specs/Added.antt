@@ -15,11 +15,11 @@ use Rattle.sp_bodies.specs.Globals.{Globals, Layout}
 use Rattle.sp_code.specs.declared.instr.Instr.{Instr}
 use Rattle.sp_code.specs.declared.instr.Instr.TheVariants as does
 use Rattle.sp_code.specs.Shapes.{Shape, push, with_operands}
-use Rattle.sp_lower_expr.specs.Marked.{Marked, mark, constant}
-use Rattle.sp_lower_expr.specs.Code.{kind_of, kinds_on, count, expr_code, exprs_code}
-use Rattle.sp_lower_unit.specs.Sizes.{stmt_size, cases_size}
-use Rattle.sp_lower_unit.specs.Code.{bare_code, valued_code, assign_code, values_code, stmt_code, stmts_code, branches_code, cases_code}
-use Rattle.sp_lower_unit.specs.Bodies.{body_code}
+use Rattle.sp_code_programs.specs.exprs.Marked.{Marked, mark, constant}
+use Rattle.sp_code_programs.specs.exprs.Code.{kind_of, kinds_on, count, expr_code, exprs_code}
+use Rattle.sp_code_programs.specs.units.Sizes.{stmt_size, cases_size}
+use Rattle.sp_code_programs.specs.units.Code.{bare_code, valued_code, assign_code, values_code, stmt_code, stmts_code, branches_code, cases_code}
+use Rattle.sp_code_programs.specs.units.Bodies.{body_code}
 use Rattle.sp_emit.specs.Emitted.{Emitted, Adds}
 use Rattle.sp_emit_expr.specs.declared.around.Around.{Around}
 use Rattle.sp_emit_expr.specs.Around.{globals_in, layout_in}

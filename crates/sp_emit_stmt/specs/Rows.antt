@@ -17,9 +17,9 @@ use Rattle.sp_typed.specs.Stmts.{Stmt, bare, valued, while_loop}
 use Rattle.sp_bodies.specs.Globals.{Globals, Layout}
 use Rattle.sp_code.specs.declared.instr.Instr.TheVariants as does
 use Rattle.sp_code.specs.Shapes.{Shape, OfFunction, body_shape, push}
-use Rattle.sp_lower_expr.specs.Marked.{mark, constant}
-use Rattle.sp_lower_unit.specs.Code.{stmt_code}
-use Rattle.sp_lower_unit.specs.Bodies.{body_code}
+use Rattle.sp_code_programs.specs.exprs.Marked.{mark, constant}
+use Rattle.sp_code_programs.specs.units.Code.{stmt_code}
+use Rattle.sp_code_programs.specs.units.Bodies.{body_code}
 use Rattle.sp_emit_stmt.specs.Literals.{StmtLiteralsFit}
 use Rattle.sp_emit_stmt.specs.Added.{each_code, left_code}
 

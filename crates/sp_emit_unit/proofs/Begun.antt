@@ -18,8 +18,8 @@ use Rattle.sp_code.specs.declared.program.RoundRow.TheVariants as round_is
 use Rattle.sp_code.specs.declared.instr.Instr.TheVariants as does
 use Rattle.sp_code.specs.Programs.{kind_at, kinds_at, round_of}
 use Rattle.sp_code.specs.Shapes.{Shape, Round, OfUnit, OfFunction, with_operands, push, body_shape}
-use Rattle.sp_lower_expr.specs.Marked.{Marked, mark}
-use Rattle.sp_lower_unit.specs.Units.{unit_shape, slot_kinds, kinds_over, begin_code, variables_code, unit_hook_code, parts_code, unit_parts_code, starter_kinds, starter_code}
+use Rattle.sp_code_programs.specs.exprs.Marked.{Marked, mark}
+use Rattle.sp_code_programs.specs.units.Units.{unit_shape, slot_kinds, kinds_over, begin_code, variables_code, unit_hook_code, parts_code, unit_parts_code, starter_kinds, starter_code}
 use Rattle.sp_emit.specs.Kinds.{IsNumberOf}
 use Rattle.sp_emit.specs.Numbered.{RoundBelow}
 use Rattle.sp_emit.specs.Emitted.{Emitted, Adds, TurnsTo, lowered}

@@ -2,7 +2,7 @@
 use Rattle.std.proofs.Common.{◌≡◌, ◌<◌, ◌+◌, ℕ, suc, List, [], ◌∷◌, ◌++◌, length, get_or, drop, drop-cons, sym, ap, subst, ◌∙◌, arith}
 use Rattle.std.proofs.Math.Seq.{drop-length}
 use Rattle.sp_code.specs.Shapes.{Shape}
-use Rattle.sp_lower_expr.specs.Marked.{Marked}
+use Rattle.sp_code_programs.specs.exprs.Marked.{Marked}
 use Rattle.sp_emit.specs.Emitted.{Emitted, Adds}
 use Rattle.sp_emit.proofs.Adding.{adds_nothing, adds_as, adds_then}
 

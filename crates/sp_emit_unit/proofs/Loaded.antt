@@ -4,9 +4,9 @@ use Rattle.sp_methods.specs.Kinds.{Unsigned}
 use Rattle.sp_bodies.specs.Units.{value_slot, offset_slot}
 use Rattle.sp_code.specs.declared.instr.Instr.TheVariants as does
 use Rattle.sp_code.specs.Shapes.{Shape, Round, push, read_kind}
-use Rattle.sp_lower_expr.specs.Marked.{mark}
-use Rattle.sp_lower_unit.specs.Bodies.{loads_code, loaded, hooks_code}
-use Rattle.sp_lower_unit.specs.Units.{unit_shape}
+use Rattle.sp_code_programs.specs.exprs.Marked.{mark}
+use Rattle.sp_code_programs.specs.units.Bodies.{loads_code, loaded, hooks_code}
+use Rattle.sp_code_programs.specs.units.Units.{unit_shape}
 use Rattle.sp_emit.specs.Emitted.{Emitted, Adds, TurnsTo, lowered}
 use Rattle.sp_emit.proofs.Adding.{adds_then, adds_turn}
 use Rattle.sp_emit_unit.specs.declared.hooks.Handed.{Handed}

@@ -11,10 +11,10 @@ use Rattle.sp_bodies.specs.Units.{value_slot, offset_slot, unit_layout}
 use Rattle.sp_code.specs.declared.instr.Instr.TheVariants as does
 use Rattle.sp_code.specs.declared.instr.IntForm.{IntForm}
 use Rattle.sp_code.specs.Shapes.{Shape, push, read_kind}
-use Rattle.sp_lower_expr.specs.Marked.{Marked, mark}
-use Rattle.sp_lower_expr.specs.Code.{kind_of, expr_code}
-use Rattle.sp_lower_unit.specs.Bodies.{hooks_code}
-use Rattle.sp_lower_unit.specs.Units.{member_code, stored_code, kept_code, hooked_code, field_code, variable_code, variables_code}
+use Rattle.sp_code_programs.specs.exprs.Marked.{Marked, mark}
+use Rattle.sp_code_programs.specs.exprs.Code.{kind_of, expr_code}
+use Rattle.sp_code_programs.specs.units.Bodies.{hooks_code}
+use Rattle.sp_code_programs.specs.units.Units.{member_code, stored_code, kept_code, hooked_code, field_code, variable_code, variables_code}
 use Rattle.sp_emit.specs.Emitted.{Emitted, Adds, TurnsTo, popped}
 use Rattle.sp_emit.proofs.Adding.{adds_as, adds_then, adds_turn}
 use Rattle.sp_emit_unit.specs.Forms.{form_of}

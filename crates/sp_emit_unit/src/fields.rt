@@ -4,9 +4,9 @@ ghost use Rattle.sp_methods.specs.Kinds.{Unsigned, UnitOf};
 ghost use Rattle.sp_bodies.specs.Units as slots;
 ghost use Rattle.sp_code.specs.declared.instr.Instr.TheVariants as does;
 ghost use Rattle.sp_code.specs.Shapes.{Round, push, read_kind};
-ghost use Rattle.sp_lower_expr.specs.Marked.{mark};
-ghost use Rattle.sp_lower_unit.specs.Units.{unit_shape, where_integer};
-ghost use Rattle.sp_lower_unit.specs.Units as code;
+ghost use Rattle.sp_code_programs.specs.exprs.Marked.{mark};
+ghost use Rattle.sp_code_programs.specs.units.Units.{unit_shape, where_integer};
+ghost use Rattle.sp_code_programs.specs.units.Units as code;
 ghost use Rattle.sp_emit.specs.Emitted.{Adds};
 ghost use Rattle.sp_emit_unit.specs.Forms.{form_of};
 

@@ -4,9 +4,9 @@ ghost use Rattle.sp_methods.specs.Kinds.{Unsigned};
 ghost use Rattle.sp_bodies.specs.Units as slots;
 ghost use Rattle.sp_code.specs.declared.instr.Instr.TheVariants as does;
 ghost use Rattle.sp_code.specs.Shapes.{Round, push, read_kind};
-ghost use Rattle.sp_lower_expr.specs.Marked.{mark};
-ghost use Rattle.sp_lower_unit.specs.Bodies.{loads_code, loaded, hooks_code};
-ghost use Rattle.sp_lower_unit.specs.Units.{unit_shape};
+ghost use Rattle.sp_code_programs.specs.exprs.Marked.{mark};
+ghost use Rattle.sp_code_programs.specs.units.Bodies.{loads_code, loaded, hooks_code};
+ghost use Rattle.sp_code_programs.specs.units.Units.{unit_shape};
 ghost use Rattle.sp_emit.specs.Emitted.{Adds, TurnsTo};
 ghost use Rattle.sp_emit_unit.specs.Handed.{handed_locals};
 

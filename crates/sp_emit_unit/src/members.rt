@@ -3,7 +3,7 @@ ghost use Rattle.std.specs.Prelude.{◌≡◌, OnOk};
 ghost use Rattle.sp_methods.specs.Kinds.{Kind};
 ghost use Rattle.sp_bodies.specs.Units as slots;
 ghost use Rattle.sp_code.specs.Shapes.{Shape, push, read_kind};
-ghost use Rattle.sp_lower_unit.specs.Units.{member_code, stored_code, kept_code};
+ghost use Rattle.sp_code_programs.specs.units.Units.{member_code, stored_code, kept_code};
 ghost use Rattle.sp_emit.specs.Emitted.{Adds};
 
 use crate::hooks::{push_read, value_slot};

@@ -2,7 +2,7 @@
 ghost use Rattle.std.specs.Prelude.{◌≡◌, OnOk};
 ghost use Rattle.sp_typed_units.specs.Parts.{parts};
 ghost use Rattle.sp_code.specs.Shapes.{Round};
-ghost use Rattle.sp_lower_unit.specs.Units.{unit_shape, part_code, parts_code};
+ghost use Rattle.sp_code_programs.specs.units.Units.{unit_shape, part_code, parts_code};
 ghost use Rattle.sp_emit.specs.Emitted.{Adds};
 
 use crate::fields::field;

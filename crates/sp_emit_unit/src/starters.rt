@@ -3,7 +3,7 @@ ghost use Rattle.std.specs.Prelude.{[], OnOk, None};
 ghost use Rattle.sp_methods.specs.Kinds.{UnitOf};
 ghost use Rattle.sp_bodies.specs.Globals.{globals_of};
 ghost use Rattle.sp_code.specs.Shapes.{OfFunction, with_operands, push, body_shape};
-ghost use Rattle.sp_lower_unit.specs.Units.{kinds_over, starter_code};
+ghost use Rattle.sp_code_programs.specs.units.Units.{kinds_over, starter_code};
 ghost use Rattle.sp_emit.specs.Emitted.{Adds, TurnsTo};
 
 use sp_base::NoMemory;

@@ -3,7 +3,7 @@ ghost use Rattle.std.specs.Prelude.{◌≡◌, ◌<◌, [], length, None, OnOk};
 ghost use Rattle.sp_bodies.specs.Units.{last_order, module_order};
 ghost use Rattle.sp_code.specs.Programs.{round_of};
 ghost use Rattle.sp_code.specs.Shapes.{Round, OfUnit, OfEnding, OfFailing};
-ghost use Rattle.sp_lower_unit.specs.Units.{unit_shape, unit_hook_code, unit_parts_code, unit_code, ending_code, failing_code};
+ghost use Rattle.sp_code_programs.specs.units.Units.{unit_shape, unit_hook_code, unit_parts_code, unit_code, ending_code, failing_code};
 ghost use Rattle.sp_emit.specs.Emitted.{Adds, TurnsTo};
 ghost use Rattle.sp_emit_unit.specs.Values.{ValuesFit};
 ghost use Rattle.sp_emit_unit.specs.Rounds.{IsOfUnit};

@@ -12,12 +12,12 @@ use Rattle.sp_bodies.specs.Globals.{Globals, globals_of}
 use Rattle.sp_bodies.specs.Calls.{function_layout, hook_layout, is_foreach}
 use Rattle.sp_code.specs.Machine.{Body, Plain}
 use Rattle.sp_code.specs.Shapes.{Shapes, Round, OfFunction, OfHook, body_shape, IsResult, AlwaysHave, Shown, Enters}
-use Rattle.sp_lower_expr.specs.Code.{kind_at}
-use Rattle.sp_lower_unit.specs.Bodies.{name_at}
-use Rattle.sp_program.specs.Named.{hook_names_of}
-use Rattle.sp_program.specs.Routines.{Routine, entry_at, function_shape, hook_shape, function_routine, hook_routine}
-use Rattle.sp_program.specs.Currents.{currents_of}
-use Rattle.sp_program.specs.Whole.{behind_bodies, IsProgramOf}
+use Rattle.sp_code_programs.specs.exprs.Code.{kind_at}
+use Rattle.sp_code_programs.specs.units.Bodies.{name_at}
+use Rattle.sp_code_programs.specs.programs.Named.{hook_names_of}
+use Rattle.sp_code_programs.specs.programs.Routines.{Routine, entry_at, function_shape, hook_shape, function_routine, hook_routine}
+use Rattle.sp_code_programs.specs.programs.Currents.{currents_of}
+use Rattle.sp_code_programs.specs.programs.Whole.{behind_bodies, IsProgramOf}
 use Rattle.sp_code_bodies.specs.Fits.{StmtFits}
 use Rattle.sp_bodies_end.specs.Finished.{FunctionFits, HookFits}
 use Rattle.sp_program_laid.proofs.Begins.{stmt_begins, shown_first}

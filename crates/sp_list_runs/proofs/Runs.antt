@@ -14,9 +14,9 @@ use Rattle.sp_code.specs.declared.program.Program.{Program}
 use Rattle.sp_code.specs.Machine.{Plain, Config, step}
 use Rattle.sp_code.specs.Programs.{plain_of, shapes_of}
 use Rattle.sp_code.specs.Shapes.{Shapes, Shaped}
-use Rattle.sp_lower_unit.specs.Units.{kinds_over, starter_kinds}
-use Rattle.sp_program.specs.Named.{hook_names_of}
-use Rattle.sp_program.specs.Whole.{starter_at}
+use Rattle.sp_code_programs.specs.units.Units.{kinds_over, starter_kinds}
+use Rattle.sp_code_programs.specs.programs.Named.{hook_names_of}
+use Rattle.sp_code_programs.specs.programs.Whole.{starter_at}
 use Rattle.sp_code_ends.specs.Ending.{IsStop}
 use Rattle.sp_bodies_end.specs.Laws.{IsFinished}
 use Rattle.sp_unit_told.specs.Told.{started, end_of, events_of, Tells}

@@ -15,9 +15,9 @@ use Rattle.sp_code.specs.Machine.{Plain, Config, step}
 use Rattle.sp_code.specs.Programs.{plain_of, shapes_of, IsSoundProgram}
 use Rattle.sp_code.specs.Runs.{Comes}
 use Rattle.sp_code.specs.Shapes.{Shapes, Shaped}
-use Rattle.sp_lower_unit.specs.Units.{starter_kinds}
-use Rattle.sp_program.specs.Named.{hook_names_of}
-use Rattle.sp_program.specs.Whole.{starter_at, IsProgramOf, IsCompiled}
+use Rattle.sp_code_programs.specs.units.Units.{starter_kinds}
+use Rattle.sp_code_programs.specs.programs.Named.{hook_names_of}
+use Rattle.sp_code_programs.specs.programs.Whole.{starter_at, IsProgramOf, IsCompiled}
 use Rattle.sp_code_continues.specs.Laws.{IsSteady}
 use Rattle.sp_code_ends.specs.Ending.{IsStop}
 use Rattle.sp_bodies_end.specs.Finished.{FunctionsFit}

@@ -19,10 +19,10 @@ use Rattle.sp_running.specs.Scopes as called_is
 use Rattle.sp_bodies.specs.Globals.{globals_of}
 use Rattle.sp_code.specs.declared.program.Program.{Program}
 use Rattle.sp_code.specs.Shapes.{OfFunction, Enters}
-use Rattle.sp_lower_unit.specs.Units.{starter_kinds}
-use Rattle.sp_program.specs.Rows.{here, same, seven}
-use Rattle.sp_program.specs.Whole.{IsCompiled}
-use Rattle.sp_program.specs.WholeRows.{with_hook, with_parameter, told_byte, whole_list, whole_program, whole_shapes, it_is_the_program}
+use Rattle.sp_code_programs.specs.units.Units.{starter_kinds}
+use Rattle.sp_code_programs.specs.programs.Rows.{here, same, seven}
+use Rattle.sp_code_programs.specs.programs.Whole.{IsCompiled}
+use Rattle.sp_code_programs.specs.programs.WholeRows.{with_hook, with_parameter, told_byte, whole_list, whole_program, whole_shapes, it_is_the_program}
 use Rattle.sp_bodies_end.specs.Built.{StmtIsBuilt}
 use Rattle.sp_unit_told.specs.Told.{end_of}
 use Rattle.sp_unit_told.specs.Rows.{none}

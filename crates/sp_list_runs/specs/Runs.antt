@@ -11,8 +11,8 @@ use Rattle.sp_running.specs.States.{Reading, Result}
 use Rattle.sp_running.specs.Reads.{Ask, Read}
 use Rattle.sp_bodies.specs.Globals.{globals_of}
 use Rattle.sp_code.specs.declared.program.Program.{Program}
-use Rattle.sp_lower_unit.specs.Units.{starter_kinds}
-use Rattle.sp_program.specs.Whole.{IsCompiled}
+use Rattle.sp_code_programs.specs.units.Units.{starter_kinds}
+use Rattle.sp_code_programs.specs.programs.Whole.{IsCompiled}
 use Rattle.sp_bodies_end.specs.Built.{StmtIsBuilt}
 use Rattle.sp_units_end.specs.Built.{HookIsBuilt, UnitIsBuilt}
 use Rattle.sp_whole_program.specs.Fits.{AlwaysFits}

@@ -12,15 +12,15 @@ use Rattle.sp_code.specs.declared.program.ShapeRow.{ShapeRow}
 use Rattle.sp_code.specs.Machine.{Plain}
 use Rattle.sp_code.specs.Shapes.{Opens, Shape, Shapes}
 use Rattle.sp_code.specs.Programs.{kinds_from, stacks_from, opens_from, shapes_at, body_kinds, unit_kinds, label_names, range_names, plain_of, shapes_of}
-use Rattle.sp_lower_expr.specs.Marked.{Marked, HasAt, Shows}
+use Rattle.sp_code_programs.specs.exprs.Marked.{Marked, HasAt, Shows}
 use Rattle.sp_emit.specs.Emission.{IsEmission}
 use Rattle.sp_emit.specs.Emitted.{Emitted}
 use Rattle.sp_emit.proofs.Growing.{grows_then}
-use Rattle.sp_program.specs.Named.{hook_names_of, names_of_members, names_of_labels, names_of_ranges}
-use Rattle.sp_program.specs.Currents.{currents_of}
-use Rattle.sp_program.specs.Programs.{entries_from, routines_code}
-use Rattle.sp_program.specs.Units.{units_code, unit_entries, starters_code}
-use Rattle.sp_program.specs.Whole.{all_routines, units_start, behind_bodies, whole_code, IsProgramOf}
+use Rattle.sp_code_programs.specs.programs.Named.{hook_names_of, names_of_members, names_of_labels, names_of_ranges}
+use Rattle.sp_code_programs.specs.programs.Currents.{currents_of}
+use Rattle.sp_code_programs.specs.programs.Programs.{entries_from, routines_code}
+use Rattle.sp_code_programs.specs.programs.Units.{units_code, unit_entries, starters_code}
+use Rattle.sp_code_programs.specs.programs.Whole.{all_routines, units_start, behind_bodies, whole_code, IsProgramOf}
 use Rattle.sp_program_laid.proofs.Laid.{what_stands_is_laid}
 use Rattle.sp_program_laid.proofs.Routines.{routines_sized}
 use Rattle.sp_lower.specs.declared.programs.Code.{Code}

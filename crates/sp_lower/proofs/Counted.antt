@@ -12,15 +12,15 @@ use Rattle.sp_code.specs.Shapes as shapes
 use Rattle.sp_code.specs.Shapes.{Shape}
 use Rattle.sp_code.specs.Programs as told
 use Rattle.sp_code.specs.Programs.{units_of, unit_kinds, kinds_at}
-use Rattle.sp_lower_expr.specs.Marked.{Marked}
-use Rattle.sp_lower_unit.specs.Units.{slot_kinds, unit_entry, unit_code, ending_code, failing_code, starter_code}
+use Rattle.sp_code_programs.specs.exprs.Marked.{Marked}
+use Rattle.sp_code_programs.specs.units.Units.{slot_kinds, unit_entry, unit_code, ending_code, failing_code, starter_code}
 use Rattle.sp_emit.specs.Kinds.{Grows}
 use Rattle.sp_emit.specs.Emitted.{Emitted, Adds}
 use Rattle.sp_emit.proofs.Growing.{grows_not, grows_then, number_before}
 use Rattle.sp_emit.proofs.Adding.{adds_long}
-use Rattle.sp_program.specs.Routines.{parameter_kinds}
-use Rattle.sp_program.specs.Named.{member_names, names_of_members}
-use Rattle.sp_program.specs.Units.{ending_at, failing_at, unit_end, whole_unit_code, units_code, unit_entries, starters_code, member_kinds, kinds_of_unit, kinds_of_units}
+use Rattle.sp_code_programs.specs.programs.Routines.{parameter_kinds}
+use Rattle.sp_code_programs.specs.programs.Named.{member_names, names_of_members}
+use Rattle.sp_code_programs.specs.programs.Units.{ending_at, failing_at, unit_end, whole_unit_code, units_code, unit_entries, starters_code, member_kinds, kinds_of_unit, kinds_of_units}
 use Rattle.sp_lower_tables.specs.Numbers.{GivesNumber, GivesNumbers}
 use Rattle.sp_lower_tables.proofs.Numbered.{turns_both, numbers_before}
 use Rattle.sp_lower.specs.declared.units.Addresses.{Addresses}

@@ -8,16 +8,16 @@ use Rattle.sp_code.specs.declared.program.BodyCode.{BodyCode}
 use Rattle.sp_code.specs.Machine.{Body}
 use Rattle.sp_code.specs.Shapes.{Shape, BodyKinds, body_shape}
 use Rattle.sp_code.specs.Programs.{bodies_of, kind_at, kinds_at, round_of, body_kinds}
-use Rattle.sp_lower_expr.specs.Marked.{Marked}
-use Rattle.sp_lower_unit.specs.Bodies.{body_code}
+use Rattle.sp_code_programs.specs.exprs.Marked.{Marked}
+use Rattle.sp_code_programs.specs.units.Bodies.{body_code}
 use Rattle.sp_emit.specs.Emitted.{Emitted, TurnsTo}
 use Rattle.sp_emit.proofs.Growing.{grows_not, grows_then, kinds_before}
 use Rattle.sp_emit_expr.specs.declared.around.Around.{Around}
 use Rattle.sp_emit_expr.specs.Around.{globals_in, layout_in}
 use Rattle.sp_emit_stmt.specs.declared.bodies.Frame.{Frame}
 use Rattle.sp_emit_stmt.specs.Added.{AddsRoutine}
-use Rattle.sp_program.specs.Routines.{Routine, routine_size, entry_at, local_kinds, routine_code}
-use Rattle.sp_program.specs.Programs.{routines_size, entries_from, kinds_of_locals, routines_code}
+use Rattle.sp_code_programs.specs.programs.Routines.{Routine, routine_size, entry_at, local_kinds, routine_code}
+use Rattle.sp_code_programs.specs.programs.Programs.{routines_size, entries_from, kinds_of_locals, routines_code}
 use Rattle.sp_program_laid.proofs.Routines.{routines_sized}
 use Rattle.sp_lower.specs.declared.bodies.Bodies.{Bodies}
 use Rattle.sp_lower.specs.inside.Laid.{entry_of, placed_at, FrameStands, IsRoutine, Lays}

@@ -7,9 +7,9 @@ use Rattle.sp_typed.specs.declared.words.LeafOp.TheVariants as leaf_is
 use Rattle.sp_typed.specs.Exprs.{exprs}
 use Rattle.sp_typed.specs.Stmts.{print}
 use Rattle.sp_typed_units.specs.declared.declarations.Function.{Function}
-use Rattle.sp_program.specs.Routines.{Routine}
-use Rattle.sp_program.specs.Rows.{here, byte, leaf_of, same}
-use Rattle.sp_program.specs.WholeRows.{told_byte, whole_list}
+use Rattle.sp_code_programs.specs.programs.Routines.{Routine}
+use Rattle.sp_code_programs.specs.programs.Rows.{here, byte, leaf_of, same}
+use Rattle.sp_code_programs.specs.programs.WholeRows.{told_byte, whole_list}
 use Rattle.sp_lower.specs.Literals.{FunctionFits, HookFits}
 use Rattle.sp_lower.specs.inside.Laid.{named_routines}
 

@@ -2,7 +2,7 @@
 ghost use Rattle.std.specs.Prelude.{◌≡◌, [], ◌∷◌, ◌++◌, length, OnOk};
 ghost use Rattle.sp_emit_expr.specs.Around.{globals_in};
 ghost use Rattle.sp_emit_stmt.specs.Literals.{StmtLiteralsFit};
-ghost use Rattle.sp_program.specs.Routines.{Routine};
+ghost use Rattle.sp_code_programs.specs.programs.Routines.{Routine};
 ghost use Rattle.sp_lower.specs.inside.Laid.{FrameStands, IsRoutine, Lays};
 
 use sp_base::NoMemory;

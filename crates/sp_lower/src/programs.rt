@@ -1,6 +1,6 @@
 // Programs, put together.
 ghost use Rattle.std.specs.Prelude.{IfOk};
-ghost use Rattle.sp_program.specs.Whole.{IsCompiled};
+ghost use Rattle.sp_code_programs.specs.programs.Whole.{IsCompiled};
 ghost use Rattle.sp_lower.specs.Literals.{ListLiteralsFit};
 ghost use Rattle.sp_lower.specs.inside.Laid.{LaysAll};
 ghost use Rattle.sp_lower.specs.inside.Whole.{IsCode, IsAssembled};

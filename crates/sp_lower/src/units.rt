@@ -2,9 +2,9 @@
 ghost use Rattle.std.specs.Prelude.{◌≡◌, ◌<◌, [], ◌∷◌, length, IfOk, OnOk};
 ghost use Rattle.std.specs.List.{AllByRecursion};
 ghost use Rattle.sp_bodies.specs.Globals.{globals_of};
-ghost use Rattle.sp_lower_unit.specs.Units.{slot_kinds};
-ghost use Rattle.sp_program.specs.Routines.{parameter_kinds};
-ghost use Rattle.sp_program.specs.Units.{member_kinds};
+ghost use Rattle.sp_code_programs.specs.units.Units.{slot_kinds};
+ghost use Rattle.sp_code_programs.specs.programs.Routines.{parameter_kinds};
+ghost use Rattle.sp_code_programs.specs.programs.Units.{member_kinds};
 ghost use Rattle.sp_lower_tables.specs.Numbers.{GivesNumbers};
 ghost use Rattle.sp_lower.specs.Literals.{UnitFits};
 ghost use Rattle.sp_lower.specs.inside.Units.{GivesKinds, IsEntryOf, LaysUnit, LaysUnits};

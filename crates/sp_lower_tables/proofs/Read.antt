@@ -15,7 +15,7 @@ use Rattle.sp_typed_units.specs.declared.declarations.HookOf.TheVariants as hook
 use Rattle.sp_code.specs.Programs.{kind_at}
 use Rattle.sp_emit.specs.Kinds.{IsNumberOf}
 use Rattle.sp_emit.specs.Emitted.{Emitted}
-use Rattle.sp_program.specs.Currents.{unless_convert, converted_by, current_type}
+use Rattle.sp_code_programs.specs.programs.Currents.{unless_convert, converted_by, current_type}
 use Rattle.sp_lower_tables.specs.Numbers.{GivesNumber}
 use Rattle.sp_lower_tables.specs.inside.Conversions.{conversion}
 use Rattle.sp_lower_tables.proofs.Numbered.{turns_both}

@@ -3,7 +3,7 @@ ghost use Rattle.std.specs.Prelude.{◌≡◌, Some, unwrap_or, option_copied, I
 ghost use Rattle.sp_types.specs.Types.{Ty};
 ghost use Rattle.sp_running.specs.Types.{kind_of_type};
 ghost use Rattle.sp_bodies.specs.Globals.{globals_of};
-ghost use Rattle.sp_program.specs.Currents.{converted_by, read_type, element_type, current_type};
+ghost use Rattle.sp_code_programs.specs.programs.Currents.{converted_by, read_type, element_type, current_type};
 ghost use Rattle.sp_lower_tables.specs.Numbers.{GivesNumber};
 ghost use Rattle.sp_lower_tables.specs.inside.Conversions.{is_convert, written_type, conversion};
 

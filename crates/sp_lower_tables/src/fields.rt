@@ -1,7 +1,7 @@
 // The fields that have bodies of hooks.
 ghost use Rattle.std.specs.Prelude.{◌≡◌, ◌<◌, length, replicate, None, IfOk, option_copied};
 ghost use Rattle.sp_typed_units.specs.Parts.{field, parts, arms};
-ghost use Rattle.sp_program.specs.Currents.{field_in, field_in_parts, field_in_arms, hooked_field};
+ghost use Rattle.sp_code_programs.specs.programs.Currents.{field_in, field_in_parts, field_in_arms, hooked_field};
 ghost use Rattle.sp_lower_tables.specs.inside.Fields.{Notes, field_if, field_among, AreFields};
 
 use sp_base::NoMemory;

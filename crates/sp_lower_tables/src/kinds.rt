@@ -2,8 +2,8 @@
 ghost use Rattle.std.specs.Prelude.{[], ◌∷◌, length, IfOk, OnOk};
 ghost use Rattle.sp_running.specs.Types.{kind_of_type};
 ghost use Rattle.sp_bodies.specs.Globals.{globals_of};
-ghost use Rattle.sp_program.specs.Routines.{parameter_kinds, slot_kinds};
-ghost use Rattle.sp_program.specs.Units.{member_kinds};
+ghost use Rattle.sp_code_programs.specs.programs.Routines.{parameter_kinds, slot_kinds};
+ghost use Rattle.sp_code_programs.specs.programs.Units.{member_kinds};
 ghost use Rattle.sp_code.specs.Programs.{kind_of_row};
 ghost use Rattle.sp_emit.specs.Kinds.{NamesBelow};
 ghost use Rattle.sp_lower_tables.specs.Numbers.{GivesNumber, AddsNumbers};

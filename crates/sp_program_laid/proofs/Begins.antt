@@ -26,11 +26,11 @@ use Rattle.sp_bodies.specs.Exprs.{negative_literal, offset_local, is_self, slot_
 use Rattle.sp_code.specs.declared.instr.Instr.{Instr}
 use Rattle.sp_code.specs.declared.instr.Instr.TheVariants as does
 use Rattle.sp_code.specs.Shapes.{Shape, with_operands}
-use Rattle.sp_lower_expr.specs.Marked.{Marked, mark, Shows}
-use Rattle.sp_lower_expr.specs.Sizes.{keep_size, expr_size}
-use Rattle.sp_lower_expr.specs.Code.{unless_literal, keep_code, owner_code, count, kind_of, kinds_on, constant_code, leaf_code, many_code, kept_offset, changing, two_code, expr_code, exprs_code, receiver_code, load_code, put_code, key_code}
-use Rattle.sp_lower_unit.specs.Sizes.{stmt_size, branches_size}
-use Rattle.sp_lower_unit.specs.Code.{bare_code, valued_code, assign_code, stmt_code, stmts_code, branches_code}
+use Rattle.sp_code_programs.specs.exprs.Marked.{Marked, mark, Shows}
+use Rattle.sp_code_programs.specs.exprs.Sizes.{keep_size, expr_size}
+use Rattle.sp_code_programs.specs.exprs.Code.{unless_literal, keep_code, owner_code, count, kind_of, kinds_on, constant_code, leaf_code, many_code, kept_offset, changing, two_code, expr_code, exprs_code, receiver_code, load_code, put_code, key_code}
+use Rattle.sp_code_programs.specs.units.Sizes.{stmt_size, branches_size}
+use Rattle.sp_code_programs.specs.units.Code.{bare_code, valued_code, assign_code, stmt_code, stmts_code, branches_code}
 use Rattle.sp_program_laid.specs.Places.{IsPlace, BeginsWithPlace, HasReceiver, HasTarget, ChangesPlaces, AllChangePlaces, StmtChangesPlaces, StmtsChangePlaces, BranchesChangePlaces}
 
 -- there is an instruction, and the first one has this shape before it

@@ -7,8 +7,8 @@ use Rattle.sp_typed.specs.Stmts.{Stmt, Stmts, Branches, Cases, bare, valued, ass
 use Rattle.sp_typed_units.specs.declared.declarations.Typed.{Typed}
 use Rattle.sp_bodies.specs.Globals.{globals_of}
 use Rattle.sp_code.specs.Machine.{Plain}
-use Rattle.sp_lower_expr.specs.Code.{count}
-use Rattle.sp_lower_unit.specs.Bodies.{HasBodies, function_entry}
+use Rattle.sp_code_programs.specs.exprs.Code.{count}
+use Rattle.sp_code_programs.specs.units.Bodies.{HasBodies, function_entry}
 use Rattle.sp_code_means.specs.Parts.{IsCounted, AreCounted, AllAreCounted}
 use Rattle.sp_code_bodies.specs.Parts.{StmtIsCounted, StmtsAreCounted, BranchesAreCounted, CasesAreCounted}
 use Rattle.sp_program_laid.specs.Arguments.{CallMatches, ArgumentsMatch, AllArgumentsMatch, StmtArgumentsMatch, StmtsArgumentsMatch, BranchesArgumentsMatch, CasesArgumentsMatch}

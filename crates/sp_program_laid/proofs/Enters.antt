@@ -9,9 +9,9 @@ use Rattle.sp_bodies.specs.Globals.{globals_of}
 use Rattle.sp_bodies.specs.Calls.{function_layout, hook_layout, has_current}
 use Rattle.sp_code.specs.Machine.{Body, Plain}
 use Rattle.sp_code.specs.Shapes.{BodyKinds, Shapes, Round, body_shape, AlwaysHave, IsBody, Shown, Enters}
-use Rattle.sp_lower_expr.specs.Code.{kind_at}
-use Rattle.sp_lower_unit.specs.Bodies.{handed, function_entry, hook_entry, name_at}
-use Rattle.sp_program.specs.Routines.{parameter_kinds, slot_kinds, handed_kinds, function_shape, hook_shape}
+use Rattle.sp_code_programs.specs.exprs.Code.{kind_at}
+use Rattle.sp_code_programs.specs.units.Bodies.{handed, function_entry, hook_entry, name_at}
+use Rattle.sp_code_programs.specs.programs.Routines.{parameter_kinds, slot_kinds, handed_kinds, function_shape, hook_shape}
 use Rattle.sp_program_laid.proofs.Laid.{placed_function, placed_hook}
 use Rattle.sp_program_laid.specs.Laws.{LaidFunctionsEnter, LaidHooksEnter}
 use Rattle.sp_program_laid.proofs.Zeros.{slots_have}

@@ -9,11 +9,11 @@ use Rattle.sp_running.specs.Reads.{NoWord}
 use Rattle.sp_bodies.specs.Globals.{Globals, globals_of}
 use Rattle.sp_code.specs.Shapes.{Shape, IsSound, Shapes, Shown, Keeps}
 use Rattle.sp_code.specs.Machine.{Plain}
-use Rattle.sp_lower_expr.specs.Marked.{Marked, HasAt, Shows}
-use Rattle.sp_lower_expr.specs.Code.{kind_at}
-use Rattle.sp_lower_unit.specs.Bodies.{HasBodies, name_at}
-use Rattle.sp_program.specs.Routines.{function_routine, hook_routine, Routine, function_routines, hook_routines, function_shape, hook_shape}
-use Rattle.sp_program.specs.Programs.{shapes_before, bodies_end, routines_code, program_code, IsLaid}
+use Rattle.sp_code_programs.specs.exprs.Marked.{Marked, HasAt, Shows}
+use Rattle.sp_code_programs.specs.exprs.Code.{kind_at}
+use Rattle.sp_code_programs.specs.units.Bodies.{HasBodies, name_at}
+use Rattle.sp_code_programs.specs.programs.Routines.{function_routine, hook_routine, Routine, function_routines, hook_routines, function_shape, hook_shape}
+use Rattle.sp_code_programs.specs.programs.Programs.{shapes_before, bodies_end, routines_code, program_code, IsLaid}
 use Rattle.sp_code_means.specs.Laws.{AllKeep}
 use Rattle.sp_code_means.proofs.Steps.{has_front, has_back}
 use Rattle.sp_code_means.proofs.Keeping.{shows_front, shows_back, keep_both}

@@ -5,8 +5,8 @@ use Rattle.sp_value.specs.Val.{Val}
 use Rattle.sp_code.specs.declared.instr.Instr.{Instr}
 use Rattle.sp_code.specs.Machine.{Plain}
 use Rattle.sp_code.specs.Shapes.{Shape, Shapes, Keeps}
-use Rattle.sp_lower_expr.specs.Marked.{Marked, IsWanted, HasAt, Shows}
-use Rattle.sp_program.specs.Programs.{AreWanted, shapes_before}
+use Rattle.sp_code_programs.specs.exprs.Marked.{Marked, IsWanted, HasAt, Shows}
+use Rattle.sp_code_programs.specs.programs.Programs.{AreWanted, shapes_before}
 use Rattle.sp_code_means.specs.Laws.{AllKeep}
 
 -- what stands in a list from a number on

@@ -8,11 +8,11 @@ use Rattle.sp_running.specs.Reads.{NoWord}
 use Rattle.sp_bodies.specs.Globals.{Globals}
 use Rattle.sp_code.specs.Machine.{Body, Plain}
 use Rattle.sp_code.specs.Shapes.{BodyKinds, Shapes, IsResult}
-use Rattle.sp_lower_expr.specs.Marked.{Marked, HasAt, Shows}
-use Rattle.sp_lower_expr.specs.Code.{kind_at}
-use Rattle.sp_lower_unit.specs.Bodies.{name_at}
-use Rattle.sp_program.specs.Routines.{Routine, routine_size, entry_at, local_kinds, routine_code, function_routine, hook_routine, function_routines, hook_routines}
-use Rattle.sp_program.specs.Programs.{routines_size, entries_from, kinds_of_locals, routines_code}
+use Rattle.sp_code_programs.specs.exprs.Marked.{Marked, HasAt, Shows}
+use Rattle.sp_code_programs.specs.exprs.Code.{kind_at}
+use Rattle.sp_code_programs.specs.units.Bodies.{name_at}
+use Rattle.sp_code_programs.specs.programs.Routines.{Routine, routine_size, entry_at, local_kinds, routine_code, function_routine, hook_routine, function_routines, hook_routines}
+use Rattle.sp_code_programs.specs.programs.Programs.{routines_size, entries_from, kinds_of_locals, routines_code}
 use Rattle.sp_code_means.specs.Laws.{AllKeep}
 use Rattle.sp_code_means.proofs.Steps.{has_front, has_back}
 use Rattle.sp_code_means.proofs.Keeping.{shows_front, shows_back, keep_both}

@@ -2,10 +2,10 @@
 use Rattle.std.proofs.Common.{◌≡◌, ℕ, ◌+◌, false, List, [], ◌∷◌, ◌++◌, length, sym, subst, arith}
 use Rattle.sp_bodies.specs.Globals.{Globals, globals_of}
 use Rattle.sp_bodies.specs.Calls.{function_layout, hook_layout}
-use Rattle.sp_lower_expr.specs.Marked.{Marked}
-use Rattle.sp_lower_expr.specs.Code.{kind_at}
-use Rattle.sp_program.specs.Routines.{Routine, routine_size, routine_code, function_shape, hook_shape}
-use Rattle.sp_program.specs.Programs.{routines_code}
+use Rattle.sp_code_programs.specs.exprs.Marked.{Marked}
+use Rattle.sp_code_programs.specs.exprs.Code.{kind_at}
+use Rattle.sp_code_programs.specs.programs.Routines.{Routine, routine_size, routine_code, function_shape, hook_shape}
+use Rattle.sp_code_programs.specs.programs.Programs.{routines_code}
 use Rattle.sp_code_turns.specs.Loops.{KeepsToLoops}
 use Rattle.sp_code_turns.specs.Falling.{AllTurn}
 use Rattle.sp_code_turns.proofs.Kept.{fitting_keeps_to_loops}

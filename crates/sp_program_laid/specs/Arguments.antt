@@ -7,7 +7,7 @@ use Rattle.sp_typed.specs.Stmts.{Stmt, Stmts, Branches, Cases, bare, valued, ass
 use Rattle.sp_typed_units.specs.declared.declarations.Function.{Function}
 use Rattle.sp_typed_units.specs.declared.declarations.Hook.{Hook}
 use Rattle.sp_typed_units.specs.declared.declarations.Typed.{Typed}
-use Rattle.sp_lower_expr.specs.Code.{count}
+use Rattle.sp_code_programs.specs.exprs.Code.{count}
 
 module _ (functions : List Function) where
   -- a call with so many arguments is one of these functions, which has as many parameters

@@ -9,8 +9,8 @@ use Rattle.sp_bodies.specs.Globals.{Globals, Layout, globals_of}
 use Rattle.sp_bodies.specs.Calls.{function_layout, hook_layout}
 use Rattle.sp_code.specs.Machine.{Plain}
 use Rattle.sp_code.specs.Shapes.{Shape, Shapes}
-use Rattle.sp_lower_expr.specs.Code.{kind_at}
-use Rattle.sp_program.specs.Routines.{function_shape, hook_shape}
+use Rattle.sp_code_programs.specs.exprs.Code.{kind_at}
+use Rattle.sp_code_programs.specs.programs.Routines.{function_shape, hook_shape}
 use Rattle.sp_code_bodies.specs.Fits.{StmtFits}
 
 module _ (p : Plain) (shapes : Shapes) (globals : Globals) where

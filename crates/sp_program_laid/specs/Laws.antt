@@ -11,11 +11,11 @@ use Rattle.sp_bodies.specs.Calls.{is_foreach}
 use Rattle.sp_code.specs.Machine.{Plain}
 use Rattle.sp_code.specs.Shapes.{Shapes, OfFunction, OfHook, Enters, IsSound}
 use Rattle.sp_code.specs.Turns.{Turns}
-use Rattle.sp_lower_expr.specs.Marked.{Marked, HasAt, Shows}
-use Rattle.sp_lower_expr.specs.Code.{kind_at}
-use Rattle.sp_lower_unit.specs.Bodies.{HasBodies}
-use Rattle.sp_program.specs.Routines.{hook_unit, parameter_kinds, handed_kinds, routines_of}
-use Rattle.sp_program.specs.Programs.{entries_from, kinds_of_locals, bodies_end, program_code, IsLaid}
+use Rattle.sp_code_programs.specs.exprs.Marked.{Marked, HasAt, Shows}
+use Rattle.sp_code_programs.specs.exprs.Code.{kind_at}
+use Rattle.sp_code_programs.specs.units.Bodies.{HasBodies}
+use Rattle.sp_code_programs.specs.programs.Routines.{hook_unit, parameter_kinds, handed_kinds, routines_of}
+use Rattle.sp_code_programs.specs.programs.Programs.{entries_from, kinds_of_locals, bodies_end, program_code, IsLaid}
 use Rattle.sp_code_means.specs.Laws.{AllKeep}
 use Rattle.sp_code_bodies.specs.Parts.{BodiesAreCounted}
 use Rattle.sp_code_turns.specs.Falling.{AllTurn}

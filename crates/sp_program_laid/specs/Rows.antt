@@ -16,8 +16,8 @@ use Rattle.sp_running.specs.Scopes.{Called}
 use Rattle.sp_bodies.specs.Globals.{Globals, globals_of}
 use Rattle.sp_code.specs.Shapes.{OfFunction, OfHook, IsSound, Keeps, Enters}
 use Rattle.sp_code.specs.Turns.{Turns}
-use Rattle.sp_lower_expr.specs.Code.{kind_at}
-use Rattle.sp_program.specs.Rows.{here, same, seven, shown, modules, hook_names, currents, in_unit, rest, program, shapes, the_program_is_laid}
+use Rattle.sp_code_programs.specs.exprs.Code.{kind_at}
+use Rattle.sp_code_programs.specs.programs.Rows.{here, same, seven, shown, modules, hook_names, currents, in_unit, rest, program, shapes, the_program_is_laid}
 use Rattle.sp_code_means.specs.Laws.{AllKeep}
 use Rattle.sp_code_bodies.specs.Parts.{BodiesAreCounted}
 use Rattle.sp_code_turns.specs.Falling.{AllTurn}

@@ -12,10 +12,10 @@ use Rattle.sp_code.specs.Machine.{Plain}
 use Rattle.sp_code.specs.Programs.{plain_of, shapes_of}
 use Rattle.sp_code.specs.Shapes.{Shapes, IsSound}
 use Rattle.sp_code.specs.Turns.{Turns}
-use Rattle.sp_lower_expr.specs.Code.{kind_at}
-use Rattle.sp_program.specs.Currents.{currents_of}
-use Rattle.sp_program.specs.Named.{hook_names_of}
-use Rattle.sp_program.specs.Whole.{starter_at, IsProgramOf}
+use Rattle.sp_code_programs.specs.exprs.Code.{kind_at}
+use Rattle.sp_code_programs.specs.programs.Currents.{currents_of}
+use Rattle.sp_code_programs.specs.programs.Named.{hook_names_of}
+use Rattle.sp_code_programs.specs.programs.Whole.{starter_at, IsProgramOf}
 use Rattle.sp_program_laid.specs.Fits as laid
 use Rattle.sp_program_laid.specs.Places.{StmtChangesPlaces}
 use Rattle.sp_program_laid.specs.Arguments.{StmtArgumentsMatch}

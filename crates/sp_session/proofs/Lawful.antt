@@ -16,8 +16,8 @@ use Rattle.sp_code.specs.Shapes.{Shaped}
 use Rattle.sp_code_continues.specs.Laws.{IsSteady}
 use Rattle.sp_code_ends.specs.Ending.{IsStop}
 use Rattle.sp_machine.specs.Plain.{no_tokens}
-use Rattle.sp_program.specs.Named.{hook_names_of, value_names_of}
-use Rattle.sp_program.specs.Whole.{starter_at}
+use Rattle.sp_code_programs.specs.programs.Named.{hook_names_of, value_names_of}
+use Rattle.sp_code_programs.specs.programs.Whole.{starter_at}
 use Rattle.sp_unit_told.specs.Told.{end_of, events_of, IsNeed, Tells}
 use Rattle.sp_unit_told.proofs.Kept.{started_keeps}
 use Rattle.sp_units_end.specs.Meaning.{meaning}

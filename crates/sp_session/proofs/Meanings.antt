@@ -9,7 +9,7 @@ use Rattle.sp_typed_units.specs.declared.declarations.Typed.{Typed}
 use Rattle.sp_running.specs.States.{Gives, Failed, Need, Result, Ends}
 use Rattle.sp_running.specs.Telling.{Names}
 use Rattle.sp_code.specs.declared.program.Program.{Program}
-use Rattle.sp_program.specs.Named.{value_names_of}
+use Rattle.sp_code_programs.specs.programs.Named.{value_names_of}
 use Rattle.sp_unit_told.specs.Told.{end_of, events_of, IsNeed}
 use Rattle.sp_units_end.specs.Laws.{IsLast}
 use Rattle.sp_meaning.specs.declared.stand.Stand.{Stand}

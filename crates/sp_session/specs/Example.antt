@@ -24,7 +24,7 @@ use Rattle.sp_code.specs.declared.instr.Instr.{Instr}
 use Rattle.sp_code.specs.declared.instr.Instr.TheVariants as does
 use Rattle.sp_code.specs.Machine.{Plain}
 use Rattle.sp_code.specs.Shapes.{UnitKinds, Shape, Shapes, OfUnit, OfEnding, OfFailing, OfFunction, OfHook, push, body_shape}
-use Rattle.sp_lower_unit.specs.Units.{slot_kinds, unit_shape}
+use Rattle.sp_code_programs.specs.units.Units.{slot_kinds, unit_shape}
 
 abbrev pub here : Span
 here = record { from = 0; to = 0 }

@@ -8,8 +8,8 @@ use Rattle.sp_typed_units.specs.declared.declarations.Typed.{Typed}
 use Rattle.sp_code.specs.declared.program.Program.{Program}
 use Rattle.sp_code.specs.Machine.{Config}
 use Rattle.sp_code.specs.Programs.{plain_of, shapes_of, IsSoundProgram}
-use Rattle.sp_program.specs.Named.{hook_names_of}
-use Rattle.sp_program.specs.Whole.{starter_at, IsCompiled}
+use Rattle.sp_code_programs.specs.programs.Named.{hook_names_of}
+use Rattle.sp_code_programs.specs.programs.Whole.{starter_at, IsCompiled}
 use Rattle.sp_units_end.specs.Meaning.{RunsUnit}
 use Rattle.sp_fiber.specs.declared.phase.Phase.{Phase as FiberPhase}
 use Rattle.sp_fiber.specs.declared.phase.Phase.TheVariants as fiber_is

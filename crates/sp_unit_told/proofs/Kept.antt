@@ -2,7 +2,7 @@
 use Rattle.std.proofs.Common.{◌+◌, [], ◌∷◌, None, refl, sym, subst, append-nil}
 use Rattle.sp_methods.specs.Kinds.{UnitOf}
 use Rattle.sp_code.specs.Shapes.{OfFunction, push, with_operands, body_shape, Takes, Keeps}
-use Rattle.sp_lower_unit.specs.Units.{starter_kinds}
+use Rattle.sp_code_programs.specs.units.Units.{starter_kinds}
 use Rattle.sp_code_units.proofs.Kept.{units_enter}
 use Rattle.sp_unit_told.specs.Keeps.{StartersKeep, StartedKeeps}
 

@@ -6,8 +6,8 @@ use Rattle.sp_typed_units.specs.declared.declarations.Typed.{Typed}
 use Rattle.sp_typed_units.specs.declared.declarations.Unit.{Unit as TypedUnit}
 use Rattle.sp_code.specs.Machine.{Plain}
 use Rattle.sp_code.specs.Shapes.{UnitKinds, Shapes, Shaped}
-use Rattle.sp_lower_expr.specs.Marked.{Shows}
-use Rattle.sp_lower_unit.specs.Units.{unit_code, ending_code, failing_code, starter_kinds, starter_code, HasUnit}
+use Rattle.sp_code_programs.specs.exprs.Marked.{Shows}
+use Rattle.sp_code_programs.specs.units.Units.{unit_code, ending_code, failing_code, starter_kinds, starter_code, HasUnit}
 use Rattle.sp_code_means.specs.Laws.{AllKeep}
 use Rattle.sp_code_units.specs.Fits.{UnitFits}
 use Rattle.sp_code_units.specs.Keeps.{AreKindsOf}

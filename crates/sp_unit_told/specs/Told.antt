@@ -8,8 +8,8 @@ use Rattle.sp_running.specs.States.{Main, Reading, State, End, Gives, Failed, Re
 use Rattle.sp_running.specs.Reads.{Ask, Read}
 use Rattle.sp_bodies.specs.Units.{unit_means}
 use Rattle.sp_code.specs.Machine.{Frame, Plain, Config, At, Ending, Next, Waits, Over, step, low_of}
-use Rattle.sp_lower_unit.specs.Bodies.{HasBodies}
-use Rattle.sp_lower_unit.specs.Units.{HasUnits, HasStarter}
+use Rattle.sp_code_programs.specs.units.Bodies.{HasBodies}
+use Rattle.sp_code_programs.specs.units.Units.{HasUnits, HasStarter}
 use Rattle.sp_code_bodies.specs.Parts.{BodiesAreCounted}
 use Rattle.sp_code_units.specs.Parts.{UnitsAreCounted}
 

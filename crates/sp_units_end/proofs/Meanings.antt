@@ -8,7 +8,7 @@ use Rattle.sp_typed_units.specs.declared.declarations.Typed.{Typed}
 use Rattle.sp_running.specs.States.{Reading, End, Gives, Failed, Need, Unfinished, Result, Ends}
 use Rattle.sp_running.specs.Reads.{Ask, Read, reads}
 use Rattle.sp_code.specs.Machine.{Plain}
-use Rattle.sp_lower_unit.specs.Units.{starter_kinds}
+use Rattle.sp_code_programs.specs.units.Units.{starter_kinds}
 use Rattle.sp_bodies_end.specs.Laws.{IsFinished}
 use Rattle.sp_unit_told.specs.Told.{first, meant, end_of, IsNeed}
 use Rattle.sp_unit_told.proofs.Units as units

@@ -23,8 +23,8 @@ use Rattle.sp_bodies.specs.Units.{IntegerForm, integer_field, offset_slot, value
 use Rattle.sp_code.specs.Machine.{Plain}
 use Rattle.sp_code.specs.Shapes.{Shapes, read_kind, Holds}
 use Rattle.sp_code_keeps.proofs.Frames.{still}
-use Rattle.sp_lower_expr.specs.Code.{kind_of}
-use Rattle.sp_lower_unit.specs.Units.{slot_kinds, member_kind}
+use Rattle.sp_code_programs.specs.exprs.Code.{kind_of}
+use Rattle.sp_code_programs.specs.units.Units.{slot_kinds, member_kind}
 use Rattle.sp_code_units.specs.Fits.{BodiesFit, VariablesBegin, ValueFits, VariablesFit, StoreFits, IntegerFits, PartFits, PartsFit}
 use Rattle.sp_bodies_end.specs.Built.{IsThere}
 use Rattle.sp_bodies_end.specs.Finished.{FunctionsFit}

@@ -24,7 +24,7 @@ use Rattle.sp_code.specs.Machine.{Plain}
 use Rattle.sp_code.specs.Shapes.{UnitKinds, Shapes, AlwaysHave, Holds}
 use Rattle.sp_code_keeps.proofs.Growth.{have_grows, all_grow}
 use Rattle.sp_code_keeps.proofs.Lists.{no_members, have_reversed, both_units, both_have, last_unit}
-use Rattle.sp_lower_unit.specs.Units.{slot_kinds}
+use Rattle.sp_code_programs.specs.units.Units.{slot_kinds}
 use Rattle.sp_code_units.specs.Fits.{UnitHookFits, UnitFits}
 use Rattle.sp_code_units.specs.Keeps.{AreKindsOf}
 use Rattle.sp_bodies_end.specs.Finished.{FunctionsFit}

@@ -7,7 +7,7 @@ use Rattle.sp_running.specs.States.{Reading, Result}
 use Rattle.sp_running.specs.Reads.{Ask, Read}
 use Rattle.sp_code.specs.Machine.{Plain}
 use Rattle.sp_code.specs.Shapes.{UnitKinds, Shapes}
-use Rattle.sp_lower_unit.specs.Units.{starter_kinds}
+use Rattle.sp_code_programs.specs.units.Units.{starter_kinds}
 use Rattle.sp_code_units.specs.Fits.{UnitFits}
 use Rattle.sp_code_units.specs.Keeps.{AreKindsOf}
 use Rattle.sp_bodies_end.specs.Finished.{FunctionsFit}

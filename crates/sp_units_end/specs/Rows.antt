@@ -33,8 +33,8 @@ use Rattle.sp_code.specs.Machine.{Body, Plain, Config, step}
 use Rattle.sp_code.specs.Runs.{Comes}
 use Rattle.sp_code.specs.Shapes.{UnitKinds, BodyKinds, Shapes, OfHook, body_shape}
 use Rattle.sp_code_ends.specs.Ending.{IsStop}
-use Rattle.sp_lower_unit.specs.Bodies.{hook_entry}
-use Rattle.sp_lower_unit.specs.Units.{slot_kinds}
+use Rattle.sp_code_programs.specs.units.Bodies.{hook_entry}
+use Rattle.sp_code_programs.specs.units.Units.{slot_kinds}
 use Rattle.sp_code_units.specs.Fits.{UnitFits}
 use Rattle.sp_bodies_end.specs.Finished.{HookFits, FunctionsFit}
 use Rattle.sp_unit_told.specs.Told.{first, started, meant, end_of, state_of}

@@ -19,14 +19,14 @@ use Rattle.sp_bodies.specs.Units.{IntegerForm, integer_field, last_order, module
 use Rattle.sp_code.specs.Machine.{Plain}
 use Rattle.sp_code.specs.Programs.{plain_of, shapes_of}
 use Rattle.sp_code.specs.Shapes.{Shapes, OfHook, read_kind, IsMember, Enters}
-use Rattle.sp_lower_expr.specs.Code.{kind_of, kind_at}
-use Rattle.sp_lower_unit.specs.Bodies.{handed}
-use Rattle.sp_lower_unit.specs.Units.{member_kind}
-use Rattle.sp_program.specs.Named.{hook_names_of}
-use Rattle.sp_program.specs.Routines.{hook_unit, parameter_kinds, handed_kinds}
-use Rattle.sp_program.specs.Currents.{currents_of}
-use Rattle.sp_program.specs.Units.{kinds_of_unit}
-use Rattle.sp_program.specs.Whole.{starter_at, behind_bodies, IsProgramOf}
+use Rattle.sp_code_programs.specs.exprs.Code.{kind_of, kind_at}
+use Rattle.sp_code_programs.specs.units.Bodies.{handed}
+use Rattle.sp_code_programs.specs.units.Units.{member_kind}
+use Rattle.sp_code_programs.specs.programs.Named.{hook_names_of}
+use Rattle.sp_code_programs.specs.programs.Routines.{hook_unit, parameter_kinds, handed_kinds}
+use Rattle.sp_code_programs.specs.programs.Currents.{currents_of}
+use Rattle.sp_code_programs.specs.programs.Units.{kinds_of_unit}
+use Rattle.sp_code_programs.specs.programs.Whole.{starter_at, behind_bodies, IsProgramOf}
 use Rattle.sp_code_bodies.specs.Laws.{AllTake}
 use Rattle.sp_code_units.specs.Parts.{ValueIsCounted, VariablesAreCounted, PartIsCounted, PartsAreCounted, HookTakesNothing, UnitIsCounted}
 use Rattle.sp_code_units.specs.Fits as code_units

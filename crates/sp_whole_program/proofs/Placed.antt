@@ -5,9 +5,9 @@ use Rattle.sp_typed_units.specs.declared.declarations.Typed.{Typed}
 use Rattle.sp_typed_units.specs.declared.declarations.Unit.{Unit as TypedUnit}
 use Rattle.sp_code.specs.Machine.{UnitCode, Plain}
 use Rattle.sp_code.specs.Shapes.{Shapes}
-use Rattle.sp_lower_expr.specs.Marked.{Marked, Shows}
-use Rattle.sp_lower_unit.specs.Units.{unit_code, ending_code, failing_code, starter_code, unit_entry}
-use Rattle.sp_program.specs.Units.{ending_at, failing_at, unit_end, whole_unit_code, units_code, units_end, unit_entries, starters_code}
+use Rattle.sp_code_programs.specs.exprs.Marked.{Marked, Shows}
+use Rattle.sp_code_programs.specs.units.Units.{unit_code, ending_code, failing_code, starter_code, unit_entry}
+use Rattle.sp_code_programs.specs.programs.Units.{ending_at, failing_at, unit_end, whole_unit_code, units_code, units_end, unit_entries, starters_code}
 use Rattle.sp_code_means.specs.Laws.{AllKeep}
 use Rattle.sp_code_means.proofs.Keeping.{shows_front, shows_back, keep_both}
 use Rattle.sp_code_units.specs.Fits.{UnitFits}

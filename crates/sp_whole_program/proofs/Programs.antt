@@ -8,14 +8,14 @@ use Rattle.sp_bodies.specs.Globals.{globals_of}
 use Rattle.sp_bodies.specs.Units.{unit_means}
 use Rattle.sp_code.specs.Machine.{Plain}
 use Rattle.sp_code.specs.Shapes.{Shapes}
-use Rattle.sp_lower_expr.specs.Marked.{Marked, HasAt, Shows}
-use Rattle.sp_lower_unit.specs.Units.{starter_kinds, starter_code, HasUnit}
-use Rattle.sp_program.specs.Named.{hook_names_of}
-use Rattle.sp_program.specs.Currents.{currents_of}
-use Rattle.sp_program.specs.Units.{ending_at, failing_at, units_code, starters_code, kinds_of_unit}
-use Rattle.sp_program.specs.Routines.{routines_of}
-use Rattle.sp_program.specs.Programs.{routines_code, program_code}
-use Rattle.sp_program.specs.Whole.{units_start, starters_start, starter_at, behind_bodies, IsProgramOf}
+use Rattle.sp_code_programs.specs.exprs.Marked.{Marked, HasAt, Shows}
+use Rattle.sp_code_programs.specs.units.Units.{starter_kinds, starter_code, HasUnit}
+use Rattle.sp_code_programs.specs.programs.Named.{hook_names_of}
+use Rattle.sp_code_programs.specs.programs.Currents.{currents_of}
+use Rattle.sp_code_programs.specs.programs.Units.{ending_at, failing_at, units_code, starters_code, kinds_of_unit}
+use Rattle.sp_code_programs.specs.programs.Routines.{routines_of}
+use Rattle.sp_code_programs.specs.programs.Programs.{routines_code, program_code}
+use Rattle.sp_code_programs.specs.programs.Whole.{units_start, starters_start, starter_at, behind_bodies, IsProgramOf}
 use Rattle.sp_code_means.specs.Laws.{AllKeep}
 use Rattle.sp_code_means.proofs.Steps.{has_front, has_back}
 use Rattle.sp_code_means.proofs.Keeping.{shows_front, shows_back, keep_both}

@@ -9,11 +9,11 @@ use Rattle.sp_typed_units.specs.declared.declarations.Parameter.{Parameter}
 use Rattle.sp_typed_units.specs.declared.declarations.Unit.{Unit as TypedUnit}
 use Rattle.sp_running.specs.Types.{kind_of_type}
 use Rattle.sp_bodies.specs.Globals.{globals_of}
-use Rattle.sp_lower_expr.specs.Code.{kind_at}
-use Rattle.sp_lower_unit.specs.Units.{kinds_over}
-use Rattle.sp_program.specs.Routines.{parameter_kinds}
-use Rattle.sp_program.specs.Currents.{current_kind, currents_from}
-use Rattle.sp_program.specs.Units.{member_kinds, kinds_of_unit, kinds_of_units}
+use Rattle.sp_code_programs.specs.exprs.Code.{kind_at}
+use Rattle.sp_code_programs.specs.units.Units.{kinds_over}
+use Rattle.sp_code_programs.specs.programs.Routines.{parameter_kinds}
+use Rattle.sp_code_programs.specs.programs.Currents.{current_kind, currents_from}
+use Rattle.sp_code_programs.specs.programs.Units.{member_kinds, kinds_of_unit, kinds_of_units}
 use Rattle.sp_code_units.specs.Keeps.{AreKindsOf}
 use Rattle.sp_whole_program.specs.Laws.{CurrentsAreListed}
 

@@ -17,11 +17,11 @@ use Rattle.sp_bodies.specs.Calls.{has_current, is_foreach}
 use Rattle.sp_bodies.specs.Units.{IntegerForm, integer_field, last_order, module_order, unit_layout, is_of_unit}
 use Rattle.sp_code.specs.Machine.{Plain}
 use Rattle.sp_code.specs.Shapes.{Shapes, read_kind}
-use Rattle.sp_lower_expr.specs.Code.{kind_of, kind_at}
-use Rattle.sp_lower_unit.specs.Units.{slot_kinds}
-use Rattle.sp_program.specs.Routines.{hook_unit}
-use Rattle.sp_program.specs.Currents.{currents_of}
-use Rattle.sp_program.specs.Whole.{IsProgramOf}
+use Rattle.sp_code_programs.specs.exprs.Code.{kind_of, kind_at}
+use Rattle.sp_code_programs.specs.units.Units.{slot_kinds}
+use Rattle.sp_code_programs.specs.programs.Routines.{hook_unit}
+use Rattle.sp_code_programs.specs.programs.Currents.{currents_of}
+use Rattle.sp_code_programs.specs.programs.Whole.{IsProgramOf}
 use Rattle.sp_code_means.specs.Parts as expressions
 use Rattle.sp_program_laid.specs.Fits.{BodiesFit}
 use Rattle.sp_program_laid.specs.Places.{StmtChangesPlaces}

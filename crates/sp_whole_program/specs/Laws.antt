@@ -18,16 +18,16 @@ use Rattle.sp_code.specs.declared.program.Program.{Program}
 use Rattle.sp_code.specs.Programs.{IsSoundProgram}
 use Rattle.sp_code.specs.Shapes.{UnitKinds, Shapes, OfFunction, IsMember, Enters, Shaped, IsSound}
 use Rattle.sp_code.specs.Turns.{Turns}
-use Rattle.sp_lower_expr.specs.Marked.{HasAt, Shows}
-use Rattle.sp_lower_expr.specs.Code.{kind_at}
-use Rattle.sp_lower_unit.specs.Bodies.{HasBodies}
-use Rattle.sp_lower_unit.specs.Units.{starter_kinds, HasUnits, HasStarter}
-use Rattle.sp_program.specs.Routines.{parameter_kinds}
-use Rattle.sp_program.specs.Programs.{entries_from, kinds_of_locals}
-use Rattle.sp_program.specs.Named.{hook_names_of, value_names_of}
-use Rattle.sp_program.specs.Currents.{current_kind, currents_of}
-use Rattle.sp_program.specs.Units.{unit_entries, kinds_of_units}
-use Rattle.sp_program.specs.Whole.{all_routines, units_start, starter_at, whole_code, IsProgramOf, IsCompiled}
+use Rattle.sp_code_programs.specs.exprs.Marked.{HasAt, Shows}
+use Rattle.sp_code_programs.specs.exprs.Code.{kind_at}
+use Rattle.sp_code_programs.specs.units.Bodies.{HasBodies}
+use Rattle.sp_code_programs.specs.units.Units.{starter_kinds, HasUnits, HasStarter}
+use Rattle.sp_code_programs.specs.programs.Routines.{parameter_kinds}
+use Rattle.sp_code_programs.specs.programs.Programs.{entries_from, kinds_of_locals}
+use Rattle.sp_code_programs.specs.programs.Named.{hook_names_of, value_names_of}
+use Rattle.sp_code_programs.specs.programs.Currents.{current_kind, currents_of}
+use Rattle.sp_code_programs.specs.programs.Units.{unit_entries, kinds_of_units}
+use Rattle.sp_code_programs.specs.programs.Whole.{all_routines, units_start, starter_at, whole_code, IsProgramOf, IsCompiled}
 use Rattle.sp_code_bodies.specs.Parts.{BodiesAreCounted}
 use Rattle.sp_code_units.specs.Parts.{UnitsAreCounted}
 use Rattle.sp_code_units.specs.Fits as code_units

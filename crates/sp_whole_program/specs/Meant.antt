@@ -6,7 +6,7 @@ use Rattle.sp_typed_units.specs.declared.declarations.Typed.{Typed}
 use Rattle.sp_running.specs.States.{Reading, Result}
 use Rattle.sp_running.specs.Reads.{Ask, Read}
 use Rattle.sp_bodies.specs.Units.{unit_means}
-use Rattle.sp_program.specs.Named.{hook_names_of, value_names_of}
+use Rattle.sp_code_programs.specs.programs.Named.{hook_names_of, value_names_of}
 use Rattle.sp_unit_told.specs.Told.{first}
 
 -- What the unit u means within limits with these arguments, the last first, from the first state on; at most n calls and rounds are inside

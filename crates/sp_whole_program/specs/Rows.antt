@@ -14,11 +14,11 @@ use Rattle.sp_bodies.specs.Globals.{globals_of}
 use Rattle.sp_bodies.specs.Units.{is_of_unit}
 use Rattle.sp_code.specs.Shapes.{OfFunction, Enters, Shaped, IsSound}
 use Rattle.sp_code.specs.Turns.{Turns}
-use Rattle.sp_lower_expr.specs.Code.{kind_at}
-use Rattle.sp_program.specs.Routines.{hook_unit}
-use Rattle.sp_program.specs.Currents.{currents_of}
-use Rattle.sp_program.specs.Rows.{byte, same, seven}
-use Rattle.sp_program.specs.WholeRows.{with_hook, with_parameter, told_byte, whole_list, whole_program, whole_shapes, it_is_the_program}
+use Rattle.sp_code_programs.specs.exprs.Code.{kind_at}
+use Rattle.sp_code_programs.specs.programs.Routines.{hook_unit}
+use Rattle.sp_code_programs.specs.programs.Currents.{currents_of}
+use Rattle.sp_code_programs.specs.programs.Rows.{byte, same, seven}
+use Rattle.sp_code_programs.specs.programs.WholeRows.{with_hook, with_parameter, told_byte, whole_list, whole_program, whole_shapes, it_is_the_program}
 use Rattle.sp_program_laid.specs.Fits.{FunctionFits, HookFits}
 use Rattle.sp_program_laid.specs.Places.{StmtChangesPlaces}
 use Rattle.sp_program_laid.specs.Arguments.{StmtArgumentsMatch}

@@ -5,7 +5,7 @@ use Rattle.sp_value.specs.Val.{Val}
 use Rattle.sp_methods.specs.Kinds.{Kind}
 use Rattle.sp_code.specs.declared.instr.Instr.{Instr}
 use Rattle.sp_code.specs.declared.program.ShapeRow.{ShapeRow}
-use Rattle.sp_lower_expr.specs.Marked.{Marked}
+use Rattle.sp_code_programs.specs.exprs.Marked.{Marked}
 use Rattle.sp_emit.specs.declared.emitter.Step.{Step}
 use Rattle.sp_emit.specs.declared.emitter.Emitter.TheInside.{Inside}
 use Rattle.sp_emit.specs.Numbered.{Numbered, row_parts, shape_in, HasRows, AreBelow}

@@ -19,7 +19,7 @@ use Rattle.sp_bodies.specs.Exprs.{is_item, slot_local}
 use Rattle.sp_code.specs.Kinds.{kind_of_two}
 use Rattle.sp_code.specs.Machine.{Plain}
 use Rattle.sp_code.specs.Shapes.{Round, Shapes}
-use Rattle.sp_lower_expr.specs.Code.{kind_of, kind_at}
+use Rattle.sp_code_programs.specs.exprs.Code.{kind_of, kind_at}
 use Rattle.sp_code_bodies.specs.Fits.{BareFits, ValuedFits, ValuesFit}
 use Rattle.sp_bodies_end.specs.Built.{ExprIsBuilt, PlaceIsBuilt, AllAreBuilt, BareIsBuilt, ValuedIsBuilt}
 use Rattle.sp_emit_expr.specs.Literals.{AllLiteralsFit}

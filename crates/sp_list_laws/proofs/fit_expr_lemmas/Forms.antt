@@ -28,8 +28,8 @@ use Rattle.sp_running.specs.Types.{kind_of_type, kinds_of_types}
 use Rattle.sp_code.specs.Kinds.{IsPlaceIn, IsItemOf, in_vector, in_map, of_place, of_tuple}
 use Rattle.sp_code.specs.Machine.{Plain}
 use Rattle.sp_code.specs.Shapes.{Shapes, OfFunction, Enters}
-use Rattle.sp_lower_expr.specs.Code.{kinds_on, count}
-use Rattle.sp_program.specs.Routines.{parameter_kinds}
+use Rattle.sp_code_programs.specs.exprs.Code.{kinds_on, count}
+use Rattle.sp_code_programs.specs.programs.Routines.{parameter_kinds}
 use Rattle.sp_code_means.specs.Parts.{OneFits, BinaryFits, TwoFits, ManyFits, ChangeFits}
 use Rattle.sp_program_laid.specs.Arguments.{CallMatches}
 use Rattle.sp_bodies_end.specs.Built.{IsThere}

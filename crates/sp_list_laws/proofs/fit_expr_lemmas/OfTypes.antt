@@ -12,8 +12,8 @@ use Rattle.sp_typed_units.specs.declared.declarations.Parameter.{Parameter}
 use Rattle.sp_running.specs.Types.{kind_of_type, kinds_of_types, first_of, behind_first}
 use Rattle.sp_bodies.specs.Globals.{Globals, Layout}
 use Rattle.sp_code.specs.Kinds.{kind_in, in_turn}
-use Rattle.sp_lower_expr.specs.Code.{kind_of, kinds_on, count}
-use Rattle.sp_program.specs.Routines.{parameter_kinds, slot_kinds}
+use Rattle.sp_code_programs.specs.exprs.Code.{kind_of, kinds_on, count}
+use Rattle.sp_code_programs.specs.programs.Routines.{parameter_kinds, slot_kinds}
 use Rattle.sp_list_laws.specs.fit_expr.Lists.{is_type, part_is, members_are, arguments_are, all_are, are_in_turn}
 
 module _ (ranges : List ℕ) where

@@ -23,7 +23,7 @@ use Rattle.sp_running.specs.Types.{kind_of_type}
 use Rattle.sp_bodies.specs.Exprs.{negative, negative_literal, offset_local, is_self, slot_local, is_item, is_item_place, member_named, local_named}
 use Rattle.sp_code.specs.Machine.{Plain}
 use Rattle.sp_code.specs.Shapes.{Shapes, IsMember}
-use Rattle.sp_lower_expr.specs.Code.{count, member_of, place_local, kinds_on}
+use Rattle.sp_code_programs.specs.exprs.Code.{count, member_of, place_local, kinds_on}
 use Rattle.sp_code_means.specs.Parts as expressions
 use Rattle.sp_bodies_end.specs.Built.{IsThere, PartIsBuilt, PartsAreBuilt, ExprIsBuilt, AllAreBuilt, ReceiverIsBuilt, PlaceIsBuilt}
 use Rattle.sp_emit_expr.specs.declared.rows.Row.TheVariants as row_is

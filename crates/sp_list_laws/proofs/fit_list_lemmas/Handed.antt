@@ -17,9 +17,9 @@ use Rattle.sp_bodies.specs.Globals.{globals_of}
 use Rattle.sp_bodies.specs.Calls.{has_current, is_foreach}
 use Rattle.sp_bodies.specs.Units.{is_hook, is_of_unit}
 use Rattle.sp_code.specs.Shapes.{OfHook}
-use Rattle.sp_lower_expr.specs.Code.{kind_at}
-use Rattle.sp_program.specs.Routines.{hook_unit, parameter_kinds, slot_kinds}
-use Rattle.sp_program.specs.Currents.{hooked_field, current_type, currents_of}
+use Rattle.sp_code_programs.specs.exprs.Code.{kind_at}
+use Rattle.sp_code_programs.specs.programs.Routines.{hook_unit, parameter_kinds, slot_kinds}
+use Rattle.sp_code_programs.specs.programs.Currents.{hooked_field, current_type, currents_of}
 use Rattle.sp_whole_program.specs.Laws.{CurrentsAreListed}
 use Rattle.sp_list_laws.specs.fit_body.Passes.{StmtPasses}
 use Rattle.sp_list_laws.specs.fit_list.Locals.{parameter_types}

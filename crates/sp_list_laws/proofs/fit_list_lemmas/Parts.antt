@@ -19,7 +19,7 @@ use Rattle.sp_bodies.specs.Calls.{has_current, is_foreach}
 use Rattle.sp_bodies.specs.Units.{IntegerForm, integer_field}
 use Rattle.sp_code.specs.Machine.{Plain}
 use Rattle.sp_code.specs.Shapes.{Shapes, read_kind}
-use Rattle.sp_program.specs.Routines.{hook_unit}
+use Rattle.sp_code_programs.specs.programs.Routines.{hook_unit}
 use Rattle.sp_whole_program.specs.Laws.{CurrentsAreListed}
 use Rattle.sp_whole_program.specs.Fits.{IsOfField, IsOfValue, AreOfField, AreOfValue, HasMember, StoreFits, IntegerFits, PartsFit, ValueFits, VariablesFit}
 use Rattle.sp_bodies_end.specs.Built.{IsThere}

@@ -12,10 +12,10 @@ use Rattle.sp_bodies.specs.Calls.{hook_layout, is_foreach}
 use Rattle.sp_bodies.specs.Units.{last_order, module_order}
 use Rattle.sp_code.specs.Machine.{Plain}
 use Rattle.sp_code.specs.Shapes.{Shapes, OfHook}
-use Rattle.sp_lower_expr.specs.Code.{kind_at}
-use Rattle.sp_program.specs.Routines.{hook_unit, slot_kinds, handed_kinds}
-use Rattle.sp_program.specs.Currents.{currents_of}
-use Rattle.sp_program.specs.Whole.{IsProgramOf}
+use Rattle.sp_code_programs.specs.exprs.Code.{kind_at}
+use Rattle.sp_code_programs.specs.programs.Routines.{hook_unit, slot_kinds, handed_kinds}
+use Rattle.sp_code_programs.specs.programs.Currents.{currents_of}
+use Rattle.sp_code_programs.specs.programs.Whole.{IsProgramOf}
 use Rattle.sp_code_bodies.specs.Fits.{StmtFits}
 use Rattle.sp_whole_program.specs.Laws.{MembersAreListed, FunctionsAreEntered, CurrentsAreListed}
 use Rattle.sp_whole_program.specs.Fits.{ListFits, UnitFits}

@@ -5,7 +5,7 @@ use Rattle.sp_typed_units.specs.declared.declarations.Unit.{Unit as TypedUnit}
 use Rattle.sp_typed_units.specs.declared.items.Field.{Field}
 use Rattle.sp_typed_units.specs.Parts.{Parts, field, choice, no_parts, more_parts, parts}
 use Rattle.sp_running.specs.Scopes.{is_among}
-use Rattle.sp_program.specs.Currents.{hooked_field}
+use Rattle.sp_code_programs.specs.programs.Currents.{hooked_field}
 use Rattle.sp_list_laws.specs.fit_list.Stored.{stored_type}
 
 -- the first field of these units that has a body of this field stores what this field does

@@ -41,7 +41,7 @@ use Rattle.sp_typed_list.specs.Settled.{Answers}
 use Rattle.sp_typed_list.specs.Lists.{typed_of}
 use Rattle.sp_check_unit.specs.Rules.{Breaks}
 use Rattle.sp_running.specs.Scopes.{is_among}
-use Rattle.sp_program.specs.Currents.{earlier, field_in_parts, hooked_field}
+use Rattle.sp_code_programs.specs.programs.Currents.{earlier, field_in_parts, hooked_field}
 use Rattle.sp_list_laws.proofs.known_types_lemmas.Full.{never}
 use Rattle.sp_list_laws.specs.whole_list.Whole.{is_known_unit, is_known_function}
 use Rattle.sp_list_laws.proofs.whole_list_lemmas.Modules.{none_found, some_found}

@@ -20,7 +20,7 @@ use Rattle.sp_typing_units.specs.Values.{Values}
 use Rattle.sp_typing_units.specs.Attributes.{present, maybe_typed}
 use Rattle.sp_typing_units.specs.Parts.{Fields, field_in, part_of, parts_of, body_of, arms_of}
 use Rattle.sp_unit_rows.specs.Items.{parts_in}
-use Rattle.sp_program.specs.Currents.{earlier, field_in as bodied, field_in_parts, field_in_arms}
+use Rattle.sp_code_programs.specs.programs.Currents.{earlier, field_in as bodied, field_in_parts, field_in_arms}
 use Rattle.sp_list_laws.proofs.known_types_lemmas.Full.{never}
 use Rattle.sp_list_laws.specs.known_constants.Fine.{IsFine, AreFine}
 use Rattle.sp_list_laws.proofs.known_constants_lemmas.Fine.{inside, first, rest, formed}

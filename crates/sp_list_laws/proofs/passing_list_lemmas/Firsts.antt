@@ -18,7 +18,7 @@ use Rattle.sp_around.specs.Members.{unit_in, unit_items}
 use Rattle.sp_hook_rows.specs.declared.sites.Holder.TheVariants as holder_is
 use Rattle.sp_hook_rows.specs.declared.sites.Site.{Site}
 use Rattle.sp_hook_rows.specs.Sites.{sites_in, sites_among, sites_of, sites_from, sites}
-use Rattle.sp_program.specs.Currents.{earlier, field_in_parts, hooked_field}
+use Rattle.sp_code_programs.specs.programs.Currents.{earlier, field_in_parts, hooked_field}
 use Rattle.sp_list_laws.proofs.known_types_lemmas.Full.{never}
 use Rattle.sp_list_laws.proofs.whole_list_lemmas.Modules.{none_found, some_found}
 use Rattle.sp_list_laws.proofs.known_members_lemmas.Shapes.{is_unit_sort}

@@ -31,7 +31,7 @@ use Rattle.sp_running.specs.Types.{kind_of_type}
 use Rattle.sp_bodies.specs.Globals.{Layout, globals_of}
 use Rattle.sp_bodies.specs.Calls.{has_current, is_foreach}
 use Rattle.sp_code.specs.Shapes.{OfHook}
-use Rattle.sp_program.specs.Routines.{hook_unit, parameter_kinds, slot_kinds}
+use Rattle.sp_code_programs.specs.programs.Routines.{hook_unit, parameter_kinds, slot_kinds}
 use Rattle.sp_list_laws.specs.known_types.Full.{is_full}
 use Rattle.sp_list_laws.specs.known_types.Clear.{none_hold, any_op}
 use Rattle.sp_list_laws.specs.known_types.Given.{IsKnown}

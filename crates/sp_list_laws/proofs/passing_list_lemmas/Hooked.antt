@@ -46,7 +46,7 @@ use Rattle.sp_typed_list.specs.Settled.{Answers}
 use Rattle.sp_typed_list.specs.Lists.{hooks_in, typed_of}
 use Rattle.sp_check_unit.specs.Rules.{Breaks}
 use Rattle.sp_bodies.specs.Calls.{has_current}
-use Rattle.sp_program.specs.Currents.{field_in_parts, hooked_field}
+use Rattle.sp_code_programs.specs.programs.Currents.{field_in_parts, hooked_field}
 use Rattle.sp_list_laws.specs.fit_list.Stored.{stored_type}
 use Rattle.sp_list_laws.proofs.known_types_lemmas.Full.{never}
 use Rattle.sp_list_laws.proofs.whole_list_lemmas.Modules.{none_found, some_found}

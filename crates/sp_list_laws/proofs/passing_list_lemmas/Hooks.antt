@@ -33,7 +33,7 @@ use Rattle.sp_typed_list.specs.Settled.{Answers}
 use Rattle.sp_typed_list.specs.Lists.{typed_of}
 use Rattle.sp_check_unit.specs.Rules.{Breaks}
 use Rattle.sp_bodies.specs.Calls.{has_current}
-use Rattle.sp_program.specs.Routines.{hook_unit}
+use Rattle.sp_code_programs.specs.programs.Routines.{hook_unit}
 use Rattle.sp_list_laws.specs.known_types.Clear.{none_hold}
 use Rattle.sp_list_laws.proofs.known_types_lemmas.Full.{never}
 use Rattle.sp_list_laws.specs.whole_list.Whole.{is_known_function, is_known_hook}

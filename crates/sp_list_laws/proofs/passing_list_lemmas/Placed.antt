@@ -27,7 +27,7 @@ use Rattle.sp_hook_rows.specs.Places.{member_key, field_key, if_at}
 use Rattle.sp_typing_hooks.specs.Fields.{mark_of, key_in, if_marked}
 use Rattle.sp_unit_rows.specs.Fields.{hooks_by}
 use Rattle.sp_running.specs.Scopes.{is_among}
-use Rattle.sp_program.specs.Currents.{field_in as bodied}
+use Rattle.sp_code_programs.specs.programs.Currents.{field_in as bodied}
 use Rattle.sp_list_laws.specs.fit_list.Stored.{stored_type}
 use Rattle.sp_list_laws.proofs.known_types_lemmas.Full.{never}
 use Rattle.sp_list_laws.proofs.whole_list_lemmas.Modules.{none_found, some_found}

@@ -20,7 +20,7 @@ use Rattle.sp_list_rules.specs.Names.{is_of_nothing}
 use Rattle.sp_body_rules.specs.ExprTests.{is_unmeant}
 use Rattle.sp_bodies.specs.Globals.{Layout}
 use Rattle.sp_bodies.specs.Calls.{has_current, is_foreach}
-use Rattle.sp_program.specs.Routines.{hook_unit}
+use Rattle.sp_code_programs.specs.programs.Routines.{hook_unit}
 use Rattle.sp_list_laws.proofs.known_types_lemmas.Full.{never}
 use Rattle.sp_list_laws.specs.fit_expr.Around.{Around}
 use Rattle.sp_list_laws.specs.fit_expr.Test.{is_unit, local_is, unit_parameter, seen_parameter, parameter_type, parameter_is}

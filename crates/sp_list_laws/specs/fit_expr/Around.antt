@@ -4,7 +4,7 @@ use Rattle.sp_methods.specs.Kinds.{Kind}
 use Rattle.sp_types.specs.Types.{Ty}
 use Rattle.sp_typed_units.specs.declared.declarations.Typed.{Typed}
 use Rattle.sp_bodies.specs.Globals.{Globals, Layout, globals_of}
-use Rattle.sp_program.specs.Routines.{slot_kinds}
+use Rattle.sp_code_programs.specs.programs.Routines.{slot_kinds}
 
 -- The list of modules; where the body at hand keeps what it sees; the types of all its locals, those of what it is handed and behind them
 -- those of its slots; and its unit, where it has one.

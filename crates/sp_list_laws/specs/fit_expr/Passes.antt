@@ -14,7 +14,7 @@ use Rattle.sp_running.specs.Types.{kind_of_type}
 use Rattle.sp_bodies.specs.Globals.{Layout, globals_of, constant_value}
 use Rattle.sp_code.specs.Machine.{Plain}
 use Rattle.sp_code.specs.Shapes.{UnitKinds, Shapes, OfFunction, IsMember, Enters}
-use Rattle.sp_program.specs.Routines.{parameter_kinds}
+use Rattle.sp_code_programs.specs.programs.Routines.{parameter_kinds}
 use Rattle.sp_code_means.specs.Parts as expressions
 use Rattle.sp_bodies_end.specs.Built.{ExprIsBuilt, AllAreBuilt, PlaceIsBuilt}
 use Rattle.sp_emit_expr.specs.Literals.{LiteralsFit, AllLiteralsFit, PlaceFits}

@@ -14,7 +14,7 @@ use Rattle.sp_running.specs.Types.{kind_of_type}
 use Rattle.sp_bodies.specs.Globals.{Layout, globals_of}
 use Rattle.sp_bodies.specs.Calls.{function_layout, hook_layout, is_foreach}
 use Rattle.sp_code.specs.Shapes.{OfFunction, OfHook}
-use Rattle.sp_program.specs.Routines.{hook_unit, parameter_kinds, slot_kinds, handed_kinds}
+use Rattle.sp_code_programs.specs.programs.Routines.{hook_unit, parameter_kinds, slot_kinds, handed_kinds}
 use Rattle.sp_list_laws.specs.fit_body.Passes.{StmtPasses}
 
 -- where a body keeps what it sees that has so many parameters and no `$$`

@@ -3,7 +3,7 @@ use Rattle.std.specs.Prelude.{ℕ, Option, Some, None}
 use Rattle.sp_types.specs.Types.{Ty}
 use Rattle.sp_typed_units.specs.declared.declarations.Typed.{Typed}
 use Rattle.sp_typed_units.specs.declared.items.Field.{Field}
-use Rattle.sp_program.specs.Currents.{hooked_field}
+use Rattle.sp_code_programs.specs.programs.Currents.{hooked_field}
 
 -- the type of what a field stores, where there is one
 abbrev pub stored_type : Option Field → Option Ty

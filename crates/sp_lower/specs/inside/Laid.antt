@@ -20,11 +20,11 @@ use Rattle.sp_emit.specs.Emitted.{Emitted, TurnsTo}
 use Rattle.sp_emit_expr.specs.declared.around.Around.{Around}
 use Rattle.sp_emit_expr.specs.Around.{layout_in}
 use Rattle.sp_emit_stmt.specs.declared.bodies.Frame.{Frame}
-use Rattle.sp_program.specs.Routines.{Routine, entry_at, hook_routine}
-use Rattle.sp_program.specs.Programs.{entries_from, kinds_of_locals, routines_code}
-use Rattle.sp_program.specs.Named.{hook_name}
-use Rattle.sp_program.specs.Currents.{current_kind}
-use Rattle.sp_program.specs.Whole.{all_routines}
+use Rattle.sp_code_programs.specs.programs.Routines.{Routine, entry_at, hook_routine}
+use Rattle.sp_code_programs.specs.programs.Programs.{entries_from, kinds_of_locals, routines_code}
+use Rattle.sp_code_programs.specs.programs.Named.{hook_name}
+use Rattle.sp_code_programs.specs.programs.Currents.{current_kind}
+use Rattle.sp_code_programs.specs.programs.Whole.{all_routines}
 use Rattle.sp_lower.specs.declared.bodies.Bodies.{Bodies}
 
 -- the entry of a body, and the same at an address

@@ -9,12 +9,12 @@ use Rattle.sp_code.specs.declared.program.UnitKinds.{UnitKinds}
 use Rattle.sp_code.specs.Machine as machine
 use Rattle.sp_code.specs.Programs as told
 use Rattle.sp_code.specs.Programs.{units_of, unit_kinds}
-use Rattle.sp_lower_unit.specs.Units.{slot_kinds, unit_entry}
+use Rattle.sp_code_programs.specs.units.Units.{slot_kinds, unit_entry}
 use Rattle.sp_emit.specs.Kinds.{Grows}
 use Rattle.sp_emit.specs.Emitted.{Emitted, TurnsTo}
-use Rattle.sp_program.specs.Routines.{parameter_kinds}
-use Rattle.sp_program.specs.Named.{member_names, names_of_members}
-use Rattle.sp_program.specs.Units.{ending_at, failing_at, whole_unit_code, units_code, unit_entries, starters_code, member_kinds, kinds_of_units}
+use Rattle.sp_code_programs.specs.programs.Routines.{parameter_kinds}
+use Rattle.sp_code_programs.specs.programs.Named.{member_names, names_of_members}
+use Rattle.sp_code_programs.specs.programs.Units.{ending_at, failing_at, whole_unit_code, units_code, unit_entries, starters_code, member_kinds, kinds_of_units}
 use Rattle.sp_lower_tables.specs.Numbers.{AreNumbersOf}
 use Rattle.sp_lower.specs.declared.units.Addresses.{Addresses}
 

@@ -8,10 +8,10 @@ use Rattle.sp_code.specs.declared.program.Program.{Program}
 use Rattle.sp_code.specs.Programs.{bodies_of, units_of, member_names, label_names, range_names, unit_kinds, body_kinds}
 use Rattle.sp_emit.specs.Emitted.{Emitted}
 use Rattle.sp_emit.specs.Emission.{IsEmission}
-use Rattle.sp_program.specs.Programs.{entries_from, kinds_of_locals}
-use Rattle.sp_program.specs.Named.{names_of_members, names_of_labels, names_of_ranges}
-use Rattle.sp_program.specs.Units.{unit_entries, kinds_of_units}
-use Rattle.sp_program.specs.Whole.{all_routines, units_start, whole_code, IsCompiled}
+use Rattle.sp_code_programs.specs.programs.Programs.{entries_from, kinds_of_locals}
+use Rattle.sp_code_programs.specs.programs.Named.{names_of_members, names_of_labels, names_of_ranges}
+use Rattle.sp_code_programs.specs.programs.Units.{unit_entries, kinds_of_units}
+use Rattle.sp_code_programs.specs.programs.Whole.{all_routines, units_start, whole_code, IsCompiled}
 use Rattle.sp_lower.specs.declared.programs.Code.{Code}
 
 -- What was emitted is all code of a list, and the tables of bodies and units are those of the list.

@@ -4,7 +4,7 @@ use Rattle.std.specs.Borrow.{Bor}
 use Rattle.sp_typed_units.specs.declared.declarations.Typed.{Typed}
 use Rattle.sp_typed_units.specs.declared.items.Field.{Field}
 use Rattle.sp_running.specs.Scopes.{is_among}
-use Rattle.sp_program.specs.Currents.{earlier, hooked_field}
+use Rattle.sp_code_programs.specs.programs.Currents.{earlier, hooked_field}
 
 -- the field that is noted for a body
 abbrev pub row_at : List (Option (Bor Field)) → ℕ → Option Field

@@ -1,7 +1,7 @@
 use Rattle.std.proofs.Common.{ap, subst, ◌∙◌, OnOk}
 use Rattle.std.proofs.lemmas.Result.{on_ok_weaker}
 use Rattle.sp_code.specs.Shapes.{push}
-use Rattle.sp_lower_expr.specs.Code.{kind_of, pending}
+use Rattle.sp_code_programs.specs.exprs.Code.{kind_of, pending}
 use Rattle.sp_emit_expr.specs.Around.{globals_in, layout_in}
 use Rattle.sp_emit_expr.specs.Changes.{AddsPut}
 use Rattle.sp_emit_expr.proofs.Puts.{member_put, item_put}

@@ -8,7 +8,7 @@ use Rattle.sp_bodies.specs.Exprs.{is_self, offset_local}
 use Rattle.sp_emit_expr.specs.Literals.{LiteralsFit, AllLiteralsFit}
 use Rattle.std.proofs.lemmas.Result.{on_ok_weaker}
 use Rattle.sp_code.specs.Shapes.{Shape, push}
-use Rattle.sp_lower_expr.specs.Code.{kind_of, pending, with_result, receiver_code}
+use Rattle.sp_code_programs.specs.exprs.Code.{kind_of, pending, with_result, receiver_code}
 use Rattle.sp_emit.proofs.Adding.{adds_nothing, adds_as}
 use Rattle.sp_emit_expr.specs.Around.{globals_in, layout_in}
 use Rattle.sp_emit_expr.specs.Added.{AddsExprs, AddsMany, AddsLoad, AddsStore, waiting}

@@ -4,7 +4,7 @@ use Rattle.sp_methods.specs.Kinds.{Unsigned}
 use Rattle.sp_running.specs.Types.{plain_type}
 use Rattle.sp_code.specs.declared.instr.Instr.TheVariants.{Cast}
 use Rattle.sp_code.specs.Shapes.{push}
-use Rattle.sp_lower_expr.specs.Marked.{mark}
+use Rattle.sp_code_programs.specs.exprs.Marked.{mark}
 use Rattle.sp_emit.proofs.Adding.{adds_then}
 use Rattle.sp_emit_expr.proofs.one.range.Goals as goal
 

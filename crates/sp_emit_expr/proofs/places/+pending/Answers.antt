@@ -1,7 +1,7 @@
 use Rattle.std.proofs.Common.{OnOk, subst}
 use Rattle.std.proofs.lemmas.Result.{on_ok_weaker}
 use Rattle.sp_code.specs.Shapes.{push}
-use Rattle.sp_lower_expr.specs.Code.{kind_of, pending}
+use Rattle.sp_code_programs.specs.exprs.Code.{kind_of, pending}
 use Rattle.sp_emit.specs.Emitted.{TurnsTo}
 use Rattle.sp_emit.proofs.Adding.{turns_then}
 use Rattle.sp_emit_expr.specs.Around.{globals_in, layout_in}

@@ -3,8 +3,8 @@ use Rattle.std.proofs.lemmas.Result.{on_ok_weaker}
 use Rattle.sp_running.specs.Types.{kind_of_type}
 use Rattle.sp_code.specs.declared.instr.Instr.TheVariants as does
 use Rattle.sp_code.specs.Shapes.{push}
-use Rattle.sp_lower_expr.specs.Marked.{mark}
-use Rattle.sp_lower_expr.specs.Code.{kind_of}
+use Rattle.sp_code_programs.specs.exprs.Marked.{mark}
+use Rattle.sp_code_programs.specs.exprs.Code.{kind_of}
 use Rattle.sp_emit.proofs.Adding.{adds_then, adds_turn}
 use Rattle.sp_emit_expr.specs.Around.{globals_in, layout_in}
 use Rattle.sp_emit_expr.proofs.places.load_item.Goals as goal

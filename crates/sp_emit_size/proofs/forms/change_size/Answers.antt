@@ -1,5 +1,5 @@
 use Rattle.std.proofs.Common.{◌≡◌, ◌+◌, subst, arith, IfOk}
-use Rattle.sp_lower_expr.specs.Sizes.{change_size}
+use Rattle.sp_code_programs.specs.exprs.Sizes.{change_size}
 use Rattle.sp_emit_size.proofs.forms.change_size.Goals as goal
 
 pub returns : goal.returns

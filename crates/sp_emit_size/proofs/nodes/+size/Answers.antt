@@ -2,7 +2,7 @@ use Rattle.std.proofs.Common.{◌≡◌, ◌+◌, refl, sym, ap, subst, ◌∙�
 use Rattle.sp_typed.specs.Exprs.{many, none, more, exprs}
 use Rattle.sp_typed.specs.inside.ExprCodes as inside
 use Rattle.sp_bodies.specs.Exprs.{negative_literal, is_self, offset_local, slot_local}
-use Rattle.sp_lower_expr.specs.Sizes.{one_size, change_size, expr_size, exprs_size, receiver_size, load_size, store_size}
+use Rattle.sp_code_programs.specs.exprs.Sizes.{one_size, change_size, expr_size, exprs_size, receiver_size, load_size, store_size}
 use Rattle.sp_emit_expr.specs.declared.rows.Row.TheVariants as row_is
 use Rattle.sp_emit_expr.specs.Around.{layout_in}
 use Rattle.sp_emit_expr.specs.Many.{row_of}

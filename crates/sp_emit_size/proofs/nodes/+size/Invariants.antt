@@ -1,7 +1,7 @@
 use Rattle.std.proofs.Common.{◌≡◌, ◌+◌, ◌*◌, drop}
 use Rattle.sp_typed.specs.Exprs.{exprs}
 use Rattle.sp_typed.specs.inside.ExprCodes as inside
-use Rattle.sp_lower_expr.specs.Sizes.{exprs_size}
+use Rattle.sp_code_programs.specs.exprs.Sizes.{exprs_size}
 use Rattle.sp_emit_expr.specs.Around.{layout_in}
 use Rattle.sp_emit_size.proofs.nodes.+size.Given as goal
 

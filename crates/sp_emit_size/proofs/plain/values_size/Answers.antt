@@ -1,7 +1,7 @@
 use Rattle.std.proofs.Common.{◌+◌, refl, arith}
 use Rattle.sp_typed.specs.Exprs.{exprs}
-use Rattle.sp_lower_expr.specs.Sizes.{expr_size}
-use Rattle.sp_lower_unit.specs.Sizes.{values_size}
+use Rattle.sp_code_programs.specs.exprs.Sizes.{expr_size}
+use Rattle.sp_code_programs.specs.units.Sizes.{values_size}
 use Rattle.sp_emit_expr.specs.Around.{layout_in}
 use Rattle.sp_emit_size.proofs.Falls.{count_next, count_all}
 use Rattle.sp_emit_size.proofs.plain.values_size.Goals as goal

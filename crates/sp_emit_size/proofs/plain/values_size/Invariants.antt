@@ -1,6 +1,6 @@
 use Rattle.std.proofs.Common.{◌≡◌, ◌+◌, drop}
 use Rattle.sp_typed.specs.Exprs.{exprs}
-use Rattle.sp_lower_unit.specs.Sizes.{values_size}
+use Rattle.sp_code_programs.specs.units.Sizes.{values_size}
 use Rattle.sp_emit_expr.specs.Around.{layout_in}
 use Rattle.sp_emit_size.proofs.plain.values_size.Given as goal
 

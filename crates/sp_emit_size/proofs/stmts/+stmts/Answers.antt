@@ -1,8 +1,8 @@
 use Rattle.std.proofs.Common.{◌+◌, refl, ap, ◌∙◌, arith}
 use Rattle.sp_typed.specs.Exprs.{exprs}
 use Rattle.sp_typed.specs.Stmts.{stmts, branch_row, case_row}
-use Rattle.sp_lower_expr.specs.Sizes.{expr_size}
-use Rattle.sp_lower_unit.specs.Sizes.{values_size, stmt_size, stmts_size, branches_size, cases_size}
+use Rattle.sp_code_programs.specs.exprs.Sizes.{expr_size}
+use Rattle.sp_code_programs.specs.units.Sizes.{values_size, stmt_size, stmts_size, branches_size, cases_size}
 use Rattle.sp_emit_expr.specs.Around.{layout_in}
 use Rattle.sp_emit_size.proofs.Falls.{count_next, count_all, stmt_falls, branch_falls, case_falls}
 use Rattle.sp_emit_size.proofs.stmts.+stmts.Goals as goal

@@ -1,7 +1,7 @@
 use Rattle.std.proofs.Common.{◌≡◌, ◌+◌, ◌*◌, drop}
 use Rattle.sp_typed.specs.Stmts.{stmts, branch_row, case_row}
 use Rattle.sp_typed.specs.inside.StmtCodes as inside
-use Rattle.sp_lower_unit.specs.Sizes.{stmts_size, branches_size, cases_size}
+use Rattle.sp_code_programs.specs.units.Sizes.{stmts_size, branches_size, cases_size}
 use Rattle.sp_emit_expr.specs.Around.{layout_in}
 use Rattle.sp_emit_size.proofs.stmts.+stmts.Given as goal
 

@@ -1,7 +1,7 @@
 use Rattle.std.proofs.Common.{subst}
 use Rattle.std.proofs.lemmas.Result.{on_ok_weaker}
 use Rattle.sp_code.specs.Programs.{kind_at}
-use Rattle.sp_lower_unit.specs.Bodies.{body_code}
+use Rattle.sp_code_programs.specs.units.Bodies.{body_code}
 use Rattle.sp_emit.proofs.Growing.{kind_before}
 use Rattle.sp_emit_expr.specs.Around.{globals_in, layout_in}
 use Rattle.sp_emit_stmt.specs.Added.{AddsBody}

@@ -3,7 +3,7 @@ use Rattle.std.proofs.lemmas.Result.{on_ok_weaker}
 use Rattle.sp_methods.specs.Kinds.{Unsigned}
 use Rattle.sp_code.specs.declared.instr.Instr.TheVariants as does
 use Rattle.sp_code.specs.Shapes.{push}
-use Rattle.sp_lower_expr.specs.Marked.{mark}
+use Rattle.sp_code_programs.specs.exprs.Marked.{mark}
 use Rattle.sp_emit.proofs.Adding.{adds_then, adds_turn}
 use Rattle.sp_emit_stmt.proofs.loops.sequence.Goals as goal
 

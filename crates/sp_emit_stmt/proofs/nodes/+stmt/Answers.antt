@@ -3,8 +3,8 @@ use Rattle.std.proofs.Math.Seq.{drop-length}
 use Rattle.std.proofs.lemmas.Result.{on_ok_weaker}
 use Rattle.sp_typed.specs.Exprs.{exprs}
 use Rattle.sp_typed.specs.Stmts.{stmts, branch_row, case_row, more_cases, no_cases}
-use Rattle.sp_lower_expr.specs.Code.{kind_of}
-use Rattle.sp_lower_unit.specs.Sizes.{values_size, stmt_size, branches_size, cases_size}
+use Rattle.sp_code_programs.specs.exprs.Code.{kind_of}
+use Rattle.sp_code_programs.specs.units.Sizes.{values_size, stmt_size, branches_size, cases_size}
 use Rattle.sp_emit.proofs.Adding.{adds_nothing}
 use Rattle.sp_emit_expr.specs.Around.{globals_in, layout_in}
 use Rattle.sp_emit_expr.specs.Literals.{AllLiteralsFit}

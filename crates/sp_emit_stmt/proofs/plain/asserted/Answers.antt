@@ -1,5 +1,5 @@
-use Rattle.sp_lower_expr.specs.Code.{kind_of}
-use Rattle.sp_lower_unit.specs.Code.{message, message_kind}
+use Rattle.sp_code_programs.specs.exprs.Code.{kind_of}
+use Rattle.sp_code_programs.specs.units.Code.{message, message_kind}
 use Rattle.sp_emit_expr.specs.Around.{globals_in, layout_in}
 use Rattle.sp_emit_stmt.proofs.Straight.{asserted_added}
 use Rattle.sp_emit_stmt.proofs.plain.asserted.Goals as goal

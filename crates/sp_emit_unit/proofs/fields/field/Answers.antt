@@ -1,7 +1,7 @@
 use Rattle.std.proofs.Common.{◌≡◌, ℕ, List, Option, None, Some, sym, ap, ◌∙◌}
 use Rattle.std.proofs.lemmas.Result.{on_ok_weaker}
 use Rattle.sp_bodies.specs.Units.{IntegerForm, integer_field}
-use Rattle.sp_lower_unit.specs.Units.{unit_shape, where_integer, field_code}
+use Rattle.sp_code_programs.specs.units.Units.{unit_shape, where_integer, field_code}
 use Rattle.sp_emit.proofs.Adding.{adds_as}
 use Rattle.sp_emit_unit.specs.Forms.{form_of, read_as}
 use Rattle.sp_emit_unit.proofs.Joined.{adds_none}

@@ -1,6 +1,6 @@
 use Rattle.std.proofs.Common.{◌∙◌}
 use Rattle.std.proofs.lemmas.Result.{on_ok_weaker}
-use Rattle.sp_lower_unit.specs.Units.{unit_shape}
+use Rattle.sp_code_programs.specs.units.Units.{unit_shape}
 use Rattle.sp_emit_unit.proofs.Stored.{hooked_added}
 use Rattle.sp_emit_unit.proofs.fields.hooked.Goals as goal
 

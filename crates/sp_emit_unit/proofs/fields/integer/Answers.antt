@@ -1,6 +1,6 @@
 use Rattle.std.proofs.Common.{sym, ◌∙◌}
 use Rattle.std.proofs.lemmas.Result.{on_ok_weaker}
-use Rattle.sp_lower_unit.specs.Units.{unit_shape}
+use Rattle.sp_code_programs.specs.units.Units.{unit_shape}
 use Rattle.sp_emit.proofs.Adding.{adds_as}
 use Rattle.sp_emit_unit.proofs.Stored.{without_hooks, with_hooks}
 use Rattle.sp_emit_unit.proofs.fields.integer.Goals as goal

@@ -1,6 +1,6 @@
 use Rattle.std.proofs.Common.{length, refl, arith}
-use Rattle.sp_lower_unit.specs.Bodies.{hooks_code}
-use Rattle.sp_lower_unit.specs.Units.{unit_shape}
+use Rattle.sp_code_programs.specs.units.Bodies.{hooks_code}
+use Rattle.sp_code_programs.specs.units.Units.{unit_shape}
 use Rattle.sp_emit_unit.specs.Handed.{handed_locals}
 use Rattle.sp_emit_unit.proofs.Joined.{row_begins, row_next, row_ends}
 use Rattle.sp_emit_unit.proofs.Loaded.{hooks_split}

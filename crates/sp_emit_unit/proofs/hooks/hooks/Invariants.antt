@@ -1,7 +1,7 @@
 use Rattle.std.proofs.Common.{◌≡◌, ℕ, length, drop}
 use Rattle.sp_code.specs.Shapes.{Round}
-use Rattle.sp_lower_unit.specs.Bodies.{hooks_code}
-use Rattle.sp_lower_unit.specs.Units.{unit_shape}
+use Rattle.sp_code_programs.specs.units.Bodies.{hooks_code}
+use Rattle.sp_code_programs.specs.units.Units.{unit_shape}
 use Rattle.sp_emit_unit.specs.Handed.{handed_locals}
 use Rattle.sp_emit_unit.proofs.Joined.{Row}
 use Rattle.sp_emit_unit.proofs.hooks.hooks.Given as goal

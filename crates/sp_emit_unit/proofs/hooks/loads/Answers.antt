@@ -1,7 +1,7 @@
 use Rattle.std.proofs.Common.{sym, subst}
 use Rattle.std.proofs.lemmas.Result.{on_ok_weaker}
-use Rattle.sp_lower_unit.specs.Bodies.{loads_code, loaded}
-use Rattle.sp_lower_unit.specs.Units.{unit_shape}
+use Rattle.sp_code_programs.specs.units.Bodies.{loads_code, loaded}
+use Rattle.sp_code_programs.specs.units.Units.{unit_shape}
 use Rattle.sp_emit.specs.Emitted.{Adds}
 use Rattle.sp_emit_unit.specs.declared.hooks.Handed.{Handed}
 use Rattle.sp_emit_unit.specs.Handed.{handed_locals}

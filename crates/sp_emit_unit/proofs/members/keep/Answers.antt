@@ -2,7 +2,7 @@ use Rattle.std.proofs.Common.{ℕ, Option, sym, ap, subst, ◌∙◌}
 use Rattle.std.proofs.lemmas.Result.{on_ok_weaker}
 use Rattle.sp_bodies.specs.Units.{value_slot}
 use Rattle.sp_code.specs.Shapes.{push, read_kind}
-use Rattle.sp_lower_unit.specs.Units.{kept_code}
+use Rattle.sp_code_programs.specs.units.Units.{kept_code}
 use Rattle.sp_emit.specs.Emitted.{Adds}
 use Rattle.sp_emit_unit.proofs.Stored.{kept_added}
 use Rattle.sp_emit_unit.proofs.members.keep.Goals as goal

@@ -2,7 +2,7 @@ use Rattle.std.proofs.Common.{sym, ap, subst, ◌∙◌}
 use Rattle.std.proofs.lemmas.Result.{on_ok_weaker}
 use Rattle.sp_typed_units.specs.Parts.{Part}
 use Rattle.sp_typed_units.specs.PartViews.{part_of}
-use Rattle.sp_lower_unit.specs.Units.{unit_shape, part_code}
+use Rattle.sp_code_programs.specs.units.Units.{unit_shape, part_code}
 use Rattle.sp_emit.specs.Emitted.{Adds}
 use Rattle.sp_emit_unit.proofs.parts.part.Goals as goal
 

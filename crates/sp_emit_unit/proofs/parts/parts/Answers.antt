@@ -1,6 +1,6 @@
 use Rattle.std.proofs.Common.{refl, arith}
 use Rattle.sp_typed_units.specs.Parts.{parts}
-use Rattle.sp_lower_unit.specs.Units.{unit_shape, parts_code}
+use Rattle.sp_code_programs.specs.units.Units.{unit_shape, parts_code}
 use Rattle.sp_emit_unit.proofs.Joined.{row_begins, row_next, row_ends}
 use Rattle.sp_emit_unit.proofs.parts.parts.Goals as goal
 

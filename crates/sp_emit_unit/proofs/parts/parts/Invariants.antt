@@ -1,7 +1,7 @@
 use Rattle.std.proofs.Common.{◌≡◌, drop}
 use Rattle.sp_typed_units.specs.Parts.{parts}
 use Rattle.sp_code.specs.Shapes.{Round}
-use Rattle.sp_lower_unit.specs.Units.{unit_shape, parts_code}
+use Rattle.sp_code_programs.specs.units.Units.{unit_shape, parts_code}
 use Rattle.sp_emit_unit.proofs.Joined.{Row}
 use Rattle.sp_emit_unit.proofs.parts.parts.Given as goal
 

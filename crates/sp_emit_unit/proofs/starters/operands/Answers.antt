@@ -4,7 +4,7 @@ use Rattle.sp_typed_units.specs.declared.declarations.Parameter.{Parameter}
 use Rattle.sp_running.specs.Types.{kind_of_type}
 use Rattle.sp_bodies.specs.Globals.{range_counts, globals_of}
 use Rattle.sp_code.specs.Shapes.{with_operands, push}
-use Rattle.sp_lower_unit.specs.Units.{kinds_over}
+use Rattle.sp_code_programs.specs.units.Units.{kinds_over}
 use Rattle.sp_emit.specs.Emitted.{TurnsTo}
 use Rattle.sp_emit_unit.proofs.Joined.{next_item, none_left}
 use Rattle.sp_emit_unit.proofs.Begun.{operands_next, turns_none}

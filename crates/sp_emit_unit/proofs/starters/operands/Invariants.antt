@@ -1,7 +1,7 @@
 use Rattle.std.proofs.Common.{drop}
 use Rattle.sp_bodies.specs.Globals.{globals_of}
 use Rattle.sp_code.specs.Shapes.{with_operands}
-use Rattle.sp_lower_unit.specs.Units.{kinds_over}
+use Rattle.sp_code_programs.specs.units.Units.{kinds_over}
 use Rattle.sp_emit.specs.Emitted.{Emitted, TurnsTo}
 use Rattle.sp_emit_unit.proofs.starters.operands.Given as goal
 

@@ -3,7 +3,7 @@ use Rattle.std.proofs.lemmas.Result.{on_ok_weaker}
 use Rattle.sp_typed_units.specs.declared.declarations.Parameter.{Parameter}
 use Rattle.sp_bodies.specs.Globals.{globals_of}
 use Rattle.sp_code.specs.Shapes.{with_operands}
-use Rattle.sp_lower_unit.specs.Units.{kinds_over}
+use Rattle.sp_code_programs.specs.units.Units.{kinds_over}
 use Rattle.sp_emit.specs.Emitted.{TurnsTo}
 use Rattle.sp_emit_unit.proofs.Begun.{starter_added}
 use Rattle.sp_emit_unit.proofs.starters.starter.Goals as goal

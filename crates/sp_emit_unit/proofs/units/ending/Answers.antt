@@ -1,7 +1,7 @@
 use Rattle.std.proofs.lemmas.Result.{on_ok_weaker}
 use Rattle.sp_words.specs.declared.words.HookName.TheVariants.{Finally}
 use Rattle.sp_code.specs.Shapes.{OfEnding}
-use Rattle.sp_lower_unit.specs.Units.{unit_shape, unit_hook_code}
+use Rattle.sp_code_programs.specs.units.Units.{unit_shape, unit_hook_code}
 use Rattle.sp_emit_unit.proofs.Begun.{leaves, begins_with}
 use Rattle.sp_emit_unit.proofs.units.ending.Goals as goal
 

@@ -2,7 +2,7 @@ use Rattle.std.proofs.Common.{◌++◌}
 use Rattle.std.proofs.lemmas.Result.{on_ok_weaker}
 use Rattle.sp_words.specs.declared.words.HookName.TheVariants.{Error, Finally}
 use Rattle.sp_code.specs.Shapes.{OfFailing}
-use Rattle.sp_lower_unit.specs.Units.{unit_shape, unit_hook_code}
+use Rattle.sp_code_programs.specs.units.Units.{unit_shape, unit_hook_code}
 use Rattle.sp_emit_unit.proofs.Joined.{adds_on}
 use Rattle.sp_emit_unit.proofs.Begun.{leaves, begins_with}
 use Rattle.sp_emit_unit.proofs.units.failing.Goals as goal

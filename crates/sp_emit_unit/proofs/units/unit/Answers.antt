@@ -1,6 +1,6 @@
 use Rattle.std.proofs.lemmas.Result.{on_ok_weaker}
 use Rattle.sp_code.specs.Shapes.{OfUnit}
-use Rattle.sp_lower_unit.specs.Units.{unit_shape, unit_parts_code}
+use Rattle.sp_code_programs.specs.units.Units.{unit_shape, unit_parts_code}
 use Rattle.sp_emit_unit.proofs.Begun.{leaves, begins_with}
 use Rattle.sp_emit_unit.proofs.units.unit.Goals as goal
 

@@ -1,7 +1,7 @@
 use Rattle.std.proofs.Common.{ℕ, List, [], length, ap}
 use Rattle.std.proofs.lemmas.Result.{on_ok_weaker}
-use Rattle.sp_lower_unit.specs.Bodies.{hooks_code}
-use Rattle.sp_lower_unit.specs.Units.{unit_shape}
+use Rattle.sp_code_programs.specs.units.Bodies.{hooks_code}
+use Rattle.sp_code_programs.specs.units.Units.{unit_shape}
 use Rattle.sp_emit.proofs.Adding.{adds_as}
 use Rattle.sp_emit_unit.proofs.units.unit_hook.Goals as goal
 

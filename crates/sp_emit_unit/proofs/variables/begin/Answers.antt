@@ -1,7 +1,7 @@
 use Rattle.std.specs.Prelude.{slice_get}
 use Rattle.std.proofs.lemmas.Result.{on_ok_weaker}
 use Rattle.sp_bodies.specs.Globals.{globals_of}
-use Rattle.sp_lower_unit.specs.Units.{member_kind, member_code}
+use Rattle.sp_code_programs.specs.units.Units.{member_kind, member_code}
 use Rattle.sp_emit_unit.proofs.Joined.{adds_on}
 use Rattle.sp_emit_unit.proofs.variables.begin.Goals as goal
 

@@ -1,6 +1,6 @@
 use Rattle.std.proofs.Common.{[], ◌∷◌, refl, subst, arith}
 use Rattle.sp_code.specs.Shapes.{Shape}
-use Rattle.sp_lower_unit.specs.Units.{begin_code}
+use Rattle.sp_code_programs.specs.units.Units.{begin_code}
 use Rattle.sp_emit.specs.Emitted.{Adds}
 use Rattle.sp_emit_unit.proofs.Joined.{row_begins, row_next, row_ends}
 use Rattle.sp_emit_unit.proofs.variables.begin_all.Goals as goal

@@ -1,5 +1,5 @@
 use Rattle.std.proofs.Common.{drop}
-use Rattle.sp_lower_unit.specs.Units.{begin_code}
+use Rattle.sp_code_programs.specs.units.Units.{begin_code}
 use Rattle.sp_emit_unit.proofs.Joined.{Row}
 use Rattle.sp_emit_unit.proofs.variables.begin_all.Given as goal
 

@@ -1,7 +1,7 @@
 use Rattle.std.proofs.Common.{ap}
 use Rattle.std.proofs.lemmas.Result.{on_ok_weaker}
 use Rattle.sp_bodies.specs.Globals.{globals_of}
-use Rattle.sp_lower_expr.specs.Code.{kind_of}
+use Rattle.sp_code_programs.specs.exprs.Code.{kind_of}
 use Rattle.sp_emit_expr.specs.Around.{globals_in, layout_in}
 use Rattle.sp_emit_unit.proofs.Stored.{value_added}
 use Rattle.sp_emit_unit.proofs.variables.value.Goals as goal

@@ -1,6 +1,6 @@
 use Rattle.std.proofs.Common.{◌+◌, List, length, drop, sym, subst, ◌∙◌, arith}
 use Rattle.sp_typed_units.specs.declared.declarations.Variable.{Variable}
-use Rattle.sp_lower_unit.specs.Units.{variables_code}
+use Rattle.sp_code_programs.specs.units.Units.{variables_code}
 use Rattle.sp_emit.specs.Emitted.{Adds}
 use Rattle.sp_emit_unit.specs.Values.{ValuesFit}
 use Rattle.sp_emit_unit.proofs.Joined.{adds_none, next_item, none_left}

@@ -1,5 +1,5 @@
 use Rattle.std.proofs.Common.{◌≡◌, length, drop}
-use Rattle.sp_lower_unit.specs.Units.{variables_code}
+use Rattle.sp_code_programs.specs.units.Units.{variables_code}
 use Rattle.sp_emit.specs.Emitted.{Emitted, Adds}
 use Rattle.sp_emit_unit.specs.Values.{ValuesFit}
 use Rattle.sp_emit_unit.proofs.variables.variables.Given as goal

@@ -1,7 +1,7 @@
 use Rattle.std.proofs.Common.{refl}
 use Rattle.std.proofs.lemmas.Result.{on_ok_weaker}
 use Rattle.sp_bodies.specs.Globals.{globals_of}
-use Rattle.sp_program.specs.Routines.{function_routine}
+use Rattle.sp_code_programs.specs.programs.Routines.{function_routine}
 use Rattle.sp_lower.proofs.Framed.{routine_is}
 use Rattle.sp_lower.proofs.Laid.{turn_lays}
 use Rattle.sp_lower.proofs.functions.function.Goals as goal

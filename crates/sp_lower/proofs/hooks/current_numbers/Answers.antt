@@ -3,7 +3,7 @@ use Rattle.sp_typed_units.specs.declared.items.Field.{Field}
 use Rattle.sp_methods.specs.Kinds.{Unsigned}
 use Rattle.sp_running.specs.Types.{kind_of_type}
 use Rattle.sp_bodies.specs.Globals.{globals_of}
-use Rattle.sp_program.specs.Currents.{current_type}
+use Rattle.sp_code_programs.specs.programs.Currents.{current_type}
 use Rattle.sp_lower_tables.specs.Numbers.{GivesNumber}
 use Rattle.sp_lower_tables.proofs.Numbered.{gives_two}
 use Rattle.sp_lower.proofs.hooks.current_numbers.Goals as goal

@@ -3,8 +3,8 @@ use Rattle.sp_methods.specs.Kinds.{Unsigned}
 use Rattle.sp_typed_units.specs.declared.declarations.Parameter.{Parameter}
 use Rattle.sp_bodies.specs.Globals.{globals_of}
 use Rattle.sp_bodies.specs.Calls.{has_current}
-use Rattle.sp_program.specs.Routines.{parameter_kinds}
-use Rattle.sp_program.specs.Currents.{current_kind}
+use Rattle.sp_code_programs.specs.programs.Routines.{parameter_kinds}
+use Rattle.sp_code_programs.specs.programs.Currents.{current_kind}
 use Rattle.sp_lower_tables.proofs.Numbered.{gives_all, numbers_as}
 use Rattle.sp_lower.proofs.hooks.handed_numbers.Goals as goal
 

@@ -6,8 +6,8 @@ use Rattle.sp_bodies.specs.Globals.{globals_of}
 use Rattle.sp_bodies.specs.Calls.{zero_slots, is_foreach}
 use Rattle.sp_code.specs.Machine.{Body}
 use Rattle.sp_code.specs.Programs.{name_of, told_of}
-use Rattle.sp_lower_unit.specs.Bodies.{handed}
-use Rattle.sp_program.specs.Named.{hook_name}
+use Rattle.sp_code_programs.specs.units.Bodies.{handed}
+use Rattle.sp_code_programs.specs.programs.Named.{hook_name}
 use Rattle.sp_lower.proofs.hooks.hook_entry.Goals as goal
 
 abbrev entry_with : Called → ℕ → List Val → List ℕ → ℕ → Body

@@ -1,8 +1,8 @@
 use Rattle.std.proofs.Common.{ℕ, Bool, Option, ◌++◌, refl, ap, ◌∙◌}
 use Rattle.sp_bodies.specs.Globals.{globals_of}
 use Rattle.sp_code.specs.Shapes.{OfHook, body_shape}
-use Rattle.sp_program.specs.Routines.{hook_unit, handed_kinds, slot_kinds}
-use Rattle.sp_program.specs.Currents.{current_kind}
+use Rattle.sp_code_programs.specs.programs.Routines.{hook_unit, handed_kinds, slot_kinds}
+use Rattle.sp_code_programs.specs.programs.Currents.{current_kind}
 use Rattle.sp_lower.proofs.Framed.{framed}
 use Rattle.sp_lower.proofs.hooks.hook_frame.Goals as goal
 

@@ -1,8 +1,8 @@
 use Rattle.std.proofs.Common.{List, ◌++◌, ap}
 use Rattle.sp_types.specs.Types.{Ty}
 use Rattle.sp_bodies.specs.Globals.{globals_of}
-use Rattle.sp_program.specs.Routines.{handed_kinds, slot_kinds}
-use Rattle.sp_program.specs.Currents.{current_kind}
+use Rattle.sp_code_programs.specs.programs.Routines.{handed_kinds, slot_kinds}
+use Rattle.sp_code_programs.specs.programs.Currents.{current_kind}
 use Rattle.sp_lower_tables.proofs.Numbered.{gives_more, numbers_as}
 use Rattle.sp_lower.proofs.hooks.hook_locals.Goals as goal
 

@@ -2,9 +2,9 @@ use Rattle.std.proofs.Common.{◌≡◌, ◌<◌, ◌+◌, ℕ, suc, List, ◌�
 use Rattle.std.specs.List.{AllByRecursion}
 use Rattle.sp_typed_units.specs.declared.declarations.Hook.{Hook}
 use Rattle.sp_bodies.specs.Globals.{globals_of}
-use Rattle.sp_program.specs.Routines.{hook_routine}
-use Rattle.sp_program.specs.Named.{hook_name}
-use Rattle.sp_program.specs.Currents.{current_kind}
+use Rattle.sp_code_programs.specs.programs.Routines.{hook_routine}
+use Rattle.sp_code_programs.specs.programs.Named.{hook_name}
+use Rattle.sp_code_programs.specs.programs.Currents.{current_kind}
 use Rattle.sp_lower_tables.proofs.Numbered.{next_item, none_left}
 use Rattle.sp_lower.specs.Literals.{HookFits}
 use Rattle.sp_lower.specs.inside.Laid.{named_routines}

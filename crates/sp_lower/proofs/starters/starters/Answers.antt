@@ -1,7 +1,7 @@
 use Rattle.std.proofs.Common.{◌+◌, ℕ, [], None, drop, ap, subst, ◌∙◌, arith}
 use Rattle.sp_methods.specs.Kinds.{UnitOf}
 use Rattle.sp_code.specs.Shapes.{OfFunction, push, body_shape}
-use Rattle.sp_lower_unit.specs.Units.{starter_code}
+use Rattle.sp_code_programs.specs.units.Units.{starter_code}
 use Rattle.sp_emit.specs.Emitted.{Adds}
 use Rattle.sp_lower_tables.proofs.Numbered.{next_item, none_left}
 use Rattle.sp_lower.proofs.Counted.{starters_on, starters_to}

@@ -1,7 +1,7 @@
 use Rattle.std.proofs.Common.{◌+◌, ◌*◌, drop}
 use Rattle.sp_typed_units.specs.Parts.{parts, arms}
 use Rattle.sp_typed_units.specs.inside.PartCodes.{part_size, parts_size, arms_size}
-use Rattle.sp_program.specs.Currents.{field_in_parts, field_in_arms}
+use Rattle.sp_code_programs.specs.programs.Currents.{field_in_parts, field_in_arms}
 use Rattle.sp_lower_tables.proofs.Noted.{Leads}
 use Rattle.sp_lower_tables.proofs.fields.+fields.Given as goal
 

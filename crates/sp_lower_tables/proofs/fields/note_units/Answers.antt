@@ -1,6 +1,6 @@
 use Rattle.std.proofs.Common.{List, drop, refl, subst, arith}
 use Rattle.sp_typed_units.specs.Parts.{Part, parts}
-use Rattle.sp_program.specs.Currents.{field_in_parts, hooked_field}
+use Rattle.sp_code_programs.specs.programs.Currents.{field_in_parts, hooked_field}
 use Rattle.sp_lower_tables.specs.inside.Fields.{Notes}
 use Rattle.sp_lower_tables.proofs.Numbered.{next_item, none_left}
 use Rattle.sp_lower_tables.proofs.Noted.{leads_on, leads_to}

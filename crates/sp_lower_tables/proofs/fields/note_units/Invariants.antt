@@ -1,5 +1,5 @@
 use Rattle.std.proofs.Common.{drop}
-use Rattle.sp_program.specs.Currents.{hooked_field}
+use Rattle.sp_code_programs.specs.programs.Currents.{hooked_field}
 use Rattle.sp_lower_tables.proofs.Noted.{Leads}
 use Rattle.sp_lower_tables.proofs.fields.note_units.Given as goal
 

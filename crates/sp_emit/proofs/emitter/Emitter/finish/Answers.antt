@@ -1,7 +1,7 @@
 use Rattle.std.proofs.Common.{List, [], ◌∙◌, subst, sym}
 use Rattle.sp_code.specs.Programs.{stacks_from, opens_from, shapes_at}
 use Rattle.sp_code.specs.declared.program.OpenRow.{OpenRow}
-use Rattle.sp_lower_expr.specs.Marked.{Shows}
+use Rattle.sp_code_programs.specs.exprs.Marked.{Shows}
 use Rattle.sp_emit.specs.declared.emission.Emission.{Emission}
 use Rattle.sp_emit.specs.inside.Fields.{marks_in}
 use Rattle.sp_emit.specs.Emission.{IsEmission}

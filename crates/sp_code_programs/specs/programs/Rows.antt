@@ -24,8 +24,8 @@ use Rattle.sp_code.specs.declared.instr.Instr.{Instr}
 use Rattle.sp_code.specs.declared.instr.Instr.TheVariants as does
 use Rattle.sp_code.specs.Machine.{Body, Plain}
 use Rattle.sp_code.specs.Shapes.{Shape, Shapes, OfUnit, OfFunction, OfHook, body_shape, push}
-use Rattle.sp_lower_expr.specs.Marked.{Marked, mark}
-use Rattle.sp_program.specs.Programs.{bodies_end, IsLaid}
+use Rattle.sp_code_programs.specs.exprs.Marked.{Marked, mark}
+use Rattle.sp_code_programs.specs.programs.Programs.{bodies_end, IsLaid}
 
 abbrev pub here : Span
 here = record { from = 0; to = 0 }

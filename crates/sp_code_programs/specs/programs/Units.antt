@@ -7,9 +7,9 @@ use Rattle.sp_typed_units.specs.declared.declarations.Unit.{Unit as TypedUnit}
 use Rattle.sp_running.specs.Types.{kind_of_type}
 use Rattle.sp_code.specs.Machine.{UnitCode}
 use Rattle.sp_code.specs.Shapes.{UnitKinds}
-use Rattle.sp_lower_expr.specs.Marked.{Marked}
-use Rattle.sp_lower_unit.specs.Units.{slot_kinds, unit_code, ending_code, failing_code, starter_code, unit_entry}
-use Rattle.sp_program.specs.Routines.{parameter_kinds}
+use Rattle.sp_code_programs.specs.exprs.Marked.{Marked}
+use Rattle.sp_code_programs.specs.units.Units.{slot_kinds, unit_code, ending_code, failing_code, starter_code, unit_entry}
+use Rattle.sp_code_programs.specs.programs.Routines.{parameter_kinds}
 
 module _ (list : Typed) where
   -- Where the parts of the unit u end, which begin at an address, and what runs behind them begins; where its failing begins; and where

@@ -32,11 +32,11 @@ use Rattle.sp_code.specs.declared.instr.IntForm.{IntForm}
 use Rattle.sp_code.specs.declared.instr.Instr.TheVariants as does
 use Rattle.sp_code.specs.Machine.{UnitCode, Plain}
 use Rattle.sp_code.specs.Shapes.{Shape, UnitKinds, Shapes, OfUnit, OfEnding, OfFailing, OfFunction, OfHook, body_shape, push, with_operands}
-use Rattle.sp_lower_unit.specs.Units.{slot_kinds, unit_shape}
-use Rattle.sp_program.specs.Named.{hook_name, hook_names_of, own_name, names_of_labels}
-use Rattle.sp_program.specs.Currents.{currents_of}
-use Rattle.sp_program.specs.Whole.{units_start, starters_start, starter_at, IsProgramOf}
-use Rattle.sp_program.specs.Rows.{here, byte, leaf_of, same, seven}
+use Rattle.sp_code_programs.specs.units.Units.{slot_kinds, unit_shape}
+use Rattle.sp_code_programs.specs.programs.Named.{hook_name, hook_names_of, own_name, names_of_labels}
+use Rattle.sp_code_programs.specs.programs.Currents.{currents_of}
+use Rattle.sp_code_programs.specs.programs.Whole.{units_start, starters_start, starter_at, IsProgramOf}
+use Rattle.sp_code_programs.specs.programs.Rows.{here, byte, leaf_of, same, seven}
 
 -- a field of bytes, what it reads, and its hooks
 abbrev pub field_with : Spec → Ty → List Attribute → List ℕ → Field

@@ -19,9 +19,9 @@ use Rattle.sp_code.specs.declared.instr.IntForm.{IntForm}
 use Rattle.sp_code.specs.declared.instr.Instr.TheVariants as does
 use Rattle.sp_code.specs.Machine.{UnitCode, Plain}
 use Rattle.sp_code.specs.Shapes.{Shape, Round, OfUnit, OfEnding, OfFailing, OfFunction, with_operands, push, body_shape, read_kind}
-use Rattle.sp_lower_expr.specs.Marked.{Marked, mark, constant, HasAt}
-use Rattle.sp_lower_expr.specs.Code.{kind_of, expr_code}
-use Rattle.sp_lower_unit.specs.Bodies.{hooks_code}
+use Rattle.sp_code_programs.specs.exprs.Marked.{Marked, mark, constant, HasAt}
+use Rattle.sp_code_programs.specs.exprs.Code.{kind_of, expr_code}
+use Rattle.sp_code_programs.specs.units.Bodies.{hooks_code}
 
 -- the kinds of the locals of a unit's own code
 abbrev pub slot_kinds : List Kind

@@ -7,8 +7,8 @@ use Rattle.sp_bodies.specs.Globals.{Globals, globals_of}
 use Rattle.sp_code.specs.declared.instr.Instr.{Instr}
 use Rattle.sp_code.specs.Machine.{Body, Plain}
 use Rattle.sp_code.specs.Shapes.{Shape, BodyKinds, Shapes}
-use Rattle.sp_lower_expr.specs.Marked.{Marked, IsWanted}
-use Rattle.sp_program.specs.Routines.{Routine, routine_size, entry_at, local_kinds, routine_code, routines_of}
+use Rattle.sp_code_programs.specs.exprs.Marked.{Marked, IsWanted}
+use Rattle.sp_code_programs.specs.programs.Routines.{Routine, routine_size, entry_at, local_kinds, routine_code, routines_of}
 
 -- how many instructions bodies have
 abbrev pub routines_size : List Routine → ℕ

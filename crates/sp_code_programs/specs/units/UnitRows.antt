@@ -35,9 +35,9 @@ use Rattle.sp_running.specs.States.{Main, State}
 use Rattle.sp_bodies.specs.Units.{unit_means}
 use Rattle.sp_code.specs.declared.instr.Instr.TheVariants as does
 use Rattle.sp_code.specs.Machine.{Plain, At, step}
-use Rattle.sp_lower_unit.specs.Units.{unit_code, ending_code, failing_code, unit_entry}
-use Rattle.sp_lower_unit.specs.Rows.{here, byte, boolean, nothing, leaf_of, number, truth, valued_by, printed, both, hook, names, limits, reading, Stand, Done, Odd, Waiting, Fails, told_of, placed, constants, hooks_code, hook_codes, drive, says}
-use Rattle.sp_lower_unit.specs.Rows as rows
+use Rattle.sp_code_programs.specs.units.Units.{unit_code, ending_code, failing_code, unit_entry}
+use Rattle.sp_code_programs.specs.units.Rows.{here, byte, boolean, nothing, leaf_of, number, truth, valued_by, printed, both, hook, names, limits, reading, Stand, Done, Odd, Waiting, Fails, told_of, placed, constants, hooks_code, hook_codes, drive, says}
+use Rattle.sp_code_programs.specs.units.Rows as rows
 
 abbrev short : Ty
 short = word (word_is.Uint W16)

@@ -15,10 +15,10 @@ use Rattle.sp_bodies.specs.Globals.{Globals, Layout, globals_of}
 use Rattle.sp_bodies.specs.Calls.{function_layout, hook_layout, has_current, is_foreach}
 use Rattle.sp_code.specs.Machine.{Body}
 use Rattle.sp_code.specs.Shapes.{Shape, BodyKinds, OfFunction, OfHook, body_shape}
-use Rattle.sp_lower_expr.specs.Marked.{Marked}
-use Rattle.sp_lower_expr.specs.Code.{kind_at}
-use Rattle.sp_lower_unit.specs.Sizes.{stmt_size}
-use Rattle.sp_lower_unit.specs.Bodies.{body_code, function_entry, hook_entry, name_at}
+use Rattle.sp_code_programs.specs.exprs.Marked.{Marked}
+use Rattle.sp_code_programs.specs.exprs.Code.{kind_at}
+use Rattle.sp_code_programs.specs.units.Sizes.{stmt_size}
+use Rattle.sp_code_programs.specs.units.Bodies.{body_code, function_entry, hook_entry, name_at}
 
 -- the unit of which a hook is, which is the one at hand in its bodies
 abbrev pub hook_unit : HookOf → Option ℕ

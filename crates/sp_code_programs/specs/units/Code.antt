@@ -17,10 +17,10 @@ use Rattle.sp_bodies.specs.Globals.{Globals, Layout}
 use Rattle.sp_bodies.specs.Exprs.{slot_local}
 use Rattle.sp_code.specs.declared.instr.Instr.TheVariants as does
 use Rattle.sp_code.specs.Shapes.{Shape, with_operands, push}
-use Rattle.sp_lower_expr.specs.Marked.{Marked, mark, constant}
-use Rattle.sp_lower_expr.specs.Sizes.{expr_size}
-use Rattle.sp_lower_expr.specs.Code.{kind_of, kinds_on, kind_at, count, expr_code, exprs_code, put_code, update_code, key_code}
-use Rattle.sp_lower_unit.specs.Sizes.{stmt_size, branches_size, cases_size, values_size}
+use Rattle.sp_code_programs.specs.exprs.Marked.{Marked, mark, constant}
+use Rattle.sp_code_programs.specs.exprs.Sizes.{expr_size}
+use Rattle.sp_code_programs.specs.exprs.Code.{kind_of, kinds_on, kind_at, count, expr_code, exprs_code, put_code, update_code, key_code}
+use Rattle.sp_code_programs.specs.units.Sizes.{stmt_size, branches_size, cases_size, values_size}
 
 -- the text of an assertion, or void where it has none
 abbrev pub message : Option (List ℕ) → Val

@@ -48,8 +48,8 @@ use Rattle.sp_code.specs.declared.instr.Instr.TheVariants as does
 use Rattle.sp_code.specs.Machine.{Body, Plain, Config, At, Next, Goes, Waits, Over, step}
 use Rattle.sp_code.specs.Shapes.{Shape, OfFunction, body_shape}
 use Rattle.sp_methods.specs.Kinds.{Void}
-use Rattle.sp_lower_expr.specs.Marked.{Marked, Wanted, Does, Constant}
-use Rattle.sp_lower_unit.specs.Bodies.{function_code, hook_code}
+use Rattle.sp_code_programs.specs.exprs.Marked.{Marked, Wanted, Does, Constant}
+use Rattle.sp_code_programs.specs.units.Bodies.{function_code, hook_code}
 
 abbrev pub here : Span
 here = record { from = 0; to = 0 }

@@ -7,12 +7,12 @@ use Rattle.sp_code.specs.declared.program.Program.{Program}
 use Rattle.sp_code.specs.Machine.{Plain}
 use Rattle.sp_code.specs.Shapes.{Shapes}
 use Rattle.sp_code.specs.Programs.{plain_of, shapes_of}
-use Rattle.sp_lower_expr.specs.Marked.{Marked}
-use Rattle.sp_program.specs.Routines.{Routine, routines_of}
-use Rattle.sp_program.specs.Named.{hook_names_of, value_names_of}
-use Rattle.sp_program.specs.Currents.{currents_of}
-use Rattle.sp_program.specs.Units.{units_code, units_end, unit_entries, starters_code, kinds_of_units}
-use Rattle.sp_program.specs.Programs.{bodies_end, program_code, IsLaid}
+use Rattle.sp_code_programs.specs.exprs.Marked.{Marked}
+use Rattle.sp_code_programs.specs.programs.Routines.{Routine, routines_of}
+use Rattle.sp_code_programs.specs.programs.Named.{hook_names_of, value_names_of}
+use Rattle.sp_code_programs.specs.programs.Currents.{currents_of}
+use Rattle.sp_code_programs.specs.programs.Units.{units_code, units_end, unit_entries, starters_code, kinds_of_units}
+use Rattle.sp_code_programs.specs.programs.Programs.{bodies_end, program_code, IsLaid}
 
 -- all bodies
 abbrev pub all_routines : Typed → List Routine

@@ -13,9 +13,9 @@ use Rattle.sp_bodies.specs.Calls.{zero_slots, function_layout, hook_layout, has_
 use Rattle.sp_code.specs.declared.instr.Instr.TheVariants as does
 use Rattle.sp_code.specs.Machine.{Body, Plain}
 use Rattle.sp_code.specs.Shapes.{Shape, push}
-use Rattle.sp_lower_expr.specs.Marked.{Marked, mark, constant, HasAt}
-use Rattle.sp_lower_expr.specs.Code.{kind_at}
-use Rattle.sp_lower_unit.specs.Code.{stmt_code}
+use Rattle.sp_code_programs.specs.exprs.Marked.{Marked, mark, constant, HasAt}
+use Rattle.sp_code_programs.specs.exprs.Code.{kind_at}
+use Rattle.sp_code_programs.specs.units.Code.{stmt_code}
 
 -- How many values a hook hands to each of its bodies: `$$` and the offset of the field or the element, or the parameters.
 abbrev pub handed : Hook → ℕ

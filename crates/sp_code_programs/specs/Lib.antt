@@ -1,0 +1,3 @@
+pub mod exprs
+pub mod units
+pub mod programs

@@ -1,2 +1,0 @@
-//! The code of statements, functions and hooks: each instruction with the shape before it.
-#![tactic(auto)]
