@@ -14,7 +14,7 @@ use Rattle.sp_bodies.specs.Globals.{globals_of}
 use Rattle.sp_code.specs.declared.program.Program.{Program}
 use Rattle.sp_code_programs.specs.units.Units.{kinds_over, starter_kinds}
 use Rattle.sp_code_programs.specs.programs.Whole.{IsCompiled}
-use Rattle.sp_list_runs.specs.Laws.{CompiledListsRun}
+use Rattle.sp_law_programs.specs.list_runs.Laws.{CompiledListsRun}
 use Rattle.sp_lower.specs.Literals.{ListLiteralsFit}
 use Rattle.sp_list_laws.specs.fit_list.Passes.{ListPasses}
 use Rattle.sp_base.specs.declared.bytes.NoMemory.{NoMemory}

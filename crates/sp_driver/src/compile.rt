@@ -11,7 +11,7 @@ use crate::texts::ListTexts;
 use sp_base::{Diag, NoMemory};
 use sp_choose::chosen;
 use sp_code::Program;
-use sp_list_runs::compiled_lists_run;
+use sp_law_programs::compiled_lists_run;
 use sp_load::{Loaded, Source, refusal_of};
 use sp_lower::lower;
 use sp_typed_units::{Typed, Unit};

@@ -20,7 +20,7 @@ use Rattle.sp_emit_expr.specs.declared.two.Takes.{Takes}
 use Rattle.sp_emit_expr.specs.declared.two.Takes.TheVariants as takes_by
 use Rattle.sp_emit_expr.specs.declared.two.Joint.TheVariants as joint_is
 use Rattle.sp_emit_expr.specs.Joints.{joint_of, taking}
-use Rattle.sp_code_means.proofs.Sizes.{expr_sized}
+use Rattle.sp_law_code.proofs.exprs_lemmas.Sizes.{expr_sized}
 
 -- A choice: a test, behind it what is done where it holds, and what is done where it doesn't. The ends of both jumps are told when
 -- they are known.

@@ -20,7 +20,7 @@ use Rattle.sp_emit.specs.Emitted.{Emitted, Adds, TurnsTo, lowest, lowered}
 use Rattle.sp_emit.proofs.Adding.{adds_as, adds_then, adds_behind, adds_turn}
 use Rattle.sp_emit_expr.specs.declared.rows.Row.TheVariants as row_is
 use Rattle.sp_emit_expr.specs.Many.{row_of}
-use Rattle.sp_code_means.proofs.Sizes.{expr_sized}
+use Rattle.sp_law_code.proofs.exprs_lemmas.Sizes.{expr_sized}
 
 pub not_self : (es : List Expr) → length es ≢ 1 → false ≡ is_self (exprs es)
 not_self [] h = refl

@@ -14,7 +14,7 @@ use Rattle.sp_code_programs.specs.exprs.Sizes.{expr_size, keep_size, load_size}
 use Rattle.sp_code_programs.specs.exprs.Code.{keep_code, owner_code, member_of, kind_of, pending, expr_code, load_code, store_code, put_code, update_code, key_code}
 use Rattle.sp_emit.specs.Emitted.{Emitted, Adds, popped}
 use Rattle.sp_emit.proofs.Adding.{adds_as, adds_then, adds_behind}
-use Rattle.sp_code_means.proofs.Sizes.{expr_sized, keep_sized, load_sized}
+use Rattle.sp_law_code.proofs.exprs_lemmas.Sizes.{expr_sized, keep_sized, load_sized}
 
 module _ (globals : Globals) (layout : Layout) where
   abbrev code : Shape → ℕ → Expr → List Marked

@@ -23,7 +23,7 @@ use Rattle.sp_emit_expr.specs.declared.rows.Row.TheVariants as row_is
 use Rattle.sp_emit_expr.specs.Many.{row_of}
 use Rattle.sp_emit_expr.specs.Literals.{OnlyIf, PlaceFits, ReceiverFits}
 use Rattle.sp_emit_expr.proofs.Many.{lowered_above}
-use Rattle.sp_code_means.proofs.Sizes.{expr_sized, exprs_sized, keep_sized, load_sized}
+use Rattle.sp_law_code.proofs.exprs_lemmas.Sizes.{expr_sized, exprs_sized, keep_sized, load_sized}
 
 module _ (globals : Globals) (layout : Layout) where
   abbrev code : Shape → ℕ → Expr → List Marked

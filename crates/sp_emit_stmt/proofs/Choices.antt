@@ -13,8 +13,8 @@ use Rattle.sp_code_programs.specs.units.Sizes.{values_size, stmt_size, branches_
 use Rattle.sp_code_programs.specs.units.Code.{values_code, stmt_code, branches_code, cases_code}
 use Rattle.sp_emit.specs.Emitted.{Emitted, Adds, popped}
 use Rattle.sp_emit.proofs.Adding.{adds_as, adds_long, adds_then, adds_behind}
-use Rattle.sp_code_means.proofs.Sizes.{expr_sized}
-use Rattle.sp_code_bodies.proofs.Sizes.{values_sized, branches_sized, cases_sized}
+use Rattle.sp_law_code.proofs.exprs_lemmas.Sizes.{expr_sized}
+use Rattle.sp_law_code.proofs.bodies_lemmas.Sizes.{values_sized, branches_sized, cases_sized}
 
 module _ (globals : Globals) (layout : Layout) where
   abbrev code : Shape → ℕ → Expr → List Marked

@@ -16,7 +16,7 @@ use Rattle.sp_code_programs.specs.units.Code.{stmt_code}
 use Rattle.sp_emit.specs.Emitted.{Emitted, Adds, TurnsTo, popped}
 use Rattle.sp_emit.proofs.Adding.{adds_as, adds_long, adds_then, adds_behind, adds_turn}
 use Rattle.sp_emit_stmt.specs.Added.{each_code, left_code}
-use Rattle.sp_code_means.proofs.Sizes.{expr_sized}
+use Rattle.sp_law_code.proofs.exprs_lemmas.Sizes.{expr_sized}
 
 module _ (globals : Globals) (layout : Layout) where
   abbrev code : Shape → ℕ → Expr → List Marked

@@ -15,7 +15,7 @@ use Rattle.sp_emit.specs.Kinds.{Grows}
 use Rattle.sp_emit.specs.Emitted.{Emitted, Adds, TurnsTo, popped}
 use Rattle.sp_emit.proofs.Adding.{adds_as, adds_then, adds_behind, adds_turn}
 use Rattle.sp_emit.proofs.Growing.{grows_then, grows_long, kind_before}
-use Rattle.sp_code_bodies.proofs.Sizes.{stmt_sized}
+use Rattle.sp_law_code.proofs.bodies_lemmas.Sizes.{stmt_sized}
 
 -- a number of a kind is still one where kinds grow
 pub still_below : (ks js : List Kind) (n : ℕ) → Grows ks js → n < length ks → n < length js

@@ -14,7 +14,7 @@ use Rattle.sp_code_programs.specs.units.Code.{values_code}
 use Rattle.sp_emit.specs.Emitted.{Emitted, Adds, TurnsTo, popped, lowered}
 use Rattle.sp_emit.proofs.Adding.{adds_as, adds_then, adds_behind, adds_turn}
 use Rattle.sp_emit_expr.proofs.Many.{count_is, lowered_row}
-use Rattle.sp_code_bodies.proofs.Sizes.{values_sized}
+use Rattle.sp_law_code.proofs.bodies_lemmas.Sizes.{values_sized}
 
 module _ (globals : Globals) (layout : Layout) where
   abbrev code : Shape → ℕ → Expr → List Marked

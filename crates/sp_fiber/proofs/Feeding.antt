@@ -7,8 +7,8 @@ use Rattle.sp_running.specs.States.{Main, Reading, State, End}
 use Rattle.sp_running.specs.Reads.{Ask, Bytes, Read, Grows, Match, is_ended, seen_from}
 use Rattle.sp_code.specs.Machine.{Plain, Config, Next, Over, step}
 use Rattle.sp_code.specs.Runs.{Comes, here, next}
-use Rattle.sp_code_continues.specs.Laws.{IsSteady, IsWait}
-use Rattle.sp_code_continues.proofs.Steps.{steps_continue, runs_continue}
+use Rattle.sp_law_machine.specs.continues.Laws.{IsSteady, IsWait}
+use Rattle.sp_law_machine.proofs.continues_lemmas.Steps.{steps_continue, runs_continue}
 use Rattle.sp_machine.specs.declared.machine.Machine.{Machine}
 use Rattle.sp_machine.specs.Plain.{reading_of, plain, no_tokens}
 use Rattle.sp_machine.specs.Safe.{IsSafe}

@@ -6,7 +6,7 @@ use Rattle.sp_running.specs.States.{Main, Reading, State, End, Fine, Failed, Ret
 use Rattle.sp_running.specs.Scopes.{Scope, InUnit, InParts, InFailing, InCall, InSize, InMax, InFrom, InAt, InTry, needs}
 use Rattle.sp_running.specs.Reads.{Ask, Bytes, Read, is_ended}
 use Rattle.sp_code.specs.Machine.{Frame, Plain, At, Waits, Over, step, low_of}
-use Rattle.sp_code_continues.specs.Windows.{ScopesFrom, scopes_of, StateFrom, From}
+use Rattle.sp_law_machine.specs.continues.Windows.{ScopesFrom, scopes_of, StateFrom, From}
 use Rattle.sp_frames.specs.Frames.{error_of}
 use Rattle.sp_machine.specs.declared.machine.Machine.{Machine}
 use Rattle.sp_machine.specs.declared.machine.Mode.{Mode}

@@ -8,11 +8,11 @@ use Rattle.sp_running.specs.States.{Main, Reading, State, End}
 use Rattle.sp_running.specs.Reads.{Ask, Bytes, Read, is_ended}
 use Rattle.sp_code.specs.Machine.{Plain, Config, Next, Goes, Waits, Over, step, low_of}
 use Rattle.sp_code.specs.Runs.{Comes}
-use Rattle.sp_code_continues.specs.Windows.{window_from, reads_window, From}
-use Rattle.sp_code_continues.proofs.Windows.{windows_serve}
-use Rattle.sp_code_continues.proofs.Marks.{windows_run, marks_serve}
-use Rattle.sp_code_ends.specs.Ending.{whole}
-use Rattle.sp_code_ends.proofs.Windows.{base_is_within, window_of_whole}
+use Rattle.sp_law_machine.specs.continues.Windows.{window_from, reads_window, From}
+use Rattle.sp_law_machine.proofs.continues_lemmas.Windows.{windows_serve}
+use Rattle.sp_law_machine.proofs.continues_lemmas.Marks.{windows_run, marks_serve}
+use Rattle.sp_law_machine.specs.ends.Ending.{whole}
+use Rattle.sp_law_machine.proofs.ends_lemmas.Windows.{base_is_within, window_of_whole}
 use Rattle.sp_machine.specs.declared.machine.Machine.{Machine}
 use Rattle.sp_machine.specs.declared.machine.Stop.{Stop}
 use Rattle.sp_machine.specs.declared.machine.Stop.TheVariants as stop_is

@@ -7,7 +7,7 @@ use Rattle.sp_running.specs.States.{Reading, State, End}
 use Rattle.sp_running.specs.Reads.{Ask, Read, reads}
 use Rattle.sp_code.specs.Machine.{Frame, Plain, Config, At, Ending, Waits, Over, step, low_of}
 use Rattle.sp_code.specs.Runs.{Comes}
-use Rattle.sp_code_continues.specs.Windows.{From}
+use Rattle.sp_law_machine.specs.continues.Windows.{From}
 use Rattle.sp_machine.specs.Plain.{no_tokens}
 use Rattle.sp_machine.specs.Safe.{IsSafe}
 

@@ -5,7 +5,7 @@ ghost use Rattle.sp_window.specs.Windows.{end_of, most, trimmed};
 ghost use Rattle.sp_code.specs.Machine.{low_of};
 ghost use Rattle.sp_code.specs.Programs.{plain_of};
 ghost use Rattle.sp_code.specs.Turns.{Turns};
-ghost use Rattle.sp_code_continues.specs.Windows.{From};
+ghost use Rattle.sp_law_machine.specs.continues.Windows.{From};
 ghost use Rattle.sp_machine.specs.Plain.{plain, close_of};
 ghost use Rattle.sp_machine.specs.Safe.{IsSafe};
 ghost use Rattle.sp_fiber.specs.Moves.{Holds, Moved, IsSafeUnless};

@@ -21,8 +21,8 @@ use Rattle.sp_code_programs.specs.programs.Currents.{currents_of}
 use Rattle.sp_code_programs.specs.programs.Programs.{entries_from, routines_code}
 use Rattle.sp_code_programs.specs.programs.Units.{units_code, unit_entries, starters_code}
 use Rattle.sp_code_programs.specs.programs.Whole.{all_routines, units_start, behind_bodies, whole_code, IsProgramOf}
-use Rattle.sp_program_laid.proofs.Laid.{what_stands_is_laid}
-use Rattle.sp_program_laid.proofs.Routines.{routines_sized}
+use Rattle.sp_law_programs.proofs.program_laid_lemmas.Laid.{what_stands_is_laid}
+use Rattle.sp_law_programs.proofs.program_laid_lemmas.Routines.{routines_sized}
 use Rattle.sp_lower.specs.declared.programs.Code.{Code}
 use Rattle.sp_lower.specs.inside.Laid.{LaysAll}
 use Rattle.sp_lower.specs.inside.Units.{LaysUnits, AddsStarters}

@@ -18,7 +18,7 @@ use Rattle.sp_emit_stmt.specs.declared.bodies.Frame.{Frame}
 use Rattle.sp_emit_stmt.specs.Added.{AddsRoutine}
 use Rattle.sp_code_programs.specs.programs.Routines.{Routine, routine_size, entry_at, local_kinds, routine_code}
 use Rattle.sp_code_programs.specs.programs.Programs.{routines_size, entries_from, kinds_of_locals, routines_code}
-use Rattle.sp_program_laid.proofs.Routines.{routines_sized}
+use Rattle.sp_law_programs.proofs.program_laid_lemmas.Routines.{routines_sized}
 use Rattle.sp_lower.specs.declared.bodies.Bodies.{Bodies}
 use Rattle.sp_lower.specs.inside.Laid.{entry_of, placed_at, FrameStands, IsRoutine, Lays}
 

@@ -8,12 +8,12 @@ use Rattle.sp_running.specs.Reads.{Ask, Read}
 use Rattle.sp_code.specs.Machine.{Plain, Config, At, Ending, Next, Goes, Waits, Over, step}
 use Rattle.sp_code.specs.Turns.{Turns}
 use Rattle.sp_code.specs.Runs.{Comes, here, next}
-use Rattle.sp_code_keeps.specs.Laws.{IsKept}
-use Rattle.sp_code_keeps.proofs.Kept.{steps_keep, instructions_can}
-use Rattle.sp_code_continues.specs.Windows.{reads_window}
-use Rattle.sp_code_continues.proofs.Marks.{windows_run}
-use Rattle.sp_code_ends.specs.Ending.{steps_left, whole, CanAct}
-use Rattle.sp_code_ends.proofs.Windows.{base_is_within, window_of_whole, window_steps_fall}
+use Rattle.sp_law_machine.specs.keeps.Laws.{IsKept}
+use Rattle.sp_law_machine.proofs.keeps_lemmas.Kept.{steps_keep, instructions_can}
+use Rattle.sp_law_machine.specs.continues.Windows.{reads_window}
+use Rattle.sp_law_machine.proofs.continues_lemmas.Marks.{windows_run}
+use Rattle.sp_law_machine.specs.ends.Ending.{steps_left, whole, CanAct}
+use Rattle.sp_law_machine.proofs.ends_lemmas.Windows.{base_is_within, window_of_whole, window_steps_fall}
 use Rattle.sp_machine.specs.declared.machine.Stop.{Stop}
 use Rattle.sp_machine.specs.declared.machine.Stop.TheVariants as stop_is
 use Rattle.sp_machine.specs.Plain.{no_tokens, close_of, reads_of, Leads, Does}

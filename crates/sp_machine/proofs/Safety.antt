@@ -11,8 +11,8 @@ use Rattle.sp_code.specs.declared.instr.Instr.{Instr}
 use Rattle.sp_code.specs.Can.{Can}
 use Rattle.sp_code.specs.Machine.{Frame, Plain, At, Ending}
 use Rattle.sp_code.specs.Shapes.{Shape, Shapes, Opens, AView, ATry, Round, OfUnit, OfEnding, OfFailing, OfFunction, OfHook, IsOfUnit, IsRound, MayEnd, Framed, IsTry}
-use Rattle.sp_code_continues.specs.Windows.{PlaceFrom}
-use Rattle.sp_code_keeps.proofs.Kept.{instructions_can}
+use Rattle.sp_law_machine.specs.continues.Windows.{PlaceFrom}
+use Rattle.sp_law_machine.proofs.keeps_lemmas.Kept.{instructions_can}
 use Rattle.sp_machine.specs.Bodies.{IsNoCall, IsNoUnit, InnermostIsNoCall, InnermostIsNoUnit}
 use Rattle.sp_machine.specs.Safe.{IsSafe}
 

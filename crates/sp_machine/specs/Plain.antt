@@ -6,7 +6,7 @@ use Rattle.sp_window.specs.Windows.{Held}
 use Rattle.sp_running.specs.States.{Main, Reading, State, Fine, Failed, Returned}
 use Rattle.sp_running.specs.Reads.{Ask, Read, Verdict, Grows}
 use Rattle.sp_code.specs.Machine.{Config, At, Ending, Next, Goes, Waits, Over}
-use Rattle.sp_code_continues.specs.Windows.{reads_window}
+use Rattle.sp_law_machine.specs.continues.Windows.{reads_window}
 use Rattle.sp_frames.specs.Frames.{error_of}
 use Rattle.sp_machine.specs.declared.machine.Machine.{Machine}
 use Rattle.sp_machine.specs.declared.machine.Mode.{Mode}

@@ -6,7 +6,7 @@ use Rattle.sp_running.specs.States.{Reading}
 use Rattle.sp_running.specs.Reads.{Ask, Read}
 use Rattle.sp_code.specs.Machine.{Plain, Config, Next, Waits, Over, step}
 use Rattle.sp_code.specs.Runs.{Comes}
-use Rattle.sp_code_ends.specs.Ending.{steps_left, whole}
+use Rattle.sp_law_machine.specs.ends.Ending.{steps_left, whole}
 use Rattle.sp_machine.specs.declared.machine.Stop.{Stop}
 use Rattle.sp_machine.specs.declared.machine.Stop.TheVariants as stop_is
 use Rattle.sp_machine.specs.Plain.{Does}

@@ -2,7 +2,7 @@
 use Rattle.sp_window.specs.Windows.{Held}
 use Rattle.sp_code.specs.Machine.{Plain, Config}
 use Rattle.sp_code.specs.Shapes.{Shapes, Shaped, IsSound}
-use Rattle.sp_code_continues.specs.Windows.{From}
+use Rattle.sp_law_machine.specs.continues.Windows.{From}
 
 pub record IsSafe (p : Plain) (w : Held) (c : Config) : Type 0 where
   pub shapes : Shapes

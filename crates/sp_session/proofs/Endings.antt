@@ -16,8 +16,8 @@ use Rattle.sp_machine.specs.declared.machine.Machine.{Machine}
 use Rattle.sp_machine.specs.declared.machine.Mode.{Mode}
 use Rattle.sp_machine.specs.declared.machine.Mode.TheVariants.{Running, Leaving, Returning, Failing}
 use Rattle.sp_machine.specs.Plain.{reading_of, state_of, plain_in, plain}
-use Rattle.sp_unit_told.specs.Told.{end_of, events_of, told_end, IsOverIn, Tells}
-use Rattle.sp_unit_told.specs.Told as results
+use Rattle.sp_law_programs.specs.unit_told.Told.{end_of, events_of, told_end, IsOverIn, Tells}
+use Rattle.sp_law_programs.specs.unit_told.Told as results
 use Rattle.sp_fiber.specs.declared.stand.Stand.{Stand}
 use Rattle.sp_fiber.specs.declared.stand.Stand.TheVariants as stand_is
 use Rattle.sp_fiber.specs.Moves.{whole_reads}

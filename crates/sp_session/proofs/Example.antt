@@ -16,16 +16,16 @@ use Rattle.sp_code_programs.specs.exprs.Code.{kind_at}
 use Rattle.sp_code_programs.specs.programs.Currents.{currents_of}
 use Rattle.sp_code_programs.specs.programs.Named.{hook_names_of}
 use Rattle.sp_code_programs.specs.programs.Whole.{starter_at, IsProgramOf}
-use Rattle.sp_program_laid.specs.Fits as laid
-use Rattle.sp_program_laid.specs.Places.{StmtChangesPlaces}
-use Rattle.sp_program_laid.specs.Arguments.{StmtArgumentsMatch}
-use Rattle.sp_bodies_end.specs.Finished.{HookFits, FunctionsFit}
-use Rattle.sp_unit_told.specs.Told.{Starts}
-use Rattle.sp_units_end.specs.Built.{HookIsBuilt, UnitIsBuilt, HooksFit}
-use Rattle.sp_units_end.specs.Meaning.{RunsUnit}
-use Rattle.sp_whole_program.specs.Fits.{UnitFits, ListFits}
-use Rattle.sp_whole_program.proofs.Programs.{programs_have_bodies, programs_have_units, programs_have_starters}
-use Rattle.sp_whole_program.proofs.Fitting.{listed_units_fit, listed_calls_count, fitting_programs_are_sound}
+use Rattle.sp_law_programs.specs.program_laid.Fits as laid
+use Rattle.sp_law_programs.specs.program_laid.Places.{StmtChangesPlaces}
+use Rattle.sp_law_programs.specs.program_laid.Arguments.{StmtArgumentsMatch}
+use Rattle.sp_law_programs.specs.bodies_end.Finished.{HookFits, FunctionsFit}
+use Rattle.sp_law_programs.specs.unit_told.Told.{Starts}
+use Rattle.sp_law_programs.specs.units_end.Built.{HookIsBuilt, UnitIsBuilt, HooksFit}
+use Rattle.sp_law_programs.specs.units_end.Meaning.{RunsUnit}
+use Rattle.sp_law_programs.specs.whole_program.Fits.{UnitFits, ListFits}
+use Rattle.sp_law_programs.proofs.whole_program_lemmas.Programs.{programs_have_bodies, programs_have_units, programs_have_starters}
+use Rattle.sp_law_programs.proofs.whole_program_lemmas.Fitting.{listed_units_fit, listed_calls_count, fitting_programs_are_sound}
 use Rattle.sp_session.specs.Session.{Runs}
 use Rattle.sp_session.specs.Laws.{ExampleRuns}
 use Rattle.sp_session.specs.Example.{byte, one_byte, done_body, list, program, unit_kinds, shapes}

@@ -13,17 +13,17 @@ use Rattle.sp_code.specs.Machine.{Plain, Config, step}
 use Rattle.sp_code.specs.Programs.{units_of, names_of, plain_of, shapes_of}
 use Rattle.sp_code.specs.Runs.{Comes}
 use Rattle.sp_code.specs.Shapes.{Shaped}
-use Rattle.sp_code_continues.specs.Laws.{IsSteady}
-use Rattle.sp_code_ends.specs.Ending.{IsStop}
+use Rattle.sp_law_machine.specs.continues.Laws.{IsSteady}
+use Rattle.sp_law_machine.specs.ends.Ending.{IsStop}
 use Rattle.sp_machine.specs.Plain.{no_tokens}
 use Rattle.sp_code_programs.specs.programs.Named.{hook_names_of, value_names_of}
 use Rattle.sp_code_programs.specs.programs.Whole.{starter_at}
-use Rattle.sp_unit_told.specs.Told.{end_of, events_of, IsNeed, Tells}
-use Rattle.sp_unit_told.proofs.Kept.{started_keeps}
-use Rattle.sp_units_end.specs.Meaning.{meaning}
-use Rattle.sp_units_end.specs.Laws.{IsLast}
-use Rattle.sp_units_end.proofs.Meanings.{stops_tell, meanings_stay, ended_inputs_decide}
-use Rattle.sp_whole_program.proofs.Programs.{units_mean_theirs, starters_are_last, starter_shows}
+use Rattle.sp_law_programs.specs.unit_told.Told.{end_of, events_of, IsNeed, Tells}
+use Rattle.sp_law_programs.proofs.unit_told_lemmas.Kept.{started_keeps}
+use Rattle.sp_law_programs.specs.units_end.Meaning.{meaning}
+use Rattle.sp_law_programs.specs.units_end.Laws.{IsLast}
+use Rattle.sp_law_programs.proofs.units_end_lemmas.Meanings.{stops_tell, meanings_stay, ended_inputs_decide}
+use Rattle.sp_law_programs.proofs.whole_program_lemmas.Programs.{units_mean_theirs, starters_are_last, starter_shows}
 use Rattle.sp_fiber.specs.Moves.{whole_reads}
 use Rattle.sp_session.specs.Units.{unit_result}
 use Rattle.sp_session.specs.Session.{Runs, start}

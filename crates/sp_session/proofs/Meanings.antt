@@ -10,8 +10,8 @@ use Rattle.sp_running.specs.States.{Gives, Failed, Need, Result, Ends}
 use Rattle.sp_running.specs.Telling.{Names}
 use Rattle.sp_code.specs.declared.program.Program.{Program}
 use Rattle.sp_code_programs.specs.programs.Named.{value_names_of}
-use Rattle.sp_unit_told.specs.Told.{end_of, events_of, IsNeed}
-use Rattle.sp_units_end.specs.Laws.{IsLast}
+use Rattle.sp_law_programs.specs.unit_told.Told.{end_of, events_of, IsNeed}
+use Rattle.sp_law_programs.specs.units_end.Laws.{IsLast}
 use Rattle.sp_meaning.specs.declared.stand.Stand.{Stand}
 use Rattle.sp_meaning.specs.declared.stand.Stand.TheVariants as stand_is
 use Rattle.sp_meaning.specs.Meaning.{Meaning}

@@ -16,11 +16,11 @@ use Rattle.sp_code.specs.Machine.{Frame, Plain, Config, At, Ending, Next, Waits,
 use Rattle.sp_code.specs.Programs.{names_of, plain_of, shapes_of}
 use Rattle.sp_code.specs.Shapes.{Shaped}
 use Rattle.sp_code.specs.Runs.{Comes}
-use Rattle.sp_code_ends.specs.Ending.{IsStop}
+use Rattle.sp_law_machine.specs.ends.Ending.{IsStop}
 use Rattle.sp_code_programs.specs.programs.Named.{value_names_of}
 use Rattle.sp_code_programs.specs.programs.Whole.{starter_at}
-use Rattle.sp_unit_told.specs.Told.{end_of, events_of, told_end, Tells}
-use Rattle.sp_unit_told.specs.Told as results
+use Rattle.sp_law_programs.specs.unit_told.Told.{end_of, events_of, told_end, Tells}
+use Rattle.sp_law_programs.specs.unit_told.Told as results
 use Rattle.sp_fiber.specs.declared.phase.Phase.{Phase as FiberPhase}
 use Rattle.sp_fiber.specs.declared.phase.Phase.TheVariants as fiber_is
 use Rattle.sp_fiber.specs.Moves.{whole_reads, frames_of, IsWaiting, IsOver}

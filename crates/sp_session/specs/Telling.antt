@@ -6,7 +6,7 @@ use Rattle.sp_events.specs.declared.event.What.{What}
 use Rattle.sp_running.specs.States.{Result}
 use Rattle.sp_running.specs.Telling.{Names}
 use Rattle.sp_code.specs.Machine.{Config}
-use Rattle.sp_unit_told.specs.Told.{events_of, Tells}
+use Rattle.sp_law_programs.specs.unit_told.Told.{events_of, Tells}
 use Rattle.sp_fiber.specs.Moves.{whole_reads}
 use Rattle.sp_fiber.specs.Fibers.{Suspended, StandsFor, EndedFor, HasRun}
 use Rattle.sp_meaning.specs.declared.stand.Stand.{Stand}

@@ -10,8 +10,8 @@ use Rattle.sp_typed_units.specs.declared.declarations.Typed.{Typed}
 use Rattle.sp_running.specs.States.{Error, Gives, Failed, Need, Result, Ends}
 use Rattle.sp_running.specs.Telling.{Names, value_tree}
 use Rattle.sp_code_programs.specs.programs.Named.{value_names_of}
-use Rattle.sp_unit_told.specs.Told.{events_of}
-use Rattle.sp_whole_program.specs.Meant.{list_means}
+use Rattle.sp_law_programs.specs.unit_told.Told.{events_of}
+use Rattle.sp_law_programs.specs.whole_program.Meant.{list_means}
 use Rattle.sp_fiber.specs.Moves.{whole_reads}
 use Rattle.sp_meaning.specs.declared.stand.Stand.{Stand}
 use Rattle.sp_meaning.specs.Meaning.{Meaning, UnitMeaning, told}

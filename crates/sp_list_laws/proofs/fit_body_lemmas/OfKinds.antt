@@ -12,7 +12,7 @@ use Rattle.sp_types.specs.Types as types
 use Rattle.sp_running.specs.Types.{kind_of_type, kinds_of_types, first_of, behind_first}
 use Rattle.sp_code.specs.Kinds.{kind_of_two, IsGoneOver, over_vector, over_set, over_bytes, over_map}
 use Rattle.sp_code.specs.Shapes.{IsResult, IsKeyOf}
-use Rattle.sp_code_bodies.specs.Fits.{IsAssigned}
+use Rattle.sp_law_code.specs.bodies.Fits.{IsAssigned}
 use Rattle.sp_list_laws.specs.fit_expr.Sorts as sort_is
 use Rattle.sp_list_laws.specs.fit_expr.Lists.{part_is}
 use Rattle.sp_list_laws.proofs.fit_expr_lemmas.OfSorts.{of_sort, operator_gives}

@@ -11,11 +11,11 @@ use Rattle.sp_bodies.specs.Globals.{Globals, Layout}
 use Rattle.sp_bodies.specs.Exprs.{slot_local}
 use Rattle.sp_code.specs.Machine.{Plain}
 use Rattle.sp_code.specs.Shapes.{Round, Shapes}
-use Rattle.sp_code_bodies.specs.Fits.{StmtsFit, BranchesFit, CasesFit}
-use Rattle.sp_bodies_end.specs.Built.{StmtsAreBuilt, BranchesAreBuilt, CasesAreBuilt}
+use Rattle.sp_law_code.specs.bodies.Fits.{StmtsFit, BranchesFit, CasesFit}
+use Rattle.sp_law_programs.specs.bodies_end.Built.{StmtsAreBuilt, BranchesAreBuilt, CasesAreBuilt}
 use Rattle.sp_emit_stmt.specs.Literals.{StmtsLiteralsFit, BranchesLiteralsFit, CasesLiteralsFit}
-use Rattle.sp_program_laid.specs.Arguments.{StmtsArgumentsMatch, BranchesArgumentsMatch, CasesArgumentsMatch}
-use Rattle.sp_program_laid.specs.Places.{StmtsChangePlaces, BranchesChangePlaces, CasesChangePlaces}
+use Rattle.sp_law_programs.specs.program_laid.Arguments.{StmtsArgumentsMatch, BranchesArgumentsMatch, CasesArgumentsMatch}
+use Rattle.sp_law_programs.specs.program_laid.Places.{StmtsChangePlaces, BranchesChangePlaces, CasesChangePlaces}
 use Rattle.sp_list_laws.specs.fit_expr.Around.{globals_in, locals_in}
 use Rattle.sp_list_laws.specs.fit_expr.Passes.{Tables}
 use Rattle.sp_list_laws.specs.fit_expr.Test.{expr_passes, place_passes}

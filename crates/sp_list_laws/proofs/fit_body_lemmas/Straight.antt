@@ -20,13 +20,13 @@ use Rattle.sp_code.specs.Kinds.{kind_of_two}
 use Rattle.sp_code.specs.Machine.{Plain}
 use Rattle.sp_code.specs.Shapes.{Round, Shapes}
 use Rattle.sp_code_programs.specs.exprs.Code.{kind_of, kind_at}
-use Rattle.sp_code_bodies.specs.Fits.{BareFits, ValuedFits, ValuesFit}
-use Rattle.sp_bodies_end.specs.Built.{ExprIsBuilt, PlaceIsBuilt, AllAreBuilt, BareIsBuilt, ValuedIsBuilt}
+use Rattle.sp_law_code.specs.bodies.Fits.{BareFits, ValuedFits, ValuesFit}
+use Rattle.sp_law_programs.specs.bodies_end.Built.{ExprIsBuilt, PlaceIsBuilt, AllAreBuilt, BareIsBuilt, ValuedIsBuilt}
 use Rattle.sp_emit_expr.specs.Literals.{AllLiteralsFit}
 use Rattle.sp_emit_stmt.specs.Literals.{ValuedLiteralsFit}
-use Rattle.sp_program_laid.specs.Arguments.{ArgumentsMatch, AllArgumentsMatch}
-use Rattle.sp_program_laid.specs.Places.{ChangesPlaces, AllChangePlaces, HasTarget}
-use Rattle.sp_program_laid.proofs.Zeros.{zero_has}
+use Rattle.sp_law_programs.specs.program_laid.Arguments.{ArgumentsMatch, AllArgumentsMatch}
+use Rattle.sp_law_programs.specs.program_laid.Places.{ChangesPlaces, AllChangePlaces, HasTarget}
+use Rattle.sp_law_programs.proofs.program_laid_lemmas.Zeros.{zero_has}
 use Rattle.sp_list_laws.specs.fit_expr.Around.{Around, globals_in, locals_in}
 use Rattle.sp_list_laws.specs.fit_expr.Sorts as sort_is
 use Rattle.sp_list_laws.specs.fit_expr.Passes.{Tables, ExprPasses}

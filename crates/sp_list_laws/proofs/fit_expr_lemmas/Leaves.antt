@@ -22,9 +22,9 @@ use Rattle.sp_code.specs.Kinds.{IsItemOf, of_bits}
 use Rattle.sp_code.specs.Machine.{Plain}
 use Rattle.sp_code.specs.Shapes.{UnitKinds, Shapes, IsMember}
 use Rattle.sp_methods.specs.Kinds as kinds
-use Rattle.sp_program_laid.proofs.Zeros.{zero_has}
-use Rattle.sp_code_means.specs.Parts.{OneOf, LeafFits}
-use Rattle.sp_bodies_end.specs.Built.{LeafIsBuilt}
+use Rattle.sp_law_programs.proofs.program_laid_lemmas.Zeros.{zero_has}
+use Rattle.sp_law_code.specs.exprs.Parts.{OneOf, LeafFits}
+use Rattle.sp_law_programs.specs.bodies_end.Built.{LeafIsBuilt}
 use Rattle.sp_emit_expr.specs.Literals as literals
 use Rattle.sp_list_laws.specs.fit_expr.Around.{Around, globals_in, locals_in}
 use Rattle.sp_list_laws.specs.fit_expr.Sorts as sort_is

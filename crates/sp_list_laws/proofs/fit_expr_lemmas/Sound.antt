@@ -24,13 +24,13 @@ use Rattle.sp_bodies.specs.Exprs.{negative, negative_literal, offset_local, is_s
 use Rattle.sp_code.specs.Machine.{Plain}
 use Rattle.sp_code.specs.Shapes.{Shapes, IsMember}
 use Rattle.sp_code_programs.specs.exprs.Code.{count, member_of, place_local, kinds_on}
-use Rattle.sp_code_means.specs.Parts as expressions
-use Rattle.sp_bodies_end.specs.Built.{IsThere, PartIsBuilt, PartsAreBuilt, ExprIsBuilt, AllAreBuilt, ReceiverIsBuilt, PlaceIsBuilt}
+use Rattle.sp_law_code.specs.exprs.Parts as expressions
+use Rattle.sp_law_programs.specs.bodies_end.Built.{IsThere, PartIsBuilt, PartsAreBuilt, ExprIsBuilt, AllAreBuilt, ReceiverIsBuilt, PlaceIsBuilt}
 use Rattle.sp_emit_expr.specs.declared.rows.Row.TheVariants as row_is
 use Rattle.sp_emit_expr.specs.Many.{row_of}
 use Rattle.sp_emit_expr.specs.Literals.{number_behind, negative_number, NegativeFits, LeafFits, LiteralsFit, AllLiteralsFit, PlaceFits, ReceiverFits}
-use Rattle.sp_program_laid.specs.Arguments.{CallMatches, ArgumentsMatch, AllArgumentsMatch}
-use Rattle.sp_program_laid.specs.Places.{IsPlace, BeginsWithPlace, HasReceiver, ChangesPlaces, AllChangePlaces}
+use Rattle.sp_law_programs.specs.program_laid.Arguments.{CallMatches, ArgumentsMatch, AllArgumentsMatch}
+use Rattle.sp_law_programs.specs.program_laid.Places.{IsPlace, BeginsWithPlace, HasReceiver, ChangesPlaces, AllChangePlaces}
 use Rattle.sp_list_laws.specs.fit_expr.Around.{Around, globals_in, locals_in}
 use Rattle.sp_list_laws.specs.fit_expr.Sorts as sort_is
 use Rattle.sp_list_laws.specs.fit_expr.Passes.{Tables, ExprPasses, ExprsPass, PlacePasses}

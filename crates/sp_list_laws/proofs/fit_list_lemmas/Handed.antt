@@ -20,7 +20,7 @@ use Rattle.sp_code.specs.Shapes.{OfHook}
 use Rattle.sp_code_programs.specs.exprs.Code.{kind_at}
 use Rattle.sp_code_programs.specs.programs.Routines.{hook_unit, parameter_kinds, slot_kinds}
 use Rattle.sp_code_programs.specs.programs.Currents.{hooked_field, current_type, currents_of}
-use Rattle.sp_whole_program.specs.Laws.{CurrentsAreListed}
+use Rattle.sp_law_programs.specs.whole_program.Laws.{CurrentsAreListed}
 use Rattle.sp_list_laws.specs.fit_body.Passes.{StmtPasses}
 use Rattle.sp_list_laws.specs.fit_list.Locals.{parameter_types}
 use Rattle.sp_list_laws.specs.fit_list.Stored.{stored_type, type_for}

@@ -20,10 +20,10 @@ use Rattle.sp_bodies.specs.Units.{IntegerForm, integer_field}
 use Rattle.sp_code.specs.Machine.{Plain}
 use Rattle.sp_code.specs.Shapes.{Shapes, read_kind}
 use Rattle.sp_code_programs.specs.programs.Routines.{hook_unit}
-use Rattle.sp_whole_program.specs.Laws.{CurrentsAreListed}
-use Rattle.sp_whole_program.specs.Fits.{IsOfField, IsOfValue, AreOfField, AreOfValue, HasMember, StoreFits, IntegerFits, PartsFit, ValueFits, VariablesFit}
-use Rattle.sp_bodies_end.specs.Built.{IsThere}
-use Rattle.sp_units_end.specs.Built as built
+use Rattle.sp_law_programs.specs.whole_program.Laws.{CurrentsAreListed}
+use Rattle.sp_law_programs.specs.whole_program.Fits.{IsOfField, IsOfValue, AreOfField, AreOfValue, HasMember, StoreFits, IntegerFits, PartsFit, ValueFits, VariablesFit}
+use Rattle.sp_law_programs.specs.bodies_end.Built.{IsThere}
+use Rattle.sp_law_programs.specs.units_end.Built as built
 use Rattle.sp_emit_unit.specs.Values as literals
 use Rattle.sp_list_laws.specs.fit_expr.Around.{Around}
 use Rattle.sp_list_laws.specs.fit_expr.Sorts as sort_is

@@ -16,9 +16,9 @@ use Rattle.sp_code_programs.specs.exprs.Code.{kind_at}
 use Rattle.sp_code_programs.specs.programs.Routines.{hook_unit, slot_kinds, handed_kinds}
 use Rattle.sp_code_programs.specs.programs.Currents.{currents_of}
 use Rattle.sp_code_programs.specs.programs.Whole.{IsProgramOf}
-use Rattle.sp_code_bodies.specs.Fits.{StmtFits}
-use Rattle.sp_whole_program.specs.Laws.{MembersAreListed, FunctionsAreEntered, CurrentsAreListed}
-use Rattle.sp_whole_program.specs.Fits.{ListFits, UnitFits}
+use Rattle.sp_law_code.specs.bodies.Fits.{StmtFits}
+use Rattle.sp_law_programs.specs.whole_program.Laws.{MembersAreListed, FunctionsAreEntered, CurrentsAreListed}
+use Rattle.sp_law_programs.specs.whole_program.Fits.{ListFits, UnitFits}
 use Rattle.sp_list_laws.specs.fit_expr.Passes.{Tables, ConstantsFit}
 use Rattle.sp_list_laws.specs.fit_list.Passes.{ListPasses}
 use Rattle.sp_list_laws.specs.fit_list.Stored.{type_for}

@@ -24,11 +24,11 @@ use Rattle.sp_check_unit.specs.Rules.{Breaks}
 use Rattle.sp_unbuilt.specs.Fields.{kinds_in_units}
 use Rattle.sp_unbuilt.specs.Unbuilt.{Texts, tests_from, unbuilt_tests, first_unbuilt}
 use Rattle.sp_bodies.specs.Globals.{globals_of}
-use Rattle.sp_bodies_end.specs.Built.{StmtIsBuilt}
-use Rattle.sp_units_end.specs.Built.{UnitIsBuilt}
+use Rattle.sp_law_programs.specs.bodies_end.Built.{StmtIsBuilt}
+use Rattle.sp_law_programs.specs.units_end.Built.{UnitIsBuilt}
 use Rattle.sp_emit_unit.specs.Values.{ValuesFit}
 use Rattle.sp_emit_stmt.specs.Literals.{StmtLiteralsFit}
-use Rattle.sp_whole_program.specs.Laws.{MembersAreListed, FunctionsAreEntered, CurrentsAreListed}
+use Rattle.sp_law_programs.specs.whole_program.Laws.{MembersAreListed, FunctionsAreEntered, CurrentsAreListed}
 use Rattle.sp_list_laws.specs.whole_list.Whole.{is_known_order, is_known_enum, is_known_constant, is_known_unit, is_known_function, is_known_hook, is_known_list}
 use Rattle.sp_list_laws.proofs.known_constants_lemmas.Declarations.{AllOf, at_all}
 use Rattle.sp_list_laws.specs.known_members.Given.{unit_reads}

@@ -6,11 +6,11 @@ use Rattle.sp_typed_units.specs.declared.declarations.Typed.{Typed}
 use Rattle.sp_bodies.specs.Globals.{Layout, globals_of}
 use Rattle.sp_code.specs.Machine.{Plain}
 use Rattle.sp_code.specs.Shapes.{Round, Shapes}
-use Rattle.sp_code_bodies.specs.Fits.{StmtFits}
-use Rattle.sp_bodies_end.specs.Built.{StmtIsBuilt}
+use Rattle.sp_law_code.specs.bodies.Fits.{StmtFits}
+use Rattle.sp_law_programs.specs.bodies_end.Built.{StmtIsBuilt}
 use Rattle.sp_emit_stmt.specs.Literals.{StmtLiteralsFit}
-use Rattle.sp_program_laid.specs.Arguments.{StmtArgumentsMatch}
-use Rattle.sp_program_laid.specs.Places.{StmtChangesPlaces}
+use Rattle.sp_law_programs.specs.program_laid.Arguments.{StmtArgumentsMatch}
+use Rattle.sp_law_programs.specs.program_laid.Places.{StmtChangesPlaces}
 use Rattle.sp_list_laws.specs.fit_expr.Passes.{Tables}
 
 -- A statement of a body with these locals and this unit, which returns so, in a loop or in none: its parts are of the kinds that its form

@@ -15,11 +15,11 @@ use Rattle.sp_bodies.specs.Globals.{Layout, globals_of, constant_value}
 use Rattle.sp_code.specs.Machine.{Plain}
 use Rattle.sp_code.specs.Shapes.{UnitKinds, Shapes, OfFunction, IsMember, Enters}
 use Rattle.sp_code_programs.specs.programs.Routines.{parameter_kinds}
-use Rattle.sp_code_means.specs.Parts as expressions
-use Rattle.sp_bodies_end.specs.Built.{ExprIsBuilt, AllAreBuilt, PlaceIsBuilt}
+use Rattle.sp_law_code.specs.exprs.Parts as expressions
+use Rattle.sp_law_programs.specs.bodies_end.Built.{ExprIsBuilt, AllAreBuilt, PlaceIsBuilt}
 use Rattle.sp_emit_expr.specs.Literals.{LiteralsFit, AllLiteralsFit, PlaceFits}
-use Rattle.sp_program_laid.specs.Arguments.{ArgumentsMatch, AllArgumentsMatch}
-use Rattle.sp_program_laid.specs.Places.{IsPlace, ChangesPlaces, AllChangePlaces}
+use Rattle.sp_law_programs.specs.program_laid.Arguments.{ArgumentsMatch, AllArgumentsMatch}
+use Rattle.sp_law_programs.specs.program_laid.Places.{IsPlace, ChangesPlaces, AllChangePlaces}
 
 -- each constant that has a value has one of the kind of its type, whatever instances there are
 abbrev pub ConstantsFit : Typed → Type 0

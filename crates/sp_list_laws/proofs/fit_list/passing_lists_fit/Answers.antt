@@ -1,5 +1,5 @@
-use Rattle.sp_whole_program.proofs.Programs.{members_are_listed, functions_are_entered}
-use Rattle.sp_whole_program.proofs.Tables.{currents_are_listed}
+use Rattle.sp_law_programs.proofs.whole_program_lemmas.Programs.{members_are_listed, functions_are_entered}
+use Rattle.sp_law_programs.proofs.whole_program_lemmas.Tables.{currents_are_listed}
 use Rattle.sp_list_laws.proofs.fit_list_lemmas.Whole.{list_passes}
 use Rattle.sp_list_laws.proofs.fit_list.passing_lists_fit.Goals as goal
 

@@ -1,5 +1,5 @@
 use Rattle.sp_code.specs.Programs.{plain_of}
-use Rattle.sp_code_ends.specs.Ending.{steps_left, whole}
+use Rattle.sp_law_machine.specs.ends.Ending.{steps_left, whole}
 use Rattle.sp_machine.specs.Plain.{plain, reads_of}
 use Rattle.sp_machine.specs.Ran.{Came}
 use Rattle.sp_machine.proofs.machine.Machine.run.Given as goal

@@ -1,0 +1,4 @@
+pub mod exprs
+pub mod bodies
+pub mod units
+pub mod turns

@@ -1,0 +1,3 @@
+pub mod keeps
+pub mod continues
+pub mod ends

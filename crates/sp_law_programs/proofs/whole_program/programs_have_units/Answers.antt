@@ -1,0 +1,5 @@
+use Rattle.sp_law_programs.proofs.whole_program_lemmas.Programs.{programs_have_units}
+use Rattle.sp_law_programs.proofs.whole_program.programs_have_units.Goals as goal
+
+pub returns : goal.returns
+returns c = programs_have_units

@@ -1,0 +1,15 @@
+-- What a unit of a list of modules means, from the list alone.
+use Rattle.std.specs.Prelude.{ℕ, List}
+use Rattle.sp_base.specs.declared.places.Limits.{Limits}
+use Rattle.sp_value.specs.Val.{Val}
+use Rattle.sp_typed_units.specs.declared.declarations.Typed.{Typed}
+use Rattle.sp_running.specs.States.{Reading, Result}
+use Rattle.sp_running.specs.Reads.{Ask, Read}
+use Rattle.sp_bodies.specs.Units.{unit_means}
+use Rattle.sp_code_programs.specs.programs.Named.{hook_names_of, value_names_of}
+use Rattle.sp_law_programs.specs.unit_told.Told.{first}
+
+-- What the unit u means within limits with these arguments, the last first, from the first state on; at most n calls and rounds are inside
+-- one another.
+abbrev pub list_means : Typed → Limits → (Reading → Ask → Read) → ℕ → ℕ → List Val → Result
+list_means list limits reads n u ws = unit_means (value_names_of list) (hook_names_of list) list limits reads n u ws first
