@@ -2,8 +2,10 @@
 ghost use Rattle.std.specs.Prelude.{◌≡◌};
 ghost use Rattle.sp_base.specs.Kinds.{module_kind_name, module_kind_number, run_kind_name, batch_kind_name};
 
+use std::fmt;
+
 /// Why a module is refused.
-#[derive(Clone, Copy, Debug, PartialEq, Eq)]
+#[derive(Clone, Copy, PartialEq, Eq)]
 pub enum MKind {
     /// The text is not UTF-8, or holds a byte 0.
     NotText,
@@ -76,85 +78,25 @@ impl MKind {
     pub fn number(self) -> u8
         ensures { result ≡ module_kind_number self }
     {
-        match self {
-            MKind::NotText => 1,
-            MKind::BadToken => 2,
-            MKind::Unexpected => 3,
-            MKind::TooLarge => 4,
-            MKind::ModuleNotFound => 5,
-            MKind::ModuleTwice => 6,
-            MKind::NameTwice => 7,
-            MKind::UnknownName => 8,
-            MKind::TypeMismatch => 9,
-            MKind::NotAssignable => 10,
-            MKind::BadAttribute => 11,
-            MKind::MissingBound => 12,
-            MKind::AttributeClash => 13,
-            MKind::BadBitRange => 14,
-            MKind::LiteralRange => 15,
-            MKind::NotConstant => 16,
-            MKind::BadRegex => 17,
-            MKind::EmptyToken => 18,
-            MKind::NoLookAhead => 19,
-            MKind::LookAheadClash => 20,
-            MKind::UnknownHook => 21,
-            MKind::SelfOutside => 22,
-            MKind::MissingReturn => 23,
-            MKind::OutsideLoop => 24,
-            MKind::WrongArguments => 25,
-            MKind::FilterPlace => 26,
-            MKind::SyncNoToken => 27,
-            MKind::HookSeesState => 28,
-            MKind::TooMany => 29,
-            MKind::OutOfProfile => 30,
-            MKind::TooDeep => 31,
-            MKind::NoParser => 32,
-        }
+        self as u8 + 1
     }
 
     /// The word of this kind, as programs print it.
     pub fn name(self) -> &'static str
         ensures { result.now ≡ module_kind_name self }
     {
-        match self {
-            MKind::NotText => "NotText",
-            MKind::BadToken => "BadToken",
-            MKind::Unexpected => "Unexpected",
-            MKind::TooLarge => "TooLarge",
-            MKind::ModuleNotFound => "ModuleNotFound",
-            MKind::ModuleTwice => "ModuleTwice",
-            MKind::NameTwice => "NameTwice",
-            MKind::UnknownName => "UnknownName",
-            MKind::TypeMismatch => "TypeMismatch",
-            MKind::NotAssignable => "NotAssignable",
-            MKind::BadAttribute => "BadAttribute",
-            MKind::MissingBound => "MissingBound",
-            MKind::AttributeClash => "AttributeClash",
-            MKind::BadBitRange => "BadBitRange",
-            MKind::LiteralRange => "LiteralRange",
-            MKind::NotConstant => "NotConstant",
-            MKind::BadRegex => "BadRegex",
-            MKind::EmptyToken => "EmptyToken",
-            MKind::NoLookAhead => "NoLookAhead",
-            MKind::LookAheadClash => "LookAheadClash",
-            MKind::UnknownHook => "UnknownHook",
-            MKind::SelfOutside => "SelfOutside",
-            MKind::MissingReturn => "MissingReturn",
-            MKind::OutsideLoop => "OutsideLoop",
-            MKind::WrongArguments => "WrongArguments",
-            MKind::FilterPlace => "FilterPlace",
-            MKind::SyncNoToken => "SyncNoToken",
-            MKind::HookSeesState => "HookSeesState",
-            MKind::TooMany => "TooMany",
-            MKind::OutOfProfile => "OutOfProfile",
-            MKind::TooDeep => "TooDeep",
-            MKind::NoParser => "NoParser",
-        }
+        MODULE_WORDS[self as usize]
+    }
+}
+
+impl fmt::Debug for MKind {
+    fn fmt<W: fmt::Write>(&self, f: &mut fmt::Formatter<W>) -> fmt::Result {
+        f.write_str(self.name())
     }
 }
 
 /// Why a parse fails.
-#[derive(Clone, Copy, Debug, PartialEq, Eq)]
+#[derive(Clone, Copy, PartialEq, Eq)]
 pub enum PKind {
     /// A byte is needed past the end of an ended view.
     Short,
@@ -219,41 +161,18 @@ impl PKind {
     pub fn name(self) -> &'static str
         ensures { result.now ≡ run_kind_name self }
     {
-        match self {
-            PKind::Short => "Short",
-            PKind::NoMatch => "NoMatch",
-            PKind::NoAlternative => "NoAlternative",
-            PKind::Requires => "Requires",
-            PKind::SizeLeft => "SizeLeft",
-            PKind::SizeOver => "SizeOver",
-            PKind::BadSize => "BadSize",
-            PKind::Overflow => "Overflow",
-            PKind::DivZero => "DivZero",
-            PKind::BadShift => "BadShift",
-            PKind::Index => "Index",
-            PKind::MissingKey => "MissingKey",
-            PKind::Unset => "Unset",
-            PKind::CastRange => "CastRange",
-            PKind::Assert => "Assert",
-            PKind::Throw => "Throw",
-            PKind::NoTry => "NoTry",
-            PKind::Rejected => "Rejected",
-            PKind::Turns => "Turns",
-            PKind::Depth => "Depth",
-            PKind::LateInitial => "LateInitial",
-            PKind::FiberDepth => "FiberDepth",
-            PKind::InputBefore => "InputBefore",
-            PKind::BadConversion => "BadConversion",
-            PKind::SinkClosed => "SinkClosed",
-            PKind::Gap => "Gap",
-            PKind::ForwardAfterEnd => "ForwardAfterEnd",
-            PKind::BadBase64 => "BadBase64",
-        }
+        RUN_WORDS[self as usize]
+    }
+}
+
+impl fmt::Debug for PKind {
+    fn fmt<W: fmt::Write>(&self, f: &mut fmt::Formatter<W>) -> fmt::Result {
+        f.write_str(self.name())
     }
 }
 
 /// Why a batch is refused.
-#[derive(Clone, Copy, Debug, PartialEq, Eq)]
+#[derive(Clone, Copy, PartialEq, Eq)]
 pub enum BKind {
     /// The first line is not the header of a batch.
     BadHeader,
@@ -274,13 +193,90 @@ impl BKind {
     pub fn name(self) -> &'static str
         ensures { result.now ≡ batch_kind_name self }
     {
-        match self {
-            BKind::BadHeader => "BadHeader",
-            BKind::BadRecord => "BadRecord",
-            BKind::UnknownFlow => "UnknownFlow",
-            BKind::FlowTwice => "FlowTwice",
-            BKind::UnknownParser => "UnknownParser",
-            BKind::CutShort => "CutShort",
-        }
+        BATCH_WORDS[self as usize]
     }
 }
+
+impl fmt::Debug for BKind {
+    fn fmt<W: fmt::Write>(&self, f: &mut fmt::Formatter<W>) -> fmt::Result {
+        f.write_str(self.name())
+    }
+}
+
+/// The words of the kinds of refusals, in their order.
+const MODULE_WORDS: [&str; 32] = [
+    "NotText",
+    "BadToken",
+    "Unexpected",
+    "TooLarge",
+    "ModuleNotFound",
+    "ModuleTwice",
+    "NameTwice",
+    "UnknownName",
+    "TypeMismatch",
+    "NotAssignable",
+    "BadAttribute",
+    "MissingBound",
+    "AttributeClash",
+    "BadBitRange",
+    "LiteralRange",
+    "NotConstant",
+    "BadRegex",
+    "EmptyToken",
+    "NoLookAhead",
+    "LookAheadClash",
+    "UnknownHook",
+    "SelfOutside",
+    "MissingReturn",
+    "OutsideLoop",
+    "WrongArguments",
+    "FilterPlace",
+    "SyncNoToken",
+    "HookSeesState",
+    "TooMany",
+    "OutOfProfile",
+    "TooDeep",
+    "NoParser",
+];
+
+/// The words of the kinds of errors of a parse, in their order.
+const RUN_WORDS: [&str; 28] = [
+    "Short",
+    "NoMatch",
+    "NoAlternative",
+    "Requires",
+    "SizeLeft",
+    "SizeOver",
+    "BadSize",
+    "Overflow",
+    "DivZero",
+    "BadShift",
+    "Index",
+    "MissingKey",
+    "Unset",
+    "CastRange",
+    "Assert",
+    "Throw",
+    "NoTry",
+    "Rejected",
+    "Turns",
+    "Depth",
+    "LateInitial",
+    "FiberDepth",
+    "InputBefore",
+    "BadConversion",
+    "SinkClosed",
+    "Gap",
+    "ForwardAfterEnd",
+    "BadBase64",
+];
+
+/// The words of the kinds of refusals of a batch, in their order.
+const BATCH_WORDS: [&str; 6] = [
+    "BadHeader",
+    "BadRecord",
+    "UnknownFlow",
+    "FlowTwice",
+    "UnknownParser",
+    "CutShort",
+];
