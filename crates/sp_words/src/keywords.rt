@@ -3,7 +3,7 @@ ghost use Rattle.std.specs.Prelude.{◌≡◌};
 ghost use Rattle.sp_words.specs.Keywords.{keyword_text};
 
 /// A reserved word, unless it is that of an integer type.
-#[derive(Clone, Copy, Debug, PartialEq, Eq)]
+#[derive(Clone, Copy, PartialEq, Eq)]
 pub enum Keyword {
     /// `module`
     Module,
@@ -106,54 +106,15 @@ impl Keyword {
     pub fn text(self) -> &'static str
         ensures { result.now ≡ keyword_text self }
     {
-        match self {
-            Keyword::Module => "module",
-            Keyword::Import => "import",
-            Keyword::Public => "public",
-            Keyword::Type => "type",
-            Keyword::Const => "const",
-            Keyword::Function => "function",
-            Keyword::On => "on",
-            Keyword::Inout => "inout",
-            Keyword::Unit => "unit",
-            Keyword::Enum => "enum",
-            Keyword::Bitfield => "bitfield",
-            Keyword::Tuple => "tuple",
-            Keyword::Vector => "vector",
-            Keyword::Map => "map",
-            Keyword::Set => "set",
-            Keyword::Bool => "bool",
-            Keyword::Bytes => "bytes",
-            Keyword::String => "string",
-            Keyword::Void => "void",
-            Keyword::Var => "var",
-            Keyword::Sink => "sink",
-            Keyword::Switch => "switch",
-            Keyword::Case => "case",
-            Keyword::Default => "default",
-            Keyword::If => "if",
-            Keyword::Else => "else",
-            Keyword::While => "while",
-            Keyword::For => "for",
-            Keyword::In => "in",
-            Keyword::Foreach => "foreach",
-            Keyword::Local => "local",
-            Keyword::Return => "return",
-            Keyword::Break => "break",
-            Keyword::Continue => "continue",
-            Keyword::Print => "print",
-            Keyword::Assert => "assert",
-            Keyword::Throw => "throw",
-            Keyword::Add => "add",
-            Keyword::Delete => "delete",
-            Keyword::Stop => "stop",
-            Keyword::Confirm => "confirm",
-            Keyword::Reject => "reject",
-            Keyword::New => "new",
-            Keyword::Cast => "cast",
-            Keyword::Itself => "self",
-            Keyword::True => "True",
-            Keyword::False => "False",
-        }
+        KEYWORD_TEXTS[self as usize]
     }
 }
+
+/// How the reserved words are written, in their order.
+const KEYWORD_TEXTS: [&str; 47] = [
+    "module", "import", "public", "type", "const", "function", "on", "inout", "unit", "enum",
+    "bitfield", "tuple", "vector", "map", "set", "bool", "bytes", "string", "void", "var", "sink",
+    "switch", "case", "default", "if", "else", "while", "for", "in", "foreach", "local", "return",
+    "break", "continue", "print", "assert", "throw", "add", "delete", "stop", "confirm", "reject",
+    "new", "cast", "self", "True", "False",
+];

@@ -4,7 +4,7 @@ ghost use Rattle.sp_words.specs.Methods.{arity, changes};
 
 /// A method of the language's library. Arguments that a module leaves out are written out before it comes to this: the base is
 /// 10, the charset UTF-8, and the strategy puts U+FFFD in place of a byte with which no character begins.
-#[derive(Clone, Copy, Debug, PartialEq, Eq)]
+#[derive(Clone, Copy, PartialEq, Eq)]
 pub enum Method {
     /// of bytes, `to_uint(base)`
     ToUint,

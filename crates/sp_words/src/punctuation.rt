@@ -3,7 +3,7 @@ ghost use Rattle.std.specs.Prelude.{◌≡◌};
 ghost use Rattle.sp_words.specs.Punctuation.{punctuation_text};
 
 /// Punctuation, a bracket or an operator.
-#[derive(Clone, Copy, Debug, PartialEq, Eq)]
+#[derive(Clone, Copy, PartialEq, Eq)]
 pub enum Punctuation {
     /// `::`
     ColonColon,
@@ -92,47 +92,13 @@ impl Punctuation {
     pub fn text(self) -> &'static str
         ensures { result.now ≡ punctuation_text self }
     {
-        match self {
-            Punctuation::ColonColon => "::",
-            Punctuation::Colon => ":",
-            Punctuation::Semicolon => ";",
-            Punctuation::Comma => ",",
-            Punctuation::Dot => ".",
-            Punctuation::QuestionDot => "?.",
-            Punctuation::Question => "?",
-            Punctuation::LeftParen => "(",
-            Punctuation::RightParen => ")",
-            Punctuation::LeftBracket => "[",
-            Punctuation::RightBracket => "]",
-            Punctuation::LeftBrace => "{",
-            Punctuation::RightBrace => "}",
-            Punctuation::Arrow => "->",
-            Punctuation::DotDot => "..",
-            Punctuation::DollarDollar => "$$",
-            Punctuation::Equal => "=",
-            Punctuation::PlusEqual => "+=",
-            Punctuation::MinusEqual => "-=",
-            Punctuation::EqualEqual => "==",
-            Punctuation::NotEqual => "!=",
-            Punctuation::Less => "<",
-            Punctuation::LessEqual => "<=",
-            Punctuation::Greater => ">",
-            Punctuation::GreaterEqual => ">=",
-            Punctuation::ShiftLeft => "<<",
-            Punctuation::ShiftRight => ">>",
-            Punctuation::Plus => "+",
-            Punctuation::Minus => "-",
-            Punctuation::Star => "*",
-            Punctuation::Slash => "/",
-            Punctuation::Percent => "%",
-            Punctuation::Ampersand => "&",
-            Punctuation::Bar => "|",
-            Punctuation::Caret => "^",
-            Punctuation::Tilde => "~",
-            Punctuation::Bang => "!",
-            Punctuation::AndAnd => "&&",
-            Punctuation::OrOr => "||",
-            Punctuation::NotIn => "!in",
-        }
+        PUNCTUATION_TEXTS[self as usize]
     }
 }
+
+/// How punctuation is written, in its order.
+const PUNCTUATION_TEXTS: [&str; 40] = [
+    "::", ":", ";", ",", ".", "?.", "?", "(", ")", "[", "]", "{", "}", "->", "..", "$$", "=", "+=",
+    "-=", "==", "!=", "<", "<=", ">", ">=", "<<", ">>", "+", "-", "*", "/", "%", "&", "|", "^",
+    "~", "!", "&&", "||", "!in",
+];

@@ -3,7 +3,7 @@ ghost use Rattle.std.specs.Prelude.{◌≡◌};
 ghost use Rattle.sp_words.specs.Words.{width, is_signed, integer_text, attribute_text, property_text, hook_text};
 
 /// An integer type.
-#[derive(Clone, Copy, Debug, PartialEq, Eq)]
+#[derive(Clone, Copy, PartialEq, Eq)]
 pub enum IntWord {
     /// `uint8`
     Uint8,
@@ -28,16 +28,7 @@ impl IntWord {
     pub fn text(self) -> &'static str
         ensures { result.now ≡ integer_text self }
     {
-        match self {
-            IntWord::Uint8 => "uint8",
-            IntWord::Uint16 => "uint16",
-            IntWord::Uint32 => "uint32",
-            IntWord::Uint64 => "uint64",
-            IntWord::Int8 => "int8",
-            IntWord::Int16 => "int16",
-            IntWord::Int32 => "int32",
-            IntWord::Int64 => "int64",
-        }
+        INTEGER_TEXTS[self as usize]
     }
 
     /// The number of its bits.
@@ -63,8 +54,13 @@ impl IntWord {
     }
 }
 
+/// How the words of integer types are written, in their order.
+const INTEGER_TEXTS: [&str; 8] = [
+    "uint8", "uint16", "uint32", "uint64", "int8", "int16", "int32", "int64",
+];
+
 /// An attribute of a field or an element.
-#[derive(Clone, Copy, Debug, PartialEq, Eq)]
+#[derive(Clone, Copy, PartialEq, Eq)]
 pub enum AttributeName {
     /// `&size`
     Size,
@@ -103,28 +99,31 @@ impl AttributeName {
     pub fn text(self) -> &'static str
         ensures { result.now ≡ attribute_text self }
     {
-        match self {
-            AttributeName::Size => "&size",
-            AttributeName::MaxSize => "&max-size",
-            AttributeName::Eod => "&eod",
-            AttributeName::Until => "&until",
-            AttributeName::UntilIncluding => "&until-including",
-            AttributeName::While => "&while",
-            AttributeName::Convert => "&convert",
-            AttributeName::Requires => "&requires",
-            AttributeName::Default => "&default",
-            AttributeName::ByteOrder => "&byte-order",
-            AttributeName::BitOrder => "&bit-order",
-            AttributeName::ParseFrom => "&parse-from",
-            AttributeName::ParseAt => "&parse-at",
-            AttributeName::Try => "&try",
-            AttributeName::Synchronize => "&synchronize",
-        }
+        ATTRIBUTE_TEXTS[self as usize]
     }
 }
 
+/// How the names of attributes are written, in their order.
+const ATTRIBUTE_TEXTS: [&str; 15] = [
+    "&size",
+    "&max-size",
+    "&eod",
+    "&until",
+    "&until-including",
+    "&while",
+    "&convert",
+    "&requires",
+    "&default",
+    "&byte-order",
+    "&bit-order",
+    "&parse-from",
+    "&parse-at",
+    "&try",
+    "&synchronize",
+];
+
 /// The name of a property, with its `%`.
-#[derive(Clone, Copy, Debug, PartialEq, Eq)]
+#[derive(Clone, Copy, PartialEq, Eq)]
 pub enum Property {
     /// `%byte-order`
     ByteOrder,
@@ -143,18 +142,21 @@ impl Property {
     pub fn text(self) -> &'static str
         ensures { result.now ≡ property_text self }
     {
-        match self {
-            Property::ByteOrder => "%byte-order",
-            Property::SpicyVersion => "%spicy-version",
-            Property::Filter => "%filter",
-            Property::MimeType => "%mime-type",
-            Property::Description => "%description",
-        }
+        PROPERTY_TEXTS[self as usize]
     }
 }
 
+/// How the names of properties are written, in their order.
+const PROPERTY_TEXTS: [&str; 5] = [
+    "%byte-order",
+    "%spicy-version",
+    "%filter",
+    "%mime-type",
+    "%description",
+];
+
 /// The name of a hook of a unit or a sink.
-#[derive(Clone, Copy, Debug, PartialEq, Eq)]
+#[derive(Clone, Copy, PartialEq, Eq)]
 pub enum HookName {
     /// `%init`
     Init,
@@ -185,18 +187,21 @@ impl HookName {
     pub fn text(self) -> &'static str
         ensures { result.now ≡ hook_text self }
     {
-        match self {
-            HookName::Init => "%init",
-            HookName::Done => "%done",
-            HookName::Error => "%error",
-            HookName::Finally => "%finally",
-            HookName::Synced => "%synced",
-            HookName::Confirmed => "%confirmed",
-            HookName::Rejected => "%rejected",
-            HookName::Gap => "%gap",
-            HookName::Skipped => "%skipped",
-            HookName::Overlap => "%overlap",
-            HookName::Undelivered => "%undelivered",
-        }
+        HOOK_TEXTS[self as usize]
     }
 }
+
+/// How the names of hooks are written, in their order.
+const HOOK_TEXTS: [&str; 11] = [
+    "%init",
+    "%done",
+    "%error",
+    "%finally",
+    "%synced",
+    "%confirmed",
+    "%rejected",
+    "%gap",
+    "%skipped",
+    "%overlap",
+    "%undelivered",
+];
