@@ -7,7 +7,7 @@ use crate::rule::Rule;
 use sp_base::{Diag, Span};
 
 /// A broken rule, and where: the number of the module in the list, and the slice of its text.
-#[derive(Clone, Copy, PartialEq, Eq, Debug)]
+#[derive(Clone, Copy, PartialEq, Eq)]
 pub struct Fault {
     pub rule: Rule,
     pub module: u32,

@@ -5,7 +5,7 @@ ghost use Rattle.sp_rules.specs.Rules.{kind, group, group_number};
 use sp_base::MKind;
 
 /// A rule over a list of modules that were read.
-#[derive(Clone, Copy, PartialEq, Eq, Debug)]
+#[derive(Clone, Copy, PartialEq, Eq)]
 pub enum Rule {
     /// Two named files hold modules of one name, or a file's module has a reserved name.
     ModuleTwice,
@@ -59,7 +59,7 @@ pub enum Rule {
 
 /// Rules that are asked together, the groups one after another: a rule is asked only where none of an earlier group is
 /// broken.
-#[derive(Clone, Copy, PartialEq, Eq, Debug)]
+#[derive(Clone, Copy, PartialEq, Eq)]
 pub enum RuleGroup {
     /// What names mean.
     Names,
@@ -76,31 +76,7 @@ impl Rule {
     pub fn kind(self) -> MKind
         ensures { result ≡ kind self }
     {
-        match self {
-            Rule::ModuleTwice => MKind::ModuleTwice,
-            Rule::NameTwice => MKind::NameTwice,
-            Rule::UnknownName | Rule::UnknownMember => MKind::UnknownName,
-            Rule::UnknownHook => MKind::UnknownHook,
-            Rule::TypeMismatch => MKind::TypeMismatch,
-            Rule::NotAssignable => MKind::NotAssignable,
-            Rule::LiteralRange => MKind::LiteralRange,
-            Rule::NotConstant => MKind::NotConstant,
-            Rule::SelfOutside => MKind::SelfOutside,
-            Rule::MissingReturn => MKind::MissingReturn,
-            Rule::OutsideLoop => MKind::OutsideLoop,
-            Rule::WrongArguments => MKind::WrongArguments,
-            Rule::BadAttribute => MKind::BadAttribute,
-            Rule::MissingBound => MKind::MissingBound,
-            Rule::AttributeClash => MKind::AttributeClash,
-            Rule::BadBitRange => MKind::BadBitRange,
-            Rule::FilterPlace => MKind::FilterPlace,
-            Rule::HookSeesState => MKind::HookSeesState,
-            Rule::EmptyToken => MKind::EmptyToken,
-            Rule::NoLookAhead => MKind::NoLookAhead,
-            Rule::LookAheadClash => MKind::LookAheadClash,
-            Rule::SyncNoToken => MKind::SyncNoToken,
-            Rule::TooMany => MKind::TooMany,
-        }
+        KINDS[self as usize]
     }
 
     /// The group in which it is asked.
@@ -134,6 +110,34 @@ impl Rule {
         }
     }
 }
+
+/// The kinds of the refusals, in the order of the rules.
+const KINDS: [MKind; 24] = [
+    MKind::ModuleTwice,
+    MKind::NameTwice,
+    MKind::UnknownName,
+    MKind::UnknownHook,
+    MKind::UnknownName,
+    MKind::TypeMismatch,
+    MKind::NotAssignable,
+    MKind::LiteralRange,
+    MKind::NotConstant,
+    MKind::SelfOutside,
+    MKind::MissingReturn,
+    MKind::OutsideLoop,
+    MKind::WrongArguments,
+    MKind::BadAttribute,
+    MKind::MissingBound,
+    MKind::AttributeClash,
+    MKind::BadBitRange,
+    MKind::FilterPlace,
+    MKind::HookSeesState,
+    MKind::EmptyToken,
+    MKind::NoLookAhead,
+    MKind::LookAheadClash,
+    MKind::SyncNoToken,
+    MKind::TooMany,
+];
 
 impl RuleGroup {
     /// Its place among the groups, from 1.
