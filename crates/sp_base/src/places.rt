@@ -9,7 +9,7 @@ pub struct Span {
 }
 
 /// A place in a text: line and column, both from 1, columns in bytes. 0:0 stands for no place in a text.
-#[derive(Clone, Copy, Debug, PartialEq, Eq)]
+#[derive(Clone, Copy, PartialEq, Eq)]
 pub struct Place {
     pub line: u32,
     pub col: u32,
@@ -34,7 +34,7 @@ pub struct ParseError {
 
 /// The limits of a run: turns without progress, units and functions open in a fiber, and fibers within
 /// one another. Each is at least 1.
-#[derive(Clone, Copy, Debug, PartialEq, Eq)]
+#[derive(Clone, Copy, PartialEq, Eq)]
 pub struct Limits {
     pub turns: u64,
     pub depth: u32,
