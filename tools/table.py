@@ -250,6 +250,7 @@ pub enum Terminal {
 
 impl Terminal {
     /// Its number in the table.
+    #[tactic(auto, using(crate::specs::TerminalKinds::is_kind))]
     pub fn number(self) -> u8
         ensures number { result ≡ terminal_number self }
         ensures kind { result < SECOND }
@@ -258,14 +259,43 @@ impl Terminal {
 %s        }
     }
 }
+%s"""
+
+TERMINAL_TABLE = """
+/// The numbers of the kinds of %s, in the order of their enum.
+#[rattlefmt::skip]
+static %s: [u8; %d] = [
+%s];
 """
+
+
+# the kinds of tokens whose numbers stand in a table by the word, sign or property that they are
+TABLED = [
+    ("Keyword", "keywords.rt", "keyword", "KEYWORDS", "reserved words"),
+    ("Punctuation", "punctuation.rt", "sign", "SIGNS", "punctuation"),
+    ("Property", "words.rt", "property", "PROPERTIES", "properties"),
+]
 
 
 def terminal_enum(g, _):
     """The kinds of tokens in the code."""
     variants = "".join(f"    /// {said}\n    {variant},\n" for variant, said in dict(terminal_variants(g)).items())
-    arms = "".join(f"            {terminal_in_code(token)} => {number},\n" for number, token in terminals(g))
-    return TERMINALS % (variants, arms)
+    numbers = {terminal_parts(token): number for number, token in terminals(g)}
+    arms = "".join(
+        f"            Terminal::{variant}({name}) => {table}[{name} as usize],\n" for variant, _, name, table, _ in TABLED
+    ) + "".join(f"            Terminal::{variant} => {number},\n" for (variant, word), number in numbers.items() if not word)
+    tables = "".join(
+        TERMINAL_TABLE % (said, table, len(words), lines_of([str(numbers[variant, word]) for word in words], 16, "    "))
+        for variant, file, _, table, said in TABLED
+        for words in [words_of(file, variant)]
+    )
+    return TERMINALS % (variants, arms, tables)
+
+
+def words_of(file, enum):
+    """The words of an enum of sp_words, in its order."""
+    text = Path(__file__).with_name("..").joinpath("crates/sp_words/src", file).read_text(encoding="utf-8")
+    return re.findall(r"^    (\w+),$", text.split(f"pub enum {enum} {{")[1].split("\n}")[0], re.MULTILINE)
 
 
 TERMINAL_NUMBERS = """\
@@ -325,16 +355,6 @@ use sp_words::{AssignOp, BinaryOp, UnaryOp};
 pub enum Action {
 %s}
 
-impl Action {
-    /// Its number in the table.
-    pub fn number(self) -> u8
-        ensures { result ≡ action_number self }
-    {
-        match self {
-%s        }
-    }
-}
-
 /// The actions in the order of their numbers.
 #[rattlefmt::skip]
 static ACTIONS: [Action; %d] = [
@@ -373,7 +393,6 @@ def action_enum(g, _):
     names = [action_in_code(action) for action in g.actions]
     return ACTIONS % (
         "".join(f"    {variant},\n" for variant in variants),
-        "".join(f"            {name} => {number},\n" for number, name in enumerate(names)),
         len(names),
         lines_of(names, 3, "    "),
         len(names),

@@ -26,7 +26,7 @@ impl Grammar for Language {
 }
 
 /// What a text can be.
-#[derive(Clone, Copy, Debug, PartialEq, Eq)]
+#[derive(Clone, Copy, PartialEq, Eq)]
 pub enum Start {
     Module,
     Type,
