@@ -1,7 +1,7 @@
 // Which operators on two integers there are.
 
 /// An operator on two integers of one signedness.
-#[derive(Clone, Copy, Debug, PartialEq, Eq)]
+#[derive(Clone, Copy, PartialEq, Eq)]
 pub enum Arithmetic {
     /// `+`
     Add,
@@ -16,7 +16,7 @@ pub enum Arithmetic {
 }
 
 /// An operator on the bits of two unsigned integers.
-#[derive(Clone, Copy, Debug, PartialEq, Eq)]
+#[derive(Clone, Copy, PartialEq, Eq)]
 pub enum BitOperator {
     /// `&`
     And,
@@ -27,7 +27,7 @@ pub enum BitOperator {
 }
 
 /// Which way the bits of an unsigned integer move.
-#[derive(Clone, Copy, Debug, PartialEq, Eq)]
+#[derive(Clone, Copy, PartialEq, Eq)]
 pub enum Shift {
     /// `<<`, toward the most significant bit
     Left,

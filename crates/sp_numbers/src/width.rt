@@ -5,7 +5,7 @@ ghost use Rattle.sp_numbers.specs.Numbers.{width_bits, fits_signed, unsigned_or,
 use sp_base::PKind;
 
 /// How many bits an integer has.
-#[derive(Clone, Copy, Debug, PartialEq, Eq)]
+#[derive(Clone, Copy, PartialEq, Eq)]
 pub enum Width {
     /// 8 bits
     W8,

@@ -6,7 +6,7 @@ use sp_base::PKind;
 use sp_value::Value;
 
 /// Why an operator answers no value.
-#[derive(Clone, Copy, Debug, PartialEq, Eq, Drop)]
+#[derive(Clone, Copy, PartialEq, Eq, Drop)]
 pub enum ValueFault {
     /// The result is out of its type's range, or there is none.
     Run(PKind),

@@ -2,7 +2,7 @@
 use sp_numbers::Width;
 
 /// A plain type without the types of its members.
-#[derive(Clone, Copy, Debug, PartialEq, Eq)]
+#[derive(Clone, Copy, PartialEq, Eq)]
 pub enum PlainType {
     Void,
     Bool,
