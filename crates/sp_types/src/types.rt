@@ -118,6 +118,7 @@ impl Type {
         ensures { IfOk result (λ t. t ≡ made maker (tys parts.items)) }
     {
         let Some(written) = all_written(&parts) else {
+            drop(parts);
             return Err(NoMemory);
         };
         let whole = are_known(&parts);

@@ -5,7 +5,7 @@ ghost use Rattle.sp_types.specs.Types.{holds, is_key_word, is_known_word, is_pla
 use sp_numbers::Width;
 
 /// A type without parts. A number is that of a declaration of the list of modules.
-#[derive(Clone, Copy, PartialEq, Eq)]
+#[derive(Clone, Copy)]
 pub enum Word {
     /// The type of what breaks a rule.
     Unknown,
@@ -30,7 +30,7 @@ pub enum Word {
 }
 
 /// What makes types of types.
-#[derive(Clone, Copy, PartialEq, Eq, Debug)]
+#[derive(Clone, Copy)]
 pub enum Maker {
     Tuple,
     Vector,
