@@ -1,5 +1,7 @@
 pub mod Members
 pub mod Heads
+pub mod Sources
+pub mod Taken
 pub mod Methods
 pub mod Written
 pub mod Arounds

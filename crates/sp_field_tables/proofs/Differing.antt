@@ -4,7 +4,7 @@ use Rattle.std.specs.Prelude.{◌==◌, if◌then◌else◌, not, ◌&&◌, ◌|
 use Rattle.std.proofs.lemmas.Bool.{eqb-true}
 use Rattle.sp_types.specs.Types.{Ty, is_known, same}
 use Rattle.sp_types.proofs.Same.{same_is, same_itself}
-use Rattle.sp_stored_types.specs.Taken.{differ}
+use Rattle.sp_around.specs.Taken.{differ}
 use Rattle.sp_field_tables.specs.declared.stored.Stored.{Stored}
 use Rattle.sp_field_tables.specs.declared.stored.Stored.TheVariants as stored_is
 use Rattle.sp_field_tables.specs.inside.Seen.{entry_differs, stored_with}

@@ -7,9 +7,9 @@ use Rattle.sp_typed_units.specs.declared.declarations.MemberKind.{MemberKind}
 use Rattle.sp_typed_units.specs.declared.declarations.MemberKind.TheVariants as kind_is
 use Rattle.sp_around.specs.Members.{UnitMember, is_called, numbered, kinds_of, members_of, unit_items}
 use Rattle.sp_around.specs.Arounds.{unit_member, some_member}
-use Rattle.sp_stored_types.specs.Sources.{firsts, declared_among}
-use Rattle.sp_stored_types.specs.Taken.{member_number}
-use Rattle.sp_stored_types.specs.inside.Aligned.{members_are, numbered_is}
+use Rattle.sp_around.specs.Sources.{firsts, declared_among}
+use Rattle.sp_around.specs.Taken.{member_number}
+use Rattle.sp_around.specs.inside.Aligned.{members_are, numbered_is}
 use Rattle.sp_field_tables.specs.inside.Numbers.{number_of}
 
 below : (x : List ℕ) (k j : ℕ) (ms : List UnitMember) → numbered x k ms ≡ Some j → j < k + length ms

@@ -6,10 +6,10 @@ use Rattle.std.proofs.lemmas.Bool.Decides.{nat_tests}
 use Rattle.sp_base.specs.declared.places.Span.{Span}
 use Rattle.sp_ast.specs.Trees.{Tree, Trees, none, more, trees}
 use Rattle.sp_types.specs.Types.{Ty}
-use Rattle.sp_stored_types.specs.declared.sources.Source.{Source}
-use Rattle.sp_stored_types.specs.declared.sources.Source.TheVariants as source_is
-use Rattle.sp_stored_types.specs.Sources.{Named, declared_in, declared_among}
-use Rattle.sp_stored_types.specs.Taken.{Kept, has, differ, differs, place_if, with_number, with_kept, numbers_of, kept_of, kept_as, taken_in, taken_among, taken_arms}
+use Rattle.sp_around.specs.declared.sources.Source.{Source}
+use Rattle.sp_around.specs.declared.sources.Source.TheVariants as source_is
+use Rattle.sp_around.specs.Sources.{Named, declared_in, declared_among}
+use Rattle.sp_around.specs.Taken.{Kept, has, differ, differs, place_if, with_number, with_kept, numbers_of, kept_of, kept_as, taken_in, taken_among, taken_arms}
 use Rattle.sp_field_tables.specs.declared.seen.Seen.{Seen}
 use Rattle.sp_field_tables.specs.inside.Seen.{told_count, how_many, kept_differs, is_counted, number_told}
 use Rattle.sp_field_tables.specs.inside.Passing.{IsSeen, Passed, PassedName, PassedKept, PassedIn, PassedAmong, PassedArms, LeadsAmong, LeadsArms}

@@ -1,6 +1,6 @@
 // Which members were named before a place, other than in another arm of a switch round it.
 ghost use Rattle.std.specs.Prelude.{◌≡◌, ◌+◌, ◌-◌, ◌==◌, ℕ, cond, OnOk};
-ghost use Rattle.sp_stored_types.specs.Taken.{has_number};
+ghost use Rattle.sp_around.specs.Taken.{has_number};
 ghost use Rattle.sp_field_tables.specs.inside.Seen.{told_count, how_many, is_counted};
 
 use indexmap::IndexMap;

@@ -1,7 +1,7 @@
 // A row of places, of which it is asked whether a place stands in it.
 ghost use Rattle.std.specs.Prelude.{◌≡◌, ◌||◌, false, IfOk, OnOk};
 ghost use Rattle.sp_base.specs.declared.places.Span.{Span as At};
-ghost use Rattle.sp_stored_types.specs.Taken.{same_place, has_place};
+ghost use Rattle.sp_around.specs.Taken.{same_place, has_place};
 ghost use Rattle.sp_field_tables.specs.inside.Places.{has_told};
 
 use indexmap::IndexSet;
@@ -45,7 +45,7 @@ pub struct Places {
 impl Model for Places {
     ghost use Rattle.std.specs.Prelude.{◌≡◌, List};
     ghost use Rattle.sp_base.specs.declared.places.Span.{Span as At};
-    ghost use Rattle.sp_stored_types.specs.Taken.{has_place};
+    ghost use Rattle.sp_around.specs.Taken.{has_place};
     ghost use Rattle.sp_field_tables.specs.inside.Places.{has_told};
 
     ghost Value = { List At };

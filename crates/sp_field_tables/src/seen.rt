@@ -1,6 +1,6 @@
 // What a walk through a unit has seen.
 ghost use Rattle.std.specs.Prelude.{◌≡◌, ◌++◌, ◌||◌, ℕ, true, [], OnOk, List};
-ghost use Rattle.sp_stored_types.specs.Taken.{place_if};
+ghost use Rattle.sp_around.specs.Taken.{place_if};
 ghost use Rattle.sp_field_tables.specs.inside.Seen.{told_count, is_counted, number_told};
 ghost use Rattle.sp_field_tables.specs.inside.Passing.{IsSeen, PassedName, PassedKept};
 

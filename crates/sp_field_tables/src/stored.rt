@@ -1,7 +1,7 @@
 // The types of the fields of each member so far, as far as another type is told from them.
 ghost use Rattle.std.specs.Prelude.{◌≡◌, ◌||◌, ◌&&◌, ◌==◌, ℕ, true, false, option_copied, Some, OnOk};
 ghost use Rattle.sp_types.specs.Types.{Ty, is_known};
-ghost use Rattle.sp_stored_types.specs.Taken.{differ};
+ghost use Rattle.sp_around.specs.Taken.{differ};
 ghost use Rattle.sp_field_tables.specs.inside.Seen.{entry_differs, stored_with, kept_differs, number_told};
 
 use indexmap::IndexMap;

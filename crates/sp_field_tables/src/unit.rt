@@ -2,8 +2,8 @@
 ghost use Rattle.std.specs.Prelude.{◌≡◌, IfOk};
 ghost use Rattle.sp_ast.specs.Trees.{trees};
 ghost use Rattle.sp_typing_units.specs.Readings.{counted_read};
-ghost use Rattle.sp_stored_types.specs.Taken.{member_number};
-ghost use Rattle.sp_stored_types.specs.Tries.{field_type};
+ghost use Rattle.sp_around.specs.Taken.{member_number};
+ghost use Rattle.sp_typing_units.specs.Fields.{field_type};
 ghost use Rattle.sp_field_tables.specs.FieldTables.{unit_of};
 ghost use Rattle.sp_field_tables.specs.inside.Numbers.{number_of};
 
@@ -114,8 +114,8 @@ fn stored_type<C: Context, V: Constants>(
 }
 
 impl<'a, C: Context, V: Constants> Naming for UnitNames<'a, C, V> {
-    ghost use Rattle.sp_stored_types.specs.Taken.{member_number};
-    ghost use Rattle.sp_stored_types.specs.Tries.{field_type};
+    ghost use Rattle.sp_around.specs.Taken.{member_number};
+    ghost use Rattle.sp_typing_units.specs.Fields.{field_type};
     ghost use Rattle.sp_field_tables.specs.FieldTables.{unit_of};
 
     ghost numbers = { λ w. member_number (unit_of w.tables.now.0 w.unit) };

@@ -3,7 +3,7 @@ ghost use Rattle.std.specs.Prelude.{◌≡◌, ◌+◌, ℕ, true, false, [], If
 ghost use Rattle.sp_ast.specs.Trees.{trees};
 ghost use Rattle.sp_around.specs.Members.{unit_items};
 ghost use Rattle.sp_around.specs.Heads.{unit_parameters};
-ghost use Rattle.sp_stored_types.specs.Taken.{taken_among, parameter_numbers, with_number};
+ghost use Rattle.sp_around.specs.Taken.{taken_among, parameter_numbers, with_number};
 ghost use Rattle.sp_field_tables.specs.inside.Seen.{told_count, how_many};
 ghost use Rattle.sp_field_tables.specs.inside.Passing.{IsSeen, PassedField, PassedIn, PassedAmong, PassedArms, Restored};
 

@@ -5,7 +5,7 @@ ghost use Rattle.sp_names.specs.Aliases.{IsResolved};
 ghost use Rattle.sp_rules.specs.Least.{IsLeast, checked};
 ghost use Rattle.sp_hook_rows.specs.Sites.{sites};
 ghost use Rattle.sp_hook_rows.specs.HookRows.{rows_of};
-ghost use Rattle.sp_stored_types.specs.Sources.{questions};
+ghost use Rattle.sp_around.specs.Sources.{questions};
 ghost use Rattle.sp_stored_types.specs.Tries.{AreStored};
 ghost use Rattle.sp_typed_list.specs.Lists.{list_in, typed_list};
 ghost use Rattle.sp_typed_list.specs.Settled.{AreValued, first_contexts, worth};

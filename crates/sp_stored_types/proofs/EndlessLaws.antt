@@ -13,10 +13,10 @@ use Rattle.sp_typing_units.specs.Attributes.{conversion}
 use Rattle.sp_typing_units.specs.Readings.{counted_read}
 use Rattle.sp_solver.specs.declared.attempt.Attempt.TheVariants.{Done, Waits}
 use Rattle.sp_solver.specs.Told.{told}
-use Rattle.sp_stored_types.specs.declared.sources.Source.{Source}
-use Rattle.sp_stored_types.specs.declared.sources.Source.TheVariants as source_is
-use Rattle.sp_stored_types.specs.declared.sources.Question.{Question}
-use Rattle.sp_stored_types.specs.Sources.{questions}
+use Rattle.sp_around.specs.declared.sources.Source.{Source}
+use Rattle.sp_around.specs.declared.sources.Source.TheVariants as source_is
+use Rattle.sp_around.specs.declared.sources.Question.{Question}
+use Rattle.sp_around.specs.Sources.{questions}
 use Rattle.sp_stored_types.specs.Opens.{or_else, conversion_open, base_open, field_open}
 use Rattle.sp_stored_types.specs.Tries.{in_unit, source_type, source_open, when_open, try_unit, try_asked, AreStored}
 use Rattle.sp_stored_types.specs.Endless.{span_if, conversion_place, base_place, field_place, source_place, unit_place, place_of}

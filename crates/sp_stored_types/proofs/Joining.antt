@@ -3,12 +3,12 @@ use Rattle.std.proofs.Common.{ℕ, ◌≡◌, ◌+◌, Bool, true, false, cond, 
 use Rattle.std.specs.Prelude.{if◌then◌else◌, not, filter}
 use Rattle.std.specs.Str.{bytes_eq}
 use Rattle.std.proofs.lemmas.List.{append_assoc, append-nil}
-use Rattle.sp_stored_types.specs.declared.sources.Source.{Source}
+use Rattle.sp_around.specs.declared.sources.Source.{Source}
 use Rattle.sp_names.specs.Tables.{earlier}
 use Rattle.sp_stored_types.specs.declared.tables.SourceTable.{SourceTable}
 use Rattle.sp_ast.specs.Trees.{Tree, trees}
 use Rattle.std.proofs.lemmas.Slice.Eq.{bytes_eq-Decides}
-use Rattle.sp_stored_types.specs.Sources.{Named, has_name, firsts, numbered, sources_of, declared_in, declared_among}
+use Rattle.sp_around.specs.Sources.{Named, has_name, firsts, numbered, sources_of, declared_in, declared_among}
 use Rattle.sp_stored_types.specs.inside.Tables.{joined, all_joined, Holds, Joins, LeadsOn, told_by}
 
 pub bytes_decide : (x y : List ℕ) → bytes_eq x y ≡ true → x ≡ y

@@ -16,14 +16,14 @@ use Rattle.sp_typing_units.specs.Decorators.{with_self}
 use Rattle.sp_solver.specs.declared.attempt.Attempt.{Attempt}
 use Rattle.sp_solver.specs.declared.attempt.Attempt.TheVariants.{Done}
 use Rattle.sp_stored_types.specs.Tries.{try_in, try_unit}
-use Rattle.sp_stored_types.specs.declared.sources.Source.{Source}
-use Rattle.sp_stored_types.specs.declared.sources.Question.{Question}
+use Rattle.sp_around.specs.declared.sources.Source.{Source}
+use Rattle.sp_around.specs.declared.sources.Question.{Question}
 use Rattle.sp_ast.specs.Trees.{Tree}
 use Rattle.sp_types.specs.Types.{Ty}
 use Rattle.sp_typed.specs.Exprs.{Expr, exprs}
 use Rattle.sp_typed.specs.inside.ExprCodes.{expr_size, exprs_size}
 use Rattle.sp_around.specs.Members.{first_member}
-use Rattle.sp_stored_types.specs.Sources.{asked, questions, questions_of, questions_before, units, firsts_before}
+use Rattle.sp_around.specs.Sources.{asked, questions, questions_of, questions_before, units, firsts_before}
 use Rattle.sp_stored_types.specs.inside.Aligned.{begins_at, past_units}
 use Rattle.sp_solver.specs.Told.{told}
 use Rattle.sp_stored_types.specs.Opens.{unanswered, open_at, with_members}

@@ -14,10 +14,10 @@ use Rattle.sp_names.specs.declared.rows.Declaration.{Declaration}
 use Rattle.sp_around.specs.Members.{unit_declaration}
 use Rattle.sp_typed_units.specs.declared.declarations.EndlessConversion.{EndlessConversion}
 use Rattle.sp_solver.specs.Told.{told}
-use Rattle.sp_stored_types.specs.declared.sources.Source.{Source}
-use Rattle.sp_stored_types.specs.declared.sources.Source.TheVariants as source_is
-use Rattle.sp_stored_types.specs.declared.sources.Question.{Question}
-use Rattle.sp_stored_types.specs.Sources.{questions}
+use Rattle.sp_around.specs.declared.sources.Source.{Source}
+use Rattle.sp_around.specs.declared.sources.Source.TheVariants as source_is
+use Rattle.sp_around.specs.declared.sources.Question.{Question}
+use Rattle.sp_around.specs.Sources.{questions}
 use Rattle.sp_stored_types.specs.Opens.{conversion_open}
 use Rattle.sp_stored_types.specs.Tries.{in_unit}
 

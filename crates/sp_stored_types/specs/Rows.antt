@@ -25,10 +25,11 @@ use Rattle.sp_operands.specs.Operands.{unknown, boolean}
 use Rattle.sp_typing_units.specs.Values.{Values}
 use Rattle.sp_solver.specs.Rounds.{round}
 use Rattle.sp_around.specs.Arounds.{Facts, around}
-use Rattle.sp_stored_types.specs.Sources.{questions}
-use Rattle.sp_stored_types.specs.Tries.{tries, field_type}
+use Rattle.sp_around.specs.Sources.{questions}
+use Rattle.sp_typing_units.specs.Fields.{field_type}
+use Rattle.sp_stored_types.specs.Tries.{tries}
 use Rattle.sp_stored_types.specs.Endless.{endless as endless_conversions}
-use Rattle.sp_stored_types.specs.Taken.{taken_places}
+use Rattle.sp_around.specs.Taken.{taken_places}
 
 abbrev span : ℕ → Span
 span n = record { from = n; to = n }

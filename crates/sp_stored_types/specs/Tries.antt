@@ -1,7 +1,6 @@
 -- The types of what is stored in the members of all units, as questions whose answers hang on each other.
 use Rattle.std.specs.Prelude.{ℕ, ◌≡◌, List, length, Option, Some, None, slice_get}
-use Rattle.sp_ast.specs.Trees.{Tree, row, node, more}
-use Rattle.sp_ast.specs.declared.forms.Form.TheVariants as form_is
+use Rattle.sp_ast.specs.Trees.{Tree}
 use Rattle.sp_types.specs.Types.{Ty, word}
 use Rattle.sp_types.specs.declared.words.Word.TheVariants as word_is
 use Rattle.sp_typed.specs.declared.words.Standing.TheVariants as standing_is
@@ -9,28 +8,21 @@ use Rattle.sp_typing.specs.Contexts.{Around}
 use Rattle.sp_operands.specs.Operands.{unknown}
 use Rattle.sp_typing_units.specs.Values.{Values}
 use Rattle.sp_typing_units.specs.Decorators.{with_self}
-use Rattle.sp_typing_units.specs.Attributes.{conversion, converted}
-use Rattle.sp_typing_units.specs.Readings.{counted_read}
+use Rattle.sp_typing_units.specs.Fields.{field_type}
 use Rattle.sp_solver.specs.declared.attempt.Attempt.{Attempt}
 use Rattle.sp_solver.specs.declared.attempt.Attempt.TheVariants.{Done, Waits}
 use Rattle.sp_solver.specs.Rounds.{IsSettled}
 use Rattle.sp_solver.specs.Told.{told}
-use Rattle.sp_stored_types.specs.declared.sources.Source.{Source}
-use Rattle.sp_stored_types.specs.declared.sources.Source.TheVariants as source_is
-use Rattle.sp_stored_types.specs.declared.sources.Question.{Question}
-use Rattle.sp_stored_types.specs.Sources.{questions}
+use Rattle.sp_around.specs.declared.sources.Source.{Source}
+use Rattle.sp_around.specs.declared.sources.Source.TheVariants as source_is
+use Rattle.sp_around.specs.declared.sources.Question.{Question}
+use Rattle.sp_around.specs.Sources.{questions}
 use Rattle.sp_stored_types.specs.Opens.{with_members, field_open}
 
 -- What stands round the expressions of the unit n, where `g` stands round those of its module and its parameters: `self` is
 -- the unit, and so much is known of the members of units.
 abbrev pub in_unit : List Tree → (ℕ → Option Ty) → ℕ → Around → Around
 in_unit list f n g = with_self (word (word_is.Unit n)) standing_is.Meant (with_members list f g)
-
--- The type of what a field stores: of what it reads, or of what its `&convert` makes of that.
-abbrev pub field_type : Around → Values → Tree → Ty
-field_type g v (node form_is.Field span (more name (more base (more (row counts) (more (row ts) rest))))) =
-    converted g (counted_read g v base counts).ty (conversion ts)
-field_type g v t = unknown
 
 -- The type of what is stored in a member: a variable has the type that is written.
 abbrev pub source_type : Around → Values → Source → Ty

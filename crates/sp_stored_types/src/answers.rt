@@ -5,15 +5,14 @@ ghost use Rattle.sp_types.specs.Types.{word};
 ghost use Rattle.sp_types.specs.declared.words.Word.TheVariants as word_is;
 ghost use Rattle.sp_typed.specs.declared.words.Standing.TheVariants as standing_is;
 ghost use Rattle.sp_typing_units.specs.Decorators.{with_self};
-ghost use Rattle.sp_stored_types.specs.Sources.{questions};
+ghost use Rattle.sp_around.specs.Sources.{questions};
 ghost use Rattle.sp_stored_types.specs.Opens.{with_members};
 ghost use Rattle.sp_stored_types.specs.Tries.{tries, try_in, try_unit, AreStored};
 
 use crate::fields::source_try;
 use crate::members::WithMembers;
 use crate::rows::MemberRows;
-use crate::sources::Question;
-use sp_around::Tables;
+use sp_around::{Question, Tables};
 use sp_base::NoMemory;
 use sp_solver::{Attempt, Questions, answers};
 use sp_typed::Standing;

@@ -5,15 +5,14 @@ ghost use Rattle.sp_types.specs.Types.{word};
 ghost use Rattle.sp_types.specs.declared.words.Word.TheVariants as word_is;
 ghost use Rattle.sp_typed.specs.declared.words.Standing.TheVariants as standing_is;
 ghost use Rattle.sp_typing_units.specs.Decorators.{with_self};
-ghost use Rattle.sp_stored_types.specs.Sources.{questions};
+ghost use Rattle.sp_around.specs.Sources.{questions};
 ghost use Rattle.sp_stored_types.specs.Opens.{with_members};
 ghost use Rattle.sp_stored_types.specs.Endless.{span_if, conversion_place, base_place, field_place, source_place, unit_place, endless_row, unless_known, endless_of, endless};
 
 use crate::fields::{conversion, conversion_open, read_type};
 use crate::members::WithMembers;
 use crate::rows::MemberRows;
-use crate::sources::{Question, Source};
-use sp_around::Tables;
+use sp_around::{Question, Source, Tables};
 use sp_ast::{BaseKind, BaseView, ExprKind, FieldKind, Ref};
 use sp_base::{NoMemory, Span, or_drop};
 use sp_typed::Standing;

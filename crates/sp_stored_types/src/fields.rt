@@ -7,13 +7,14 @@ ghost use Rattle.sp_typing_units.specs.Attributes.{present, if_convert, conversi
 ghost use Rattle.sp_typing.specs.Typing.{typed};
 ghost use Rattle.sp_typing_units.specs.Decorators.{meant};
 ghost use Rattle.sp_typing_units.specs.Readings.{counted_read};
-ghost use Rattle.sp_stored_types.specs.Sources.{questions};
+ghost use Rattle.sp_around.specs.Sources.{questions};
 ghost use Rattle.sp_stored_types.specs.Opens.{or_else, conversion_open, base_open, field_open};
-ghost use Rattle.sp_stored_types.specs.Tries.{when_open, field_type, try_in};
+ghost use Rattle.sp_typing_units.specs.Fields.{field_type};
+ghost use Rattle.sp_stored_types.specs.Tries.{when_open, try_in};
 
 use crate::opens::open_in;
 use crate::rows::MemberRows;
-use crate::sources::Source;
+use sp_around::Source;
 use sp_ast::{AttributeKind, BaseKind, BaseView, CountKind, ExprKind, FieldKind, Members, Ref};
 use sp_base::{NoMemory, or_drop};
 use sp_operands::seen;

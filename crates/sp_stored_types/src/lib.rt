@@ -9,7 +9,6 @@ mod members;
 mod names;
 mod opens;
 mod rows;
-mod sources;
 mod tables;
 
 pub use answers::stored_types;
@@ -18,4 +17,4 @@ pub use fields::source_try;
 pub use laws::{none_is_passed_over, tries_are_fair};
 pub use members::WithMembers;
 pub use rows::MemberRows;
-pub use sources::{Question, Source};
+pub use sp_around::{Question, Source};

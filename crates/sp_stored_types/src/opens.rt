@@ -3,7 +3,7 @@ ghost use Rattle.std.specs.Prelude.{◌≡◌, length, IfOk};
 ghost use Rattle.sp_solver.specs.Told.{told};
 ghost use Rattle.sp_typed.specs.Exprs.{exprs};
 ghost use Rattle.sp_operands.specs.Literals.{seen};
-ghost use Rattle.sp_stored_types.specs.Sources.{questions};
+ghost use Rattle.sp_around.specs.Sources.{questions};
 ghost use Rattle.sp_around.specs.Members.{first_member};
 ghost use Rattle.std.specs.Prelude.{◌+◌};
 ghost use Rattle.sp_stored_types.specs.Opens.{or_else, open_at, open_of, open_member, open_in, open_among};

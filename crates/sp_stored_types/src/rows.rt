@@ -5,13 +5,13 @@ ghost use Rattle.sp_names.specs.declared.sort.DeclSort.TheVariants as sort_is;
 ghost use Rattle.sp_names.specs.Declarations.{all_of, type_tree_of};
 ghost use Rattle.sp_names.specs.Names.{declaration_of};
 ghost use Rattle.sp_around.specs.Members.{unit_in, unit_declaration, first_member};
-ghost use Rattle.sp_stored_types.specs.Sources.{unit_sources, asked, questions_of, questions, units, firsts_before};
+ghost use Rattle.sp_around.specs.Sources.{unit_sources, asked, questions_of, questions, units, firsts_before};
 ghost use Rattle.sp_stored_types.specs.Endless.{module_of};
 ghost use Rattle.sp_stored_types.specs.inside.Tables.{AreRows};
 
 use crate::names::number;
-use crate::sources::{Question, Source};
 use crate::tables::{SourceTable, source_table};
+use sp_around::{Question, Source};
 use sp_ast::{DeclKind, DeclView, Ref, TypeKind, TypeView, UnitKind};
 use sp_base::NoMemory;
 use sp_names::{Declaration, Names};

@@ -2,11 +2,11 @@
 ghost use Rattle.std.specs.Prelude.{◌∷◌, [], IfOk, OnOk};
 ghost use Rattle.sp_ast.specs.Trees.{trees};
 ghost use Rattle.sp_around.specs.Members.{unit_items};
-ghost use Rattle.sp_stored_types.specs.Sources.{declared_in, declared_among, field_named, firsts};
+ghost use Rattle.sp_around.specs.Sources.{declared_in, declared_among, field_named, firsts};
 ghost use Rattle.sp_stored_types.specs.inside.Tables.{Holds, Joins};
 
 use crate::names::{NameTable, declare, look_up, number};
-use crate::sources::Source;
+use sp_around::Source;
 use sp_ast::{
     ArmKind, BodyKind, BodyView, FieldKind, ItemKind, ItemView, Members, PartKind, PartView, Ref,
     UnitKind,

@@ -7,7 +7,7 @@ ghost use Rattle.sp_typed.specs.declared.words.UnitMethod.TheVariants as method_
 ghost use Rattle.sp_declared_values.specs.Answers.{values};
 ghost use Rattle.sp_unit_calls.specs.HookCalling.{callers, has};
 ghost use Rattle.sp_stored_types.specs.Endless.{endless};
-ghost use Rattle.sp_stored_types.specs.Sources.{questions};
+ghost use Rattle.sp_around.specs.Sources.{questions};
 ghost use Rattle.sp_hook_rows.specs.HookRows.{keys_of};
 ghost use Rattle.sp_types.specs.Types.{Ty};
 ghost use Rattle.sp_typing_hooks.specs.Fields.{seen_of};

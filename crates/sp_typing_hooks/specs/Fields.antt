@@ -9,8 +9,8 @@ use Rattle.sp_operands.specs.Operands.{unknown}
 use Rattle.sp_typing_units.specs.Values.{Values}
 use Rattle.sp_typing_units.specs.Attributes.{element_of}
 use Rattle.sp_typing_units.specs.Readings.{counted_read}
-use Rattle.sp_stored_types.specs.Tries.{field_type}
-use Rattle.sp_stored_types.specs.Taken.{differ}
+use Rattle.sp_typing_units.specs.Fields.{field_type}
+use Rattle.sp_around.specs.Taken.{differ}
 use Rattle.sp_hook_order.specs.declared.keys.HookKey.{HookKey}
 use Rattle.sp_hook_order.specs.declared.keys.HookKey.TheVariants as key_is
 use Rattle.sp_hook_order.specs.Keys.{are_same}

@@ -1,7 +1,7 @@
 // What hooks see of the fields on which they hang.
 ghost use Rattle.std.specs.Prelude.{◌≡◌, ◌&&◌, ℕ, true, false, [], List, None, Some, if◌then◌else◌, map, option_copied, IfOk, OnOk};
 ghost use Rattle.sp_types.specs.Types.{Ty};
-ghost use Rattle.sp_stored_types.specs.Taken.{differ};
+ghost use Rattle.sp_around.specs.Taken.{differ};
 ghost use Rattle.sp_hook_order.specs.Keys.{are_same};
 ghost use Rattle.sp_typing_hooks.specs.Fields.{hangs, earlier, if_marked, added, holder_types, holds_container, site_mark, first_stored, elements_of, one_of, seen_of};
 ghost use Rattle.sp_typing_hooks.specs.inside.Tables.{has_mark, type_told, is_another, elements_told, Tells};

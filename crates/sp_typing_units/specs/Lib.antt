@@ -3,5 +3,6 @@ pub mod Decorators
 pub mod Values
 pub mod Attributes
 pub mod Readings
+pub mod Fields
 pub mod Parts
 pub mod Rows

@@ -12,7 +12,7 @@ use Rattle.sp_names.specs.declared.rows.Declaration.{Declaration}
 use Rattle.sp_names.specs.Declarations.{name_of, module_name, module_at, type_tree_of}
 use Rattle.sp_around.specs.Members.{unit_in, unit_items}
 use Rattle.sp_around.specs.Heads.{unit_parameters}
-use Rattle.sp_stored_types.specs.Taken.{taken_among, parameter_numbers, member_number, taken_places}
+use Rattle.sp_around.specs.Taken.{taken_among, parameter_numbers, member_number, taken_places}
 use Rattle.sp_hook_order.specs.declared.keys.HookKey.{HookKey}
 use Rattle.sp_hook_rows.specs.declared.sites.Site.{Site}
 use Rattle.sp_unit_rows.specs.declared.calls.UnitCalls.{UnitCalls}

@@ -4,7 +4,7 @@ use Rattle.sp_base.specs.declared.places.Span.{Span}
 use Rattle.sp_ast.specs.Trees.{Tree}
 use Rattle.sp_typing_units.specs.Parts.{Fields}
 use Rattle.sp_around.specs.Members.{UnitMember, numbered}
-use Rattle.sp_stored_types.specs.Taken.{has_place}
+use Rattle.sp_around.specs.Taken.{has_place}
 use Rattle.sp_hook_order.specs.declared.keys.HookKey.{HookKey}
 use Rattle.sp_hook_order.specs.Keys.{hooks_of}
 use Rattle.sp_hook_rows.specs.declared.sites.Site.{Site}

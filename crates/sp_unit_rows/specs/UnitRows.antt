@@ -23,8 +23,8 @@ use Rattle.sp_names.specs.declared.rows.Declaration.{Declaration}
 use Rattle.sp_names.specs.Declarations.{name_of, module_name, module_at}
 use Rattle.sp_around.specs.Members.{UnitMember, members_of, unit_items, declared_unit, unit_declaration}
 use Rattle.sp_around.specs.Arounds.{stored_by, kind_type}
-use Rattle.sp_stored_types.specs.Taken.{taken_places}
-use Rattle.sp_stored_types.specs.Tries.{field_type}
+use Rattle.sp_around.specs.Taken.{taken_places}
+use Rattle.sp_typing_units.specs.Fields.{field_type}
 use Rattle.sp_hook_order.specs.declared.keys.HookKey.{HookKey}
 use Rattle.sp_hook_rows.specs.declared.sites.Site.{Site}
 use Rattle.sp_unit_calls.specs.PartCalls.{parts_call, variables_call}

@@ -2,8 +2,8 @@
 ghost use Rattle.std.specs.Prelude.{◌≡◌, IfOk};
 ghost use Rattle.sp_around.specs.Members.{members_of};
 ghost use Rattle.sp_field_tables.specs.FieldTables.{unit_of};
-ghost use Rattle.sp_stored_types.specs.Taken.{taken_places};
-ghost use Rattle.sp_stored_types.specs.Tries.{field_type};
+ghost use Rattle.sp_around.specs.Taken.{taken_places};
+ghost use Rattle.sp_typing_units.specs.Fields.{field_type};
 ghost use Rattle.sp_unit_rows.specs.Fields.{hooks_by, field_hooks};
 ghost use Rattle.sp_unit_rows.specs.inside.Shown.{shown};
 

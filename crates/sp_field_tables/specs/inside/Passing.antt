@@ -3,8 +3,8 @@ use Rattle.std.specs.Prelude.{ℕ, ◌≡◌, Bool, true, false, ◌||◌, if◌
 use Rattle.sp_base.specs.declared.places.Span.{Span}
 use Rattle.sp_ast.specs.Trees.{Tree, Trees}
 use Rattle.sp_types.specs.Types.{Ty}
-use Rattle.sp_stored_types.specs.Sources.{declared_in, declared_among, field_named}
-use Rattle.sp_stored_types.specs.Taken.{Kept, has_number, number_differs, differs, place_if, with_number, with_kept, numbers_of, kept_of, field_taken, taken_in, taken_among, taken_arms}
+use Rattle.sp_around.specs.Sources.{declared_in, declared_among, field_named}
+use Rattle.sp_around.specs.Taken.{Kept, has_number, number_differs, differs, place_if, with_number, with_kept, numbers_of, kept_of, field_taken, taken_in, taken_among, taken_arms}
 use Rattle.sp_field_tables.specs.declared.seen.Seen.{Seen}
 use Rattle.sp_field_tables.specs.inside.Seen.{told_count, how_many, kept_differs}
 

@@ -2,7 +2,7 @@
 use Rattle.std.specs.Prelude.{ℕ, ◌+◌, ◌==◌, nat_eq, nat_lt, Bool, false, if◌then◌else◌, cond, List, [], ◌∷◌, Option, Some, None}
 use Rattle.indexmap.specs.IndexMap.{get}
 use Rattle.sp_types.specs.Types.{Ty, is_known}
-use Rattle.sp_stored_types.specs.Taken.{differ}
+use Rattle.sp_around.specs.Taken.{differ}
 use Rattle.sp_field_tables.specs.declared.near.NearTable.{NearTable}
 use Rattle.sp_field_tables.specs.declared.stored.Stored.{Stored}
 use Rattle.sp_field_tables.specs.declared.stored.Stored.TheVariants as stored_is

@@ -22,7 +22,7 @@ use Rattle.sp_typing_units.specs.Values.{Values}
 use Rattle.sp_typing_units.specs.Attributes.{present, maybe_typed, element_of}
 use Rattle.sp_typing_units.specs.Parts.{Fields, field_of, arm_of, field_in, part_of, parts_of, body_of, arms_of}
 use Rattle.sp_typing_units.specs.Readings.{counted_read}
-use Rattle.sp_stored_types.specs.Tries.{field_type}
+use Rattle.sp_typing_units.specs.Fields.{field_type}
 use Rattle.sp_unit_rows.specs.Items.{parts_in}
 use Rattle.sp_body_rules.specs.Known.{Known}
 use Rattle.sp_list_rules.specs.Lists.{all_tests, option_tests}

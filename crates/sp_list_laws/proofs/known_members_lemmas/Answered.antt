@@ -24,9 +24,9 @@ use Rattle.sp_list_rules.specs.Names.{order_names, variable_names, sink_names, p
 use Rattle.sp_list_rules.specs.Bodies.{parameter_tests, order_tests, variable_tests}
 use Rattle.sp_list_rules.specs.Fields.{parts_tests}
 use Rattle.sp_declared_values.specs.Answers.{values}
-use Rattle.sp_stored_types.specs.declared.sources.Source.{Source}
-use Rattle.sp_stored_types.specs.declared.sources.Question.{Question}
-use Rattle.sp_stored_types.specs.Sources.{declared_among, sources_of, firsts, asked as questions_from, questions_of, questions_before, units, questions}
+use Rattle.sp_around.specs.declared.sources.Source.{Source}
+use Rattle.sp_around.specs.declared.sources.Question.{Question}
+use Rattle.sp_around.specs.Sources.{declared_among, sources_of, firsts, asked as questions_from, questions_of, questions_before, units, questions}
 use Rattle.sp_stored_types.specs.Tries.{in_unit, source_type, source_open}
 use Rattle.sp_list_context.specs.Contexts.{parameter_trees}
 use Rattle.sp_typed_list.specs.Settled.{Answers}

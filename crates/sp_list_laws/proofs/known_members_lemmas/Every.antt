@@ -20,7 +20,7 @@ use Rattle.sp_declared_values.specs.declared.answer.Answer.{Answer}
 use Rattle.sp_declared_values.specs.Answers.{values}
 use Rattle.sp_hook_rows.specs.declared.sites.Site.{Site}
 use Rattle.sp_hook_rows.specs.declared.rows.HookRow.{HookRow}
-use Rattle.sp_stored_types.specs.Sources.{units}
+use Rattle.sp_around.specs.Sources.{units}
 use Rattle.sp_unit_rows.specs.UnitRows.{unit_row}
 use Rattle.sp_list_context.specs.Contexts.{at_home, homes_of}
 use Rattle.sp_typed_list.specs.Settled.{Answers}

@@ -47,9 +47,9 @@ use Rattle.sp_list_rules.specs.Names.{expr_names, attribute_names, spec_names, f
 use Rattle.sp_list_rules.specs.Bodies.{inside_tests}
 use Rattle.sp_list_rules.specs.Fields.{kind_of, asked_tests, attribute_tests, spec_tests, field_tests}
 use Rattle.sp_declared_values.specs.Answers.{values}
-use Rattle.sp_stored_types.specs.declared.sources.Source.{Source}
-use Rattle.sp_stored_types.specs.declared.sources.Source.TheVariants as source_is
-use Rattle.sp_stored_types.specs.Sources.{questions}
+use Rattle.sp_around.specs.declared.sources.Source.{Source}
+use Rattle.sp_around.specs.declared.sources.Source.TheVariants as source_is
+use Rattle.sp_around.specs.Sources.{questions}
 use Rattle.sp_stored_types.specs.Opens.{or_else, conversion_open, base_open}
 use Rattle.sp_stored_types.specs.Tries.{source_type, source_open}
 use Rattle.sp_stored_types.specs.inside.Kept.{else_none, or_none}

@@ -32,9 +32,9 @@ use Rattle.sp_list_rules.specs.Lists.{all_tests, option_tests}
 use Rattle.sp_list_rules.specs.Names.{expr_names, part_names, parts_names, arms_names}
 use Rattle.sp_list_rules.specs.Bodies.{plain_tests, member_type, variable_tests}
 use Rattle.sp_list_rules.specs.Fields.{subject_tests, arm_tests, part_tests, parts_tests, arms_tests}
-use Rattle.sp_stored_types.specs.declared.sources.Source.{Source}
-use Rattle.sp_stored_types.specs.declared.sources.Source.TheVariants as source_is
-use Rattle.sp_stored_types.specs.Sources.{Named, field_named, declared_in, declared_among, has_name, firsts, sources_of}
+use Rattle.sp_around.specs.declared.sources.Source.{Source}
+use Rattle.sp_around.specs.declared.sources.Source.TheVariants as source_is
+use Rattle.sp_around.specs.Sources.{Named, field_named, declared_in, declared_among, has_name, firsts, sources_of}
 use Rattle.sp_unit_rows.specs.Items.{variable_of, variables_in, parts_in}
 use Rattle.sp_typed_list.specs.Settled.{Answers}
 use Rattle.sp_typed_list.specs.Lists.{typed_of}

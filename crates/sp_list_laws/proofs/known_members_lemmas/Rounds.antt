@@ -19,8 +19,8 @@ use Rattle.sp_names.specs.Types.{or_unknown}
 use Rattle.sp_around.specs.Members.{unit_declaration}
 use Rattle.sp_list_rules.specs.Lists.{all_tests}
 use Rattle.sp_list_rules.specs.Bodies.{conversion_tests}
-use Rattle.sp_stored_types.specs.declared.sources.Question.{Question}
-use Rattle.sp_stored_types.specs.Sources.{questions}
+use Rattle.sp_around.specs.declared.sources.Question.{Question}
+use Rattle.sp_around.specs.Sources.{questions}
 use Rattle.sp_stored_types.specs.Tries.{in_unit, source_type, source_open, when_open, nowhere, try_unit, try_asked, tries, AreStored}
 use Rattle.sp_stored_types.specs.Endless.{module_of, endless_row, unless_known, place_of, endless_of, endless_from}
 use Rattle.sp_stored_types.specs.inside.Aligned.{are_in_row}

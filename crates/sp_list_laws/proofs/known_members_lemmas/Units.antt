@@ -40,7 +40,7 @@ use Rattle.sp_hook_rows.specs.declared.sites.Site.{Site}
 use Rattle.sp_hook_rows.specs.declared.rows.HookRow.{HookRow}
 use Rattle.sp_hook_rows.specs.Sites.{sites}
 use Rattle.sp_hook_rows.specs.HookRows.{hook_rows}
-use Rattle.sp_stored_types.specs.Sources.{units, questions}
+use Rattle.sp_around.specs.Sources.{units, questions}
 use Rattle.sp_unit_rows.specs.UnitRows.{unit_row, row_after, declared_row, fields_in, inside_unit, parameter_trees as trees_of_parameters}
 use Rattle.sp_list_context.specs.Contexts.{in_module, at_home, homes_of, all_parameters_of, parameters_of, seeing, seeing_parameters}
 use Rattle.sp_typed_list.specs.Settled.{Answers}

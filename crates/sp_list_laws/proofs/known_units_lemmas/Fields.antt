@@ -57,7 +57,7 @@ use Rattle.sp_body_rules.specs.StmtTests.{is_sink}
 use Rattle.sp_list_rules.specs.Lists.{all_tests, option_tests}
 use Rattle.sp_list_rules.specs.Names.{expr_names, attribute_names, spec_names, field_names}
 use Rattle.sp_list_rules.specs.Fields.{kind_of, asked_tests, amount_tests, truth_tests, attribute_tests, exprs_inside, spec_tests, reads_void, is_bytes_field, sink_tests, field_tests}
-use Rattle.sp_stored_types.specs.Sources.{questions}
+use Rattle.sp_around.specs.Sources.{questions}
 use Rattle.sp_hook_rows.specs.HookRows.{is_some_tree}
 use Rattle.sp_unit_rules.specs.declared.here.Here.{Here}
 use Rattle.sp_unit_rules.specs.Kinds.{read_kind, list_kind, holder_of, kind_of as rules_kind}

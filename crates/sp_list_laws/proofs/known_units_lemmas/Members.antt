@@ -10,7 +10,7 @@ use Rattle.sp_typed_units.specs.declared.declarations.MemberKind.{MemberKind}
 use Rattle.sp_typed_units.specs.declared.declarations.MemberKind.TheVariants as kind_is
 use Rattle.sp_around.specs.Members.{UnitMember, unit_members, first_member}
 use Rattle.sp_around.specs.Arounds.{kind_type}
-use Rattle.sp_stored_types.specs.Sources.{units, questions}
+use Rattle.sp_around.specs.Sources.{units, questions}
 use Rattle.sp_stored_types.specs.inside.Aligned.{begins_at}
 use Rattle.sp_unit_rows.specs.UnitRows.{member_rows}
 use Rattle.sp_list_laws.specs.known_types.Full.{is_full}

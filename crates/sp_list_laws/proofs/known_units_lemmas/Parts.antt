@@ -40,7 +40,7 @@ use Rattle.sp_list_rules.specs.Lists.{all_tests, option_tests}
 use Rattle.sp_list_rules.specs.Names.{expr_names, part_names, parts_names, arms_names, variable_names, order_names}
 use Rattle.sp_list_rules.specs.Bodies.{inside_tests, is_enum_of, order_tests, plain_tests, member_type, first_value_tests, variable_tests}
 use Rattle.sp_list_rules.specs.Fields.{subject_tests, arm_tests, part_tests, parts_tests, arms_tests}
-use Rattle.sp_stored_types.specs.Sources.{questions}
+use Rattle.sp_around.specs.Sources.{questions}
 use Rattle.sp_unit_rules.specs.declared.here.Here.{Here}
 use Rattle.sp_unit_rules.specs.Readings.{maybe_tests, exprs_tests}
 use Rattle.sp_unit_rules.specs.Units.{part_tests as part_rules, parts_tests as parts_rules, arms_tests as arms_rules}

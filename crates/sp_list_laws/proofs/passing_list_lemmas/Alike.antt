@@ -23,7 +23,7 @@ use Rattle.sp_around.specs.Members.{UnitMember, unit_members, numbered, kinds_of
 use Rattle.sp_typing.specs.Contexts.{Around as Names}
 use Rattle.sp_typing_units.specs.Values.{Values}
 use Rattle.sp_typing_units.specs.Parts.{Fields}
-use Rattle.sp_stored_types.specs.Tries.{field_type}
+use Rattle.sp_typing_units.specs.Fields.{field_type}
 use Rattle.sp_typing_hooks.specs.Fields.{mark_of, key_in}
 use Rattle.sp_typing_hooks.specs.Hooks.{ranks_of}
 use Rattle.sp_hook_order.specs.declared.keys.HookKey.{HookKey}

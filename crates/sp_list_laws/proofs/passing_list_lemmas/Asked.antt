@@ -4,9 +4,9 @@ use Rattle.std.proofs.Common.{ℕ, ◌≡◌, ◌+◌, ◌<◌, zero, suc, refl,
 use Rattle.std.proofs.lemmas.Bool.Decides.{nat_tests}
 use Rattle.sp_ast.specs.Trees.{Tree}
 use Rattle.sp_around.specs.Members.{first_member, kinds_of}
-use Rattle.sp_stored_types.specs.declared.sources.Source.{Source}
-use Rattle.sp_stored_types.specs.declared.sources.Question.{Question}
-use Rattle.sp_stored_types.specs.Sources.{Named, sources_of, asked, questions_of, questions_before, units, questions, kind_of, members}
+use Rattle.sp_around.specs.declared.sources.Source.{Source}
+use Rattle.sp_around.specs.declared.sources.Question.{Question}
+use Rattle.sp_around.specs.Sources.{Named, sources_of, asked, questions_of, questions_before, units, questions, kind_of, members}
 use Rattle.sp_stored_types.specs.inside.Aligned.{begins_at}
 use Rattle.sp_list_laws.proofs.whole_list_lemmas.Modules.{none_found, some_found}
 

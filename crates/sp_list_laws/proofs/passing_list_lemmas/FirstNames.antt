@@ -6,8 +6,8 @@ use Rattle.std.proofs.lemmas.Slice.Eq.{bytes_eq-Decides}
 use Rattle.sp_ast.specs.Trees.{Tree}
 use Rattle.sp_types.specs.Types.{Ty}
 use Rattle.sp_around.specs.Members.{unit_items}
-use Rattle.sp_stored_types.specs.Sources.{Named, has_name, firsts, numbered, declared_among}
-use Rattle.sp_stored_types.specs.Taken.{has, with_number, has_number, numbers_of, member_number}
+use Rattle.sp_around.specs.Sources.{Named, has_name, firsts, numbered, declared_among}
+use Rattle.sp_around.specs.Taken.{has, with_number, has_number, numbers_of, member_number}
 use Rattle.sp_list_laws.proofs.known_types_lemmas.Full.{never}
 use Rattle.sp_list_laws.proofs.whole_list_lemmas.Modules.{none_found}
 use Rattle.sp_list_laws.proofs.passing_list_lemmas.Seen.{equal_itself}

@@ -18,7 +18,7 @@ use Rattle.sp_typing_units.specs.Values.{Values}
 use Rattle.sp_typing_units.specs.Attributes.{present}
 use Rattle.sp_typing_units.specs.Readings.{counted_read}
 use Rattle.sp_typing_units.specs.Parts.{Fields, field_place, field_of, field_in}
-use Rattle.sp_stored_types.specs.Tries.{field_type}
+use Rattle.sp_typing_units.specs.Fields.{field_type}
 use Rattle.sp_hook_order.specs.declared.keys.HookKey.{HookKey}
 use Rattle.sp_hook_order.specs.declared.keys.HookKey.TheVariants as key_is
 use Rattle.sp_hook_order.specs.Keys.{are_same, hangs_on, key_at as key_of_hook, parts_of}

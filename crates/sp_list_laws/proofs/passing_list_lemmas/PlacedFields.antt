@@ -16,7 +16,7 @@ use Rattle.sp_typed_units.specs.Parts.{Part, Parts, field, choice, no_parts, mor
 use Rattle.sp_typing.specs.Contexts.{Around}
 use Rattle.sp_typing_units.specs.Values.{Values}
 use Rattle.sp_typing_units.specs.Parts.{Fields, field_in, part_of}
-use Rattle.sp_stored_types.specs.Tries.{field_type}
+use Rattle.sp_typing_units.specs.Fields.{field_type}
 use Rattle.sp_hook_order.specs.declared.keys.HookKey.{HookKey}
 use Rattle.sp_hook_order.specs.declared.keys.HookKey.TheVariants as key_is
 use Rattle.sp_hook_order.specs.Keys.{parts_of}

@@ -34,12 +34,13 @@ use Rattle.sp_body_rules.specs.Values.{is_no_value, value_goes, target_tests}
 use Rattle.sp_list_rules.specs.Lists.{all_tests, option_tests}
 use Rattle.sp_list_rules.specs.Names.{order_names, variable_names, sink_names, parts_names}
 use Rattle.sp_list_rules.specs.Bodies.{member_type, plain_tests, inside_tests, first_value_tests, variable_tests}
-use Rattle.sp_stored_types.specs.declared.sources.Source.{Source}
-use Rattle.sp_stored_types.specs.declared.sources.Source.TheVariants as source_is
-use Rattle.sp_stored_types.specs.declared.sources.Question.{Question}
-use Rattle.sp_stored_types.specs.Sources.{Named, unit_sources, firsts, declared_among, asked as questions_from, questions_of, units, questions, kind_of, members}
-use Rattle.sp_stored_types.specs.Tries.{in_unit, field_type, source_type, source_open, when_open, try_unit, try_asked}
-use Rattle.sp_stored_types.specs.inside.Aligned.{members_are, numbered_is}
+use Rattle.sp_around.specs.declared.sources.Source.{Source}
+use Rattle.sp_around.specs.declared.sources.Source.TheVariants as source_is
+use Rattle.sp_around.specs.declared.sources.Question.{Question}
+use Rattle.sp_around.specs.Sources.{Named, unit_sources, firsts, declared_among, asked as questions_from, questions_of, units, questions, kind_of, members}
+use Rattle.sp_typing_units.specs.Fields.{field_type}
+use Rattle.sp_stored_types.specs.Tries.{in_unit, source_type, source_open, when_open, try_unit, try_asked}
+use Rattle.sp_around.specs.inside.Aligned.{members_are, numbered_is}
 use Rattle.sp_solver.specs.declared.attempt.Attempt.TheVariants.{Done}
 use Rattle.sp_unit_rows.specs.UnitRows.{inside_unit}
 use Rattle.sp_unit_rows.specs.Fields.{number_or}

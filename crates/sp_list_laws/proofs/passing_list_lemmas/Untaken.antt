@@ -24,11 +24,12 @@ use Rattle.sp_typing_units.specs.Attributes.{present, maybe_typed}
 use Rattle.sp_typing_units.specs.Readings.{counted_read}
 use Rattle.sp_typing_units.specs.Parts.{Fields, field_of, field_in, part_of}
 use Rattle.sp_around.specs.Members.{unit_items}
-use Rattle.sp_stored_types.specs.declared.sources.Source.{Source}
-use Rattle.sp_stored_types.specs.declared.sources.Source.TheVariants as source_is
-use Rattle.sp_stored_types.specs.Sources.{Named, declared_in, declared_among}
-use Rattle.sp_stored_types.specs.Tries.{field_type, source_type}
-use Rattle.sp_stored_types.specs.Taken.{Kept, has, same_place, has_place, with_number, has_number, number_differs, place_if, numbers_of, kept_of, taken_in, taken_among, taken_places, parameter_numbers, member_number}
+use Rattle.sp_around.specs.declared.sources.Source.{Source}
+use Rattle.sp_around.specs.declared.sources.Source.TheVariants as source_is
+use Rattle.sp_around.specs.Sources.{Named, declared_in, declared_among}
+use Rattle.sp_typing_units.specs.Fields.{field_type}
+use Rattle.sp_stored_types.specs.Tries.{source_type}
+use Rattle.sp_around.specs.Taken.{Kept, has, same_place, has_place, with_number, has_number, number_differs, place_if, numbers_of, kept_of, taken_in, taken_among, taken_places, parameter_numbers, member_number}
 use Rattle.sp_around.specs.Heads.{unit_parameters}
 use Rattle.sp_unit_rows.specs.Items.{brought, variables_in, parts_in}
 use Rattle.sp_list_rules.specs.Lists.{all_tests}

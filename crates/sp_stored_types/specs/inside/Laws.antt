@@ -32,12 +32,13 @@ use Rattle.sp_solver.specs.declared.attempt.Attempt.{Attempt}
 use Rattle.sp_solver.specs.declared.attempt.Attempt.TheVariants.{Done, Waits}
 use Rattle.sp_solver.specs.Rounds.{Within, IsFair}
 use Rattle.sp_around.specs.Members.{first_member}
-use Rattle.sp_stored_types.specs.declared.sources.Source.{Source}
-use Rattle.sp_stored_types.specs.declared.sources.Source.TheVariants as source_is
-use Rattle.sp_stored_types.specs.declared.sources.Question.{Question}
-use Rattle.sp_stored_types.specs.Sources.{questions}
+use Rattle.sp_around.specs.declared.sources.Source.{Source}
+use Rattle.sp_around.specs.declared.sources.Source.TheVariants as source_is
+use Rattle.sp_around.specs.declared.sources.Question.{Question}
+use Rattle.sp_around.specs.Sources.{questions}
 use Rattle.sp_stored_types.specs.Opens.{with_members, or_else, unanswered, open_at, open_of, open_member, open_in, open_among, conversion_open, base_open, field_open}
-use Rattle.sp_stored_types.specs.Tries.{in_unit, field_type, source_type, source_open, when_open, nowhere, try_unit, try_asked, tries}
+use Rattle.sp_typing_units.specs.Fields.{field_type}
+use Rattle.sp_stored_types.specs.Tries.{in_unit, source_type, source_open, when_open, nowhere, try_unit, try_asked, tries}
 use Rattle.sp_stored_types.specs.inside.Kept.{Kept, kept_known, kept_made, kept_then, none_some, some_is}
 use Rattle.sp_stored_types.specs.inside.Typed.{AreInRow, typed_kept}
 use Rattle.sp_stored_types.specs.inside.Aligned.{are_in_row}

@@ -4,8 +4,8 @@ use Rattle.indexmap.specs.IndexMap.{get_by_text}
 use Rattle.sp_stored_types.specs.declared.names.NameTable.{NameTable}
 use Rattle.sp_stored_types.specs.declared.tables.SourceTable.{SourceTable}
 use Rattle.sp_ast.specs.Trees.{Tree}
-use Rattle.sp_stored_types.specs.declared.sources.Question.{Question}
-use Rattle.sp_stored_types.specs.Sources.{Named, numbered, sources_of, questions, units, firsts_before}
+use Rattle.sp_around.specs.declared.sources.Question.{Question}
+use Rattle.sp_around.specs.Sources.{Named, numbered, sources_of, questions, units, firsts_before}
 
 -- what a table tells of a name
 abbrev pub told_by : NameTable → List ℕ → Option ℕ

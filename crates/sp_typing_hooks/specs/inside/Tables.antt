@@ -3,7 +3,7 @@ use Rattle.std.specs.Prelude.{ℕ, ◌≡◌, true, false, Bool, if◌then◌els
 use Rattle.indexmap.specs.IndexMap.{get}
 use Rattle.indexmap.specs.IndexSet.{contains}
 use Rattle.sp_types.specs.Types.{Ty}
-use Rattle.sp_stored_types.specs.Taken.{differ}
+use Rattle.sp_around.specs.Taken.{differ}
 use Rattle.sp_hook_order.specs.declared.keys.HookKey.{HookKey}
 use Rattle.sp_hook_order.specs.Keys.{are_same}
 use Rattle.sp_typing_hooks.specs.declared.marks.Marks.{Marks}

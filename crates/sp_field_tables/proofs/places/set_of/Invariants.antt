@@ -1,7 +1,7 @@
 use Rattle.std.proofs.Common.{◌≡◌, drop}
 use Rattle.std.specs.Prelude.{◌||◌}
 use Rattle.sp_base.specs.declared.places.Span.{Span}
-use Rattle.sp_stored_types.specs.Taken.{has_place}
+use Rattle.sp_around.specs.Taken.{has_place}
 use Rattle.sp_field_tables.specs.inside.Places.{has_told}
 use Rattle.sp_field_tables.proofs.places.set_of.Given as goal
 

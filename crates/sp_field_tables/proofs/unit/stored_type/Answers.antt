@@ -1,7 +1,7 @@
 use Rattle.std.proofs.Common.{◌∙◌, ap}
 use Rattle.sp_ast.specs.Trees.{trees}
 use Rattle.sp_typing_units.specs.Attributes.{conversion, converted}
-use Rattle.sp_stored_types.specs.Tries.{field_type}
+use Rattle.sp_typing_units.specs.Fields.{field_type}
 use Rattle.sp_field_tables.proofs.unit.stored_type.Goals as goal
 
 pub returns : goal.returns

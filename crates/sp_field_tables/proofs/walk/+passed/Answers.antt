@@ -3,8 +3,8 @@ use Rattle.std.specs.Prelude.{◌-◌}
 use Rattle.std.specs.declared.vec.Vec.{Vec}
 use Rattle.sp_ast.specs.Trees.{trees, trees_size}
 use Rattle.sp_names.proofs.Bits.{less_behind}
-use Rattle.sp_stored_types.specs.Sources.{declared_in, declared_among}
-use Rattle.sp_stored_types.specs.Taken.{numbers_of, kept_of, taken_in, taken_arms}
+use Rattle.sp_around.specs.Sources.{declared_in, declared_among}
+use Rattle.sp_around.specs.Taken.{numbers_of, kept_of, taken_in, taken_arms}
 use Rattle.sp_field_tables.specs.inside.Seen.{told_count, how_many}
 use Rattle.sp_field_tables.specs.inside.Passing.{PassedIn}
 use Rattle.sp_field_tables.proofs.Passing.{among_step, among_end, arms_step, arms_end, shown, hidden}

@@ -1,5 +1,5 @@
 use Rattle.std.proofs.Common.{ℕ, ◌≡◌, ◌+◌}
-use Rattle.sp_stored_types.specs.Taken.{parameter_numbers}
+use Rattle.sp_around.specs.Taken.{parameter_numbers}
 use Rattle.sp_field_tables.specs.inside.Seen.{told_count, how_many}
 use Rattle.sp_field_tables.proofs.walk.mark_parameters.Given as goal
 

@@ -3,7 +3,7 @@ use Rattle.sp_ast.specs.Trees.{trees, span_of}
 use Rattle.sp_around.specs.Members.{unit_items}
 use Rattle.sp_around.specs.Heads.{unit_parameters}
 use Rattle.sp_around.proofs.Steps.{parameters_are}
-use Rattle.sp_stored_types.specs.Taken.{taken_among, parameter_numbers}
+use Rattle.sp_around.specs.Taken.{taken_among, parameter_numbers}
 use Rattle.sp_field_tables.specs.inside.Passing.{IsSeen}
 use Rattle.sp_field_tables.proofs.walk.taken_places.Goals as goal
 

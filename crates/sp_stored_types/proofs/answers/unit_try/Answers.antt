@@ -1,7 +1,7 @@
 use Rattle.std.proofs.Common.{length}
 use Rattle.sp_solver.specs.Told.{told}
 use Rattle.sp_names.proofs.Lookups.{some_at, none_at}
-use Rattle.sp_stored_types.specs.Sources.{questions}
+use Rattle.sp_around.specs.Sources.{questions}
 use Rattle.sp_stored_types.proofs.Places.{try_there, try_absent}
 use Rattle.sp_stored_types.proofs.answers.unit_try.Goals as goal
 

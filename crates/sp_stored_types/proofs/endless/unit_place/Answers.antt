@@ -5,7 +5,7 @@ use Rattle.sp_typed.specs.declared.words.Standing.TheVariants as standing_is
 use Rattle.sp_typing_units.specs.Decorators.{with_self}
 use Rattle.sp_solver.specs.Told.{told}
 use Rattle.sp_names.proofs.Lookups.{some_at, none_at}
-use Rattle.sp_stored_types.specs.Sources.{questions}
+use Rattle.sp_around.specs.Sources.{questions}
 use Rattle.sp_stored_types.specs.Opens.{with_members}
 use Rattle.sp_stored_types.specs.Endless.{source_place, unit_place}
 use Rattle.sp_stored_types.proofs.Places.{unit_there, unit_absent}

@@ -2,7 +2,7 @@ use Rattle.std.proofs.Common.{◌≡◌, ◌+◌, ◌*◌, drop, length}
 use Rattle.sp_typed.specs.Exprs.{exprs}
 use Rattle.sp_typed.specs.inside.ExprCodes.{expr_size, exprs_size}
 use Rattle.sp_solver.specs.Told.{told}
-use Rattle.sp_stored_types.specs.Sources.{questions}
+use Rattle.sp_around.specs.Sources.{questions}
 use Rattle.sp_stored_types.specs.Opens.{open_among}
 use Rattle.sp_stored_types.proofs.opens.+open.Given as goal
 

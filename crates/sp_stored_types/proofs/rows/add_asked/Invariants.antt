@@ -1,5 +1,5 @@
 use Rattle.std.proofs.Common.{◌≡◌, ◌++◌}
-use Rattle.sp_stored_types.specs.Sources.{asked}
+use Rattle.sp_around.specs.Sources.{asked}
 use Rattle.sp_stored_types.proofs.rows.add_asked.Given as goal
 
 abbrev pub invariant-loop-source : goal.invariant-loop-source

@@ -1,6 +1,6 @@
 use Rattle.sp_ast.specs.Trees.{trees, trees_size}
 use Rattle.sp_names.proofs.Bits.{less_behind}
-use Rattle.sp_stored_types.specs.Sources.{declared_among}
+use Rattle.sp_around.specs.Sources.{declared_among}
 use Rattle.sp_stored_types.proofs.Joining.{on_more, on_none}
 use Rattle.sp_stored_types.proofs.tables.+named.Goals as goal
 

@@ -1,6 +1,6 @@
 use Rattle.std.proofs.Common.{◌≤◌, ◌+◌, ◌*◌}
 use Rattle.sp_ast.specs.Trees.{tree_size, trees_size, trees}
-use Rattle.sp_stored_types.specs.Sources.{declared_among}
+use Rattle.sp_around.specs.Sources.{declared_among}
 use Rattle.sp_stored_types.specs.inside.Tables.{LeadsOn}
 use Rattle.sp_stored_types.proofs.tables.+named.Given as goal
 

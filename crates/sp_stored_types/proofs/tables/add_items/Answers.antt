@@ -1,5 +1,5 @@
 use Rattle.sp_ast.specs.Trees.{trees}
-use Rattle.sp_stored_types.specs.Sources.{declared_among}
+use Rattle.sp_around.specs.Sources.{declared_among}
 use Rattle.sp_stored_types.proofs.Joining.{on_more, on_none}
 use Rattle.sp_stored_types.proofs.tables.add_items.Goals as goal
 

@@ -1,5 +1,5 @@
 use Rattle.sp_ast.specs.Trees.{trees}
-use Rattle.sp_stored_types.specs.Sources.{declared_among}
+use Rattle.sp_around.specs.Sources.{declared_among}
 use Rattle.sp_stored_types.specs.inside.Tables.{LeadsOn}
 use Rattle.sp_stored_types.proofs.tables.add_items.Given as goal
 

@@ -1,6 +1,6 @@
 use Rattle.std.proofs.Common.{subst}
 use Rattle.sp_around.specs.Members.{unit_items}
-use Rattle.sp_stored_types.specs.Sources.{declared_among}
+use Rattle.sp_around.specs.Sources.{declared_among}
 use Rattle.sp_stored_types.specs.inside.Tables.{Joins}
 use Rattle.sp_stored_types.proofs.Joining.{holds_firsts}
 use Rattle.sp_stored_types.proofs.tables.source_table.Goals as goal

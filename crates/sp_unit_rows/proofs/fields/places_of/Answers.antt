@@ -1,7 +1,7 @@
 use Rattle.std.proofs.Common.{◌≡◌, ◌∙◌, ap}
 use Rattle.sp_field_tables.specs.FieldTables.{unit_of}
-use Rattle.sp_stored_types.specs.Taken.{taken_places}
-use Rattle.sp_stored_types.specs.Tries.{field_type}
+use Rattle.sp_around.specs.Taken.{taken_places}
+use Rattle.sp_typing_units.specs.Fields.{field_type}
 use Rattle.sp_unit_rows.proofs.Bodies.{taken_is}
 use Rattle.sp_unit_rows.proofs.fields.places_of.Goals as goal
 

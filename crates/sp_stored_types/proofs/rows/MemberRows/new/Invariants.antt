@@ -1,5 +1,5 @@
 use Rattle.std.proofs.Common.{◌≡◌}
-use Rattle.sp_stored_types.specs.Sources.{questions_before, firsts_before}
+use Rattle.sp_around.specs.Sources.{questions_before, firsts_before}
 use Rattle.sp_stored_types.proofs.rows.MemberRows.new.Given as goal
 
 abbrev pub invariant-loop-n : goal.invariant-loop-n

@@ -11,9 +11,9 @@ use Rattle.sp_names.specs.Declarations.{name_of, all_of}
 use Rattle.sp_typed_units.specs.declared.declarations.MemberKind.{MemberKind}
 use Rattle.sp_typed_units.specs.declared.declarations.MemberKind.TheVariants as kind_is
 use Rattle.sp_around.specs.Members.{UnitMember, unit_items, declared_unit, unit_declaration, first_member}
-use Rattle.sp_stored_types.specs.declared.sources.Source.{Source}
-use Rattle.sp_stored_types.specs.declared.sources.Source.TheVariants as source_is
-use Rattle.sp_stored_types.specs.declared.sources.Question.{Question}
+use Rattle.sp_around.specs.declared.sources.Source.{Source}
+use Rattle.sp_around.specs.declared.sources.Source.TheVariants as source_is
+use Rattle.sp_around.specs.declared.sources.Question.{Question}
 
 -- a variable, a sink or a field of a unit, by its name
 pub record Named : Type 0 where

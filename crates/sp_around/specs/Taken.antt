@@ -11,9 +11,9 @@ use Rattle.sp_types.specs.Types.{Ty, is_known, same}
 use Rattle.sp_names.specs.Declarations.{name_of}
 use Rattle.sp_around.specs.Members.{unit_items}
 use Rattle.sp_around.specs.Heads.{unit_parameters}
-use Rattle.sp_stored_types.specs.declared.sources.Source.{Source}
-use Rattle.sp_stored_types.specs.declared.sources.Source.TheVariants as source_is
-use Rattle.sp_stored_types.specs.Sources.{Named, declared_in, declared_among, firsts, numbered}
+use Rattle.sp_around.specs.declared.sources.Source.{Source}
+use Rattle.sp_around.specs.declared.sources.Source.TheVariants as source_is
+use Rattle.sp_around.specs.Sources.{Named, declared_in, declared_among, firsts, numbered}
 
 -- a field, by the number of its member and the type of what it stores
 pub record Kept : Type 0 where
