@@ -31,7 +31,7 @@ use Rattle.sp_names.specs.Names.{path_means}
 use Rattle.sp_names.specs.Types.{type_in, or_unknown}
 use Rattle.sp_around.specs.Members.{UnitMember, unit_members, first_member, numbered, kinds_of, range_number, bitfield_width, bitfield_tree}
 use Rattle.sp_around.specs.Heads.{function_takes, unit_takes, function_gives}
-use Rattle.sp_around.specs.Methods.{method_of, method_takes, unit_method_takes, sink_method_takes, left_out_of}
+use Rattle.sp_method_types.specs.Methods.{method_of, method_takes, unit_method_takes, sink_method_takes, left_out_of}
 use Rattle.sp_around.specs.Written.{name_span, written_in}
 
 -- what is known of a list of modules when its expressions are typed

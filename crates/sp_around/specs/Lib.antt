@@ -2,7 +2,6 @@ pub mod Members
 pub mod Heads
 pub mod Sources
 pub mod Taken
-pub mod Methods
 pub mod Written
 pub mod Arounds
 pub mod Holds

@@ -34,7 +34,7 @@ use Rattle.sp_typing.specs.Typing.{leaf_at}
 use Rattle.sp_solver.specs.Rounds.{round}
 use Rattle.sp_names.specs.Aliases.{tries}
 use Rattle.sp_around.specs.Members.{unit_members, first_member}
-use Rattle.sp_around.specs.Methods.{number, octets, nothing, charset, strategy}
+use Rattle.sp_method_types.specs.Methods.{number, octets, nothing, charset, strategy}
 use Rattle.sp_around.specs.Arounds.{Facts, around}
 
 abbrev span : ℕ → Span

@@ -9,11 +9,11 @@ ghost use Rattle.sp_typing.specs.Typing.{leaf_at};
 ghost use Rattle.sp_solver.specs.Told.{told};
 ghost use Rattle.sp_around.specs.Arounds.{stored_by, type_leaf, declared_at, path_at, member_of, new_takes, target_of, left_out_by};
 
-use crate::methods::{fill_method, method_of, method_takes, sink_method_takes, unit_method_takes};
 use crate::tables::Tables;
 use crate::written::{name_span, written_in};
 use sp_ast::{PathKind, Ref, TypeKind};
 use sp_base::{NoMemory, Span};
+use sp_method_types::{fill_method, method_of, method_takes, sink_method_takes, unit_method_takes};
 use sp_names::{DeclSort, Meaning};
 use sp_typed::{Expr, Leaf, LeafOp, ManyOp, NewOf, Standing, Written};
 use sp_types::{Level, Type, Word};

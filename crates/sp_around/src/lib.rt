@@ -3,14 +3,12 @@
 
 mod here;
 mod members;
-mod methods;
 mod names;
 mod sources;
 mod tables;
 mod written;
 
 pub use here::{Constants, Here};
-pub use methods::{fill_method, method_of, method_takes, sink_method_takes, unit_method_takes};
 pub use sources::{Question, Source};
 pub use tables::Tables;
 pub use written::{Place, misplaced_in, name_span, unnamed_in, written_in};

@@ -33,7 +33,7 @@ use Rattle.sp_names.specs.declared.sort.Meaning.TheVariants as meaning_is
 use Rattle.sp_names.specs.Declarations.{sort_at, number_at, library_enums}
 use Rattle.sp_names.specs.Names.{path_means}
 use Rattle.sp_names.specs.Types.{one_or_none}
-use Rattle.sp_around.specs.Methods.{left_out_of, base_ten, utf8, replace}
+use Rattle.sp_method_types.specs.Methods.{left_out_of, base_ten, utf8, replace}
 use Rattle.sp_around.specs.Arounds.{word_leaf, type_leaf, declared_at, meaning_at, path_at}
 use Rattle.sp_constants.specs.declared.outcome.Outcome.TheVariants.{Value}
 use Rattle.sp_constants.specs.Known.{Known}

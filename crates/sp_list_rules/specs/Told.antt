@@ -17,7 +17,7 @@ use Rattle.sp_typed_units.specs.declared.declarations.LabelNumber.TheVariants as
 use Rattle.sp_typed_units.specs.declared.declarations.Label.{Label}
 use Rattle.sp_typed_units.specs.declared.declarations.Enum.{Enum}
 use Rattle.sp_typed_units.specs.declared.declarations.Typed.{Typed}
-use Rattle.sp_around.specs.Methods.{method_takes, unit_method_takes, sink_method_takes}
+use Rattle.sp_method_types.specs.Methods.{method_takes, unit_method_takes, sink_method_takes}
 use Rattle.sp_constants.specs.declared.outcome.Outcome.{Outcome}
 use Rattle.sp_constants.specs.declared.outcome.Outcome.TheVariants as outcome_is
 use Rattle.sp_constants.specs.Known.{Known as Values}

@@ -3,10 +3,10 @@ ghost use Rattle.std.specs.Prelude.{◌≡◌, slice_get, IfOk};
 ghost use Rattle.sp_list_rules.specs.Told.{parameter_type, function_takes, unit_takes, new_takes, target_of, constancy_of, known_in};
 
 use crate::slots::ForSlots;
-use sp_around::{method_takes, sink_method_takes, unit_method_takes};
 use sp_base::NoMemory;
 use sp_body_rules::{Constancy, Facts};
 use sp_constants::{Constants, Outcome, value_of};
+use sp_method_types::{method_takes, sink_method_takes, unit_method_takes};
 use sp_typed::{Expr, ManyOp, NewOf};
 use sp_typed_units::{Parameter, Typed};
 use sp_types::Type;

@@ -17,4 +17,3 @@ pub use fields::source_try;
 pub use laws::{none_is_passed_over, tries_are_fair};
 pub use members::WithMembers;
 pub use rows::MemberRows;
-pub use sp_around::{Question, Source};

@@ -17,7 +17,7 @@ use Rattle.sp_typed_units.specs.declared.declarations.Parameter.{Parameter}
 use Rattle.sp_typed_units.specs.declared.declarations.Function.{Function}
 use Rattle.sp_operands.specs.Operands.{unknown, is_valueless}
 use Rattle.sp_operands.specs.Literals.{is_past}
-use Rattle.sp_around.specs.Methods.{number, signed, octets, nothing, order, charset, strategy, element, mapped, method_gives, method_takes}
+use Rattle.sp_method_types.specs.Methods.{number, signed, octets, nothing, order, charset, strategy, element, mapped, method_gives, method_takes}
 use Rattle.sp_body_rules.specs.Values.{is_no_value}
 use Rattle.sp_body_rules.specs.ExprTests.{argument_fits, arguments_fit, argument_tests}
 use Rattle.sp_list_rules.specs.Told.{parameter_type, function_takes}

@@ -34,7 +34,7 @@ use Rattle.sp_typing.specs.declared.context.Member.{Member}
 use Rattle.sp_typing.specs.Contexts.{Around as Names}
 use Rattle.sp_typing.specs.Typing.{typed, name_of, int_word, cast_type, signed_type, unary_op, choice_type, second_type, one_at, to_target, in_turn, map_of, member_at, set_op, set_member_at, part_at, item_of, item_at, index_at, callee_op, call_by, call_at, started, new_by, to_maybe, each_to}
 use Rattle.sp_list_laws.specs.known_types.Full.{is_unknown}
-use Rattle.sp_around.specs.Methods.{method_gives, method_takes}
+use Rattle.sp_method_types.specs.Methods.{method_gives, method_takes}
 use Rattle.sp_list_rules.specs.Told.{function_takes}
 use Rattle.sp_list_laws.proofs.known_types_lemmas.Full.{never}
 use Rattle.sp_list_laws.specs.made_nodes.Makes.{Makes}

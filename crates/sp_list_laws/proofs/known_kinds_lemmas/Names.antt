@@ -37,7 +37,7 @@ use Rattle.sp_names.specs.declared.sort.Meaning.TheVariants as meaning_is
 use Rattle.sp_names.specs.Declarations.{sort_at}
 use Rattle.sp_names.specs.Names.{path_means}
 use Rattle.sp_around.specs.Heads.{function_takes as takes_of, function_gives}
-use Rattle.sp_around.specs.Methods.{told, begins_with_order, by_order, bytes_methods, text_methods, vector_methods, are_two, get_method, map_methods, method_gives, method_takes, unit_methods, unit_method_gives, sink_methods, library_call, unit_call, sink_call, method_of, base_ten, utf8, replace, left_out_of}
+use Rattle.sp_method_types.specs.Methods.{told, begins_with_order, by_order, bytes_methods, text_methods, vector_methods, are_two, get_method, map_methods, method_gives, method_takes, unit_methods, unit_method_gives, sink_methods, library_call, unit_call, sink_call, method_of, base_ten, utf8, replace, left_out_of}
 use Rattle.sp_around.specs.Arounds.{Facts, word_leaf, type_leaf, declared_at, meaning_at, left_out_by, member_of, target_of as takes_at, around as module_names}
 use Rattle.sp_list_rules.specs.Told.{function_takes, target_of}
 use Rattle.sp_list_laws.proofs.whole_list_lemmas.Modules.{none_found, some_found}

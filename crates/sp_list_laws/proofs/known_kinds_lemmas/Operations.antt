@@ -29,7 +29,7 @@ use Rattle.sp_operands.specs.Operands.{unknown, is_valueless, is_unsigned, is_in
 use Rattle.sp_operands.specs.Literals.{leaf_number, type_has, typed_leaf, is_past, seen}
 use Rattle.sp_operands.specs.Wholes.{may_hold, is_of, all_of, first_seen, second_seen, has_keys_alone, row_type, all_in_turn, are_entries, map_type}
 use Rattle.sp_typing.specs.Typing.{choice_type}
-use Rattle.sp_around.specs.Methods.{number, method_gives, method_takes}
+use Rattle.sp_method_types.specs.Methods.{number, method_gives, method_takes}
 use Rattle.sp_body_rules.specs.Known.{Known}
 use Rattle.sp_body_rules.specs.Values.{is_no_value, is_regex, knows, value_goes, written_tests}
 use Rattle.sp_body_rules.specs.ExprTests.{is_unmeant, negates, leaf_tests, one_op_tests, is_past_key, disagree, index_tests, two_op_tests, unlike, choice_tests, all_value_tests, element_tests, elements_tests, row_tests, entries_tests, map_tests, is_convertible, convert_tests, many_op_tests, argument_fits, arguments_fit, changes_leaf, changes_one, is_element, may_change, expr_tests}

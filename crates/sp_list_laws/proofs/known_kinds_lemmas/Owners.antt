@@ -23,7 +23,7 @@ use Rattle.sp_operands.specs.Wholes.{may_hold, is_of, all_of, first_seen, second
 use Rattle.sp_typing.specs.Typing.{second_type}
 use Rattle.sp_typing_stmts.specs.Scopes.{Scope}
 use Rattle.sp_typing_stmts.specs.Owners.{is_at_hand, is_changeable, is_index, owner, owner_slot, with_owner, receiver_owner, changed_owner, with_slot_of, kept, all_kept}
-use Rattle.sp_around.specs.Methods.{method_gives, method_takes, unit_method_gives}
+use Rattle.sp_method_types.specs.Methods.{method_gives, method_takes, unit_method_gives}
 use Rattle.sp_list_rules.specs.Told.{function_takes}
 use Rattle.sp_bodies.specs.Exprs.{slot_local}
 use Rattle.sp_list_laws.specs.known_bodies.Slots.{plain, all_plain}

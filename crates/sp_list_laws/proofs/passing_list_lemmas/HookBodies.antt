@@ -20,7 +20,7 @@ use Rattle.sp_typing_heads.specs.declared.site.Site.{Site}
 use Rattle.sp_typing_heads.specs.Parameters.{parameters_in, with_parameters}
 use Rattle.sp_typing_heads.specs.Events.{fits, is_of_sink, is_of_elements}
 use Rattle.sp_typing_heads.specs.Hooks.{self_type, self_standing, current_type, current_standing, hook_around, hook_body, hook_with, no_hook, hook_of_body, hook_on, hook_behind}
-use Rattle.sp_around.specs.Methods.{number}
+use Rattle.sp_method_types.specs.Methods.{number}
 use Rattle.sp_list_rules.specs.Lists.{all_tests, option_tests}
 use Rattle.sp_list_rules.specs.Names.{is_of_nothing, expr_names, hook_names, stmt_names}
 use Rattle.sp_list_rules.specs.Slots.{for_slots}

@@ -31,7 +31,7 @@ use Rattle.sp_typing_units.specs.Decorators.{with_current, with_self}
 use Rattle.sp_typing_stmts.specs.Visible.{single_name}
 use Rattle.sp_typing_heads.specs.Parameters.{numbered_maybe, parameter_at, parameter_leaf, or_outside, with_parameters}
 use Rattle.std.specs.Prelude.{slice_get}
-use Rattle.sp_around.specs.Methods.{base_ten, utf8, replace, left_out_of}
+use Rattle.sp_method_types.specs.Methods.{base_ten, utf8, replace, left_out_of}
 use Rattle.sp_around.specs.Arounds.{Facts, declared_at, meaning_at, left_out_by, around as module_names}
 use Rattle.sp_list_context.specs.Contexts.{facts, in_module}
 use Rattle.sp_typed_list.specs.Settled.{Answers}

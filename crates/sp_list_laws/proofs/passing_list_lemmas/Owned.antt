@@ -33,13 +33,13 @@ use Rattle.sp_typing.specs.Typing.{typed, name_of, member_at, set_member_at, par
 use Rattle.sp_typing_units.specs.Decorators.{with_self}
 use Rattle.sp_typing_stmts.specs.Visible.{single_name}
 use Rattle.sp_typing_heads.specs.Parameters.{numbered_maybe, parameter_at, parameter_leaf, or_outside, with_parameters}
-use Rattle.sp_around.specs.Methods.{base_ten, utf8, replace, left_out_of}
+use Rattle.sp_method_types.specs.Methods.{base_ten, utf8, replace, left_out_of}
 use Rattle.sp_around.specs.Arounds.{Facts, declared_at, meaning_at, left_out_by, around as module_names}
 use Rattle.sp_list_laws.specs.made_nodes.Makes.{Makes}
 use Rattle.sp_list_laws.proofs.made_nodes_lemmas.Nodes.{typed_holds}
 use Rattle.sp_list_laws.specs.fit_expr.Around.{Around}
 use Rattle.sp_list_laws.specs.fit_expr.Test.{is_sort}
-use Rattle.sp_around.specs.Methods.{method_gives}
+use Rattle.sp_method_types.specs.Methods.{method_gives}
 use Rattle.sp_list_laws.proofs.known_types_lemmas.Full.{never}
 use Rattle.sp_list_laws.specs.known_kinds.Made.{receiver_sort, has_slot, callable_made, AreMade, receiver_kept, keeps_owner}
 use Rattle.sp_list_laws.proofs.known_kinds_lemmas.Owners.{none_kept}

@@ -35,7 +35,7 @@ use Rattle.sp_names.specs.Types.{mentions_in}
 use Rattle.sp_around.specs.declared.written.Place.TheVariants as place_is
 use Rattle.sp_around.specs.Heads.{function_gives}
 use Rattle.sp_around.specs.Members.{UnitMember, unit_members, numbered, kinds_of, range_number, bitfield_width, bitfield_tree}
-use Rattle.sp_around.specs.Methods.{told, begins_with_order, by_order, bytes_methods, text_methods, vector_methods, are_two, get_method, map_methods, method_gives, unit_methods, unit_method_gives, sink_methods, library_call, unit_call, sink_call, method_of, base_ten, utf8, replace, left_out_of}
+use Rattle.sp_method_types.specs.Methods.{told, begins_with_order, by_order, bytes_methods, text_methods, vector_methods, are_two, get_method, map_methods, method_gives, unit_methods, unit_method_gives, sink_methods, library_call, unit_call, sink_call, method_of, base_ten, utf8, replace, left_out_of}
 use Rattle.sp_around.specs.Arounds.{Facts, word_leaf, type_leaf, declared_at, meaning_at, kind_member, some_member, unit_member, width_type, bit_member, member_of, left_out_by, path_at, around}
 use Rattle.sp_body_rules.specs.Known.{Known}
 use Rattle.sp_list_laws.specs.known_types.Full.{is_full, is_right}

@@ -7,7 +7,7 @@ use Rattle.sp_typed.specs.declared.words.LeafOp.TheVariants as leaf_is
 use Rattle.sp_typed_units.specs.declared.declarations.Parameter.{Parameter}
 use Rattle.sp_names.specs.declared.sort.DeclSort.TheVariants as sort_is
 use Rattle.sp_names.specs.Declarations.{sort_at, number_at}
-use Rattle.sp_around.specs.Methods.{number}
+use Rattle.sp_method_types.specs.Methods.{number}
 use Rattle.sp_typing_stmts.specs.Scopes.{Local}
 use Rattle.sp_list_laws.specs.fit_expr.Around.{Around}
 use Rattle.sp_list_laws.specs.fit_expr.Test.{local_is, seen_parameter}

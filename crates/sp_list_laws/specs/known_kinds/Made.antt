@@ -27,7 +27,7 @@ use Rattle.sp_typing.specs.declared.context.Member.{Member}
 use Rattle.sp_typing.specs.declared.context.Callable.{Callable}
 use Rattle.sp_typing.specs.Contexts.{Around as Names}
 use Rattle.sp_typing.specs.Typing.{second_type, choice_type}
-use Rattle.sp_around.specs.Methods.{method_gives, method_takes, unit_method_gives}
+use Rattle.sp_method_types.specs.Methods.{method_gives, method_takes, unit_method_gives}
 use Rattle.sp_body_rules.specs.Values.{is_regex}
 use Rattle.sp_body_rules.specs.Known.{Known}
 use Rattle.sp_body_rules.specs.ExprTests.{is_unmeant}

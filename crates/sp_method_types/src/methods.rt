@@ -5,7 +5,7 @@ ghost use Rattle.sp_types.specs.Types.{tys, made};
 ghost use Rattle.sp_types.specs.Types as types;
 ghost use Rattle.sp_operands.specs.Operands.{first_type};
 ghost use Rattle.sp_typing.specs.Typing.{leaf_at, second_type};
-ghost use Rattle.sp_around.specs.Methods.{told, is_order, begins_with_order, by_order, bytes_methods, text_methods, vector_methods, map_methods, are_two, get_method, write_method, library_method, element, mapped, method_gives, method_takes, unit_methods, unit_method_gives, unit_method_takes, sink_methods, sink_method_takes, library_call, unit_call, sink_call, method_of, left_out_of};
+ghost use Rattle.sp_method_types.specs.Methods.{told, is_order, begins_with_order, by_order, bytes_methods, text_methods, vector_methods, map_methods, are_two, get_method, write_method, library_method, element, mapped, method_gives, method_takes, unit_methods, unit_method_gives, unit_method_takes, sink_methods, sink_method_takes, library_call, unit_call, sink_call, method_of, left_out_of};
 
 use sp_base::{NoMemory, Span, or_drop};
 use sp_numbers::Width;
