@@ -5,6 +5,3 @@ pub mod Bits
 pub mod Lookups
 pub mod Behind
 pub mod TypesOf
-pub mod Opens
-pub mod Chains
-pub mod Checks

@@ -1,10 +1,7 @@
-//! What names mean over a list of modules: tables of declarations, paths, written types, and the types of aliases.
+//! What names mean over a list of modules: tables of declarations, paths and written types.
 #![tactic(auto)]
 
-mod aliases;
 mod bitfields;
-mod faults;
-mod laws;
 mod names;
 mod passes;
 mod paths;
@@ -14,9 +11,9 @@ mod table;
 mod tell;
 mod types;
 
-pub use aliases::resolve_types;
-pub use laws::none_is_endless;
 pub use names::Names;
-pub use passes::LIBRARY_ENUMS;
+pub use passes::{LIBRARY_ENUMS, number};
 pub use rows::{Bitfield, Declaration};
 pub use sort::{DeclSort, Meaning, Scope};
+pub use table::{NameTable, look_up, note_name};
+pub use tell::{name_of, sort_of};

@@ -17,7 +17,7 @@ use std::alloc::Global;
 pub const LIBRARY_ENUMS: u32 = 4;
 
 /// A count as a number.
-pub(crate) fn number(count: usize) -> Result<u32, NoMemory>
+pub fn number(count: usize) -> Result<u32, NoMemory>
     ensures { IfOk result (λ n. n ≡ count) }
 {
     u32::try_from(count).map_err(|_| NoMemory)

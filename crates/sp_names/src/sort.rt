@@ -1,7 +1,7 @@
 // What declarations declare, and what paths mean.
 
 /// What a declaration declares.
-#[derive(Clone, Copy, PartialEq, Eq, Debug)]
+#[derive(Clone, Copy)]
 pub enum DeclSort {
     /// That another module's names are visible.
     Import,
@@ -18,7 +18,7 @@ pub enum DeclSort {
 }
 
 /// A module whose names a path can name.
-#[derive(Clone, Copy, PartialEq, Eq, Debug)]
+#[derive(Clone, Copy)]
 pub enum Scope {
     /// A module of the list, by its number.
     Module(u32),
@@ -29,7 +29,7 @@ pub enum Scope {
 }
 
 /// What a path means.
-#[derive(Clone, Copy, PartialEq, Eq, Debug)]
+#[derive(Clone, Copy)]
 pub enum Meaning {
     /// A type, a constant or a function, by its number among all declarations.
     Declaration(u32),

@@ -12,12 +12,13 @@ use std::alloc::Global;
 
 /// The number of the first tree that gives each name.
 #[derive(Drop)]
-pub(crate) struct NameTable {
+pub struct NameTable {
     first: IndexMap<String, u32>,
 }
 
 impl NameTable {
-    pub(crate) fn new(alloc: Global) -> NameTable
+    /// A table without names.
+    pub fn new(alloc: Global) -> NameTable
         ensures { (x : List ℕ) → told_by result x ≡ None }
     {
         NameTable {
@@ -43,7 +44,7 @@ pub(crate) fn sum(a: u32, b: u32) -> Result<u32, NoMemory>
 }
 
 /// The number of a name.
-pub(crate) fn look_up(table: &NameTable, name: &str) -> Option<u32>
+pub fn look_up(table: &NameTable, name: &str) -> Option<u32>
     ensures { result ≡ told_by table.now name.now }
 {
     table.first.get(name).copied()
@@ -76,7 +77,7 @@ pub(crate) fn module_table(alloc: Global, modules: &[Module]) -> Result<NameTabl
 }
 
 /// Notes the number of a name, if there is one, unless it has one.
-pub(crate) fn note_name(
+pub fn note_name(
     alloc: Global,
     table: &mut NameTable,
     name: Option<&str>,

@@ -46,7 +46,7 @@ fn type_sort(tree: &Ref<'_, TypeKind>) -> DeclSort
 }
 
 /// What a declaration declares.
-pub(crate) fn sort_of(tree: &Ref<'_, DeclKind>) -> DeclSort
+pub fn sort_of(tree: &Ref<'_, DeclKind>) -> DeclSort
     ensures { result ≡ sort_of tree.now }
 {
     match tree.view() {
@@ -67,7 +67,7 @@ pub(crate) fn declarations_of(whole: &Module) -> Members<'_, DeclKind>
 }
 
 /// The name of a module.
-pub(crate) fn name_of(whole: &Module) -> &str
+pub fn name_of(whole: &Module) -> &str
     ensures { result.now ≡ module_name whole.now }
 {
     whole.root().view().name.text()

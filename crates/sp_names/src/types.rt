@@ -1,15 +1,14 @@
 // The types that are written, and which declarations they name.
-ghost use Rattle.std.specs.Prelude.{◌≡◌, ◌++◌, IfOk, OnOk};
+ghost use Rattle.std.specs.Prelude.{◌≡◌, IfOk};
 ghost use Rattle.sp_ast.specs.Trees.{trees};
 ghost use Rattle.sp_types.specs.Types.{tys, made, none, more};
 ghost use Rattle.sp_types.specs.declared.words.Maker.TheVariants as maker_is;
 ghost use Rattle.sp_solver.specs.Told.{told};
-ghost use Rattle.sp_names.specs.Types.{int_word, or_unknown, meaning_type, bitfield_word, whole_type, plain_or_unknown, type_in, types_in, one_or_none, named_numbers, mentions, mentions_in, mentions_among};
-ghost use Rattle.sp_names.specs.Names.{names_of, path_names};
+ghost use Rattle.sp_names.specs.Types.{int_word, or_unknown, meaning_type, bitfield_word, whole_type, plain_or_unknown, type_in, types_in};
 
 use crate::names::Names;
-use crate::sort::{Meaning, Scope};
-use sp_ast::{Members, NameKind, PathKind, Ref, TypeKind, TypeView};
+use crate::sort::Meaning;
+use sp_ast::{Members, Ref, TypeKind, TypeView};
 use sp_base::{NoMemory, or_drop};
 use sp_numbers::Width;
 use sp_types::{Maker, Type, Word};
@@ -119,16 +118,6 @@ fn map_of(alloc: Global, key: Type, value: Type) -> Result<Type, NoMemory>
     }
 }
 
-/// Puts a number on the list, if there is one.
-fn put_number(list: &mut Vec<u32>, number: Option<u32>) -> Result<(), NoMemory>
-    ensures { OnOk result (list.new.items ≡ list.old.items ++ one_or_none number) }
-{
-    if let Some(number) = number {
-        list.push(number)?;
-    }
-    Ok(())
-}
-
 impl<'a> Names<'a> {
     /// The type that a tree of a type is in a module, where `known` has the types of type declarations by their numbers. A
     /// unit or an enum that is not the whole type of a declaration is unknown, and so is what names no type, and what holds a
@@ -190,88 +179,5 @@ impl<'a> Names<'a> {
             parts.push(self.type_in(alloc, known, owner, &member)?)?;
         }
         Ok(parts)
-    }
-
-    fn named_number(&self, scope: Option<Scope>, name: &str) -> Option<u32>
-        ensures { one_or_none result ≡ named_numbers self.now scope name.now }
-    {
-        match scope {
-            Some(Scope::Module(number)) => self.declared(number, name),
-            _ => None,
-        }
-    }
-
-    /// Puts the declarations on the list on whose types the meaning of a path hangs.
-    fn add_names(
-        &self,
-        list: &mut Vec<u32>,
-        owner: u32,
-        names: Members<'_, NameKind>,
-    ) -> Result<(), NoMemory>
-        ensures { OnOk result (list.new.items ≡ list.old.items
-            ++ mentions self.now owner (names_of names.entry)) }
-    {
-        let Some((first, others)) = names.split_first() else {
-            return Ok(());
-        };
-        put_number(list, self.declared(owner, first.text()))?;
-        let Some((second, _)) = others.split_first() else {
-            return Ok(());
-        };
-        let scope = self.visible(owner, first.text());
-        put_number(list, self.named_number(scope, second.text()))
-    }
-
-    fn add_path(
-        &self,
-        list: &mut Vec<u32>,
-        owner: u32,
-        path: &Ref<'_, PathKind>,
-    ) -> Result<(), NoMemory>
-        ensures { OnOk result (list.new.items ≡ list.old.items
-            ++ mentions self.now owner (path_names path.now)) }
-    {
-        self.add_names(list, owner, path.names())
-    }
-
-    /// Puts the declarations on the list that the tree of a type names.
-    #[cycle(mention)]
-    pub(crate) fn add_mentions(
-        &self,
-        list: &mut Vec<u32>,
-        owner: u32,
-        tree: &Ref<'_, TypeKind>,
-    ) -> Result<(), NoMemory>
-        ensures { OnOk result (list.new.items ≡ list.old.items
-            ++ mentions_in self.now owner tree.now) }
-    {
-        match tree.view() {
-            TypeView::Path(path) => self.add_path(list, owner, &path),
-            TypeView::Tuple(members) => self.add_all(list, owner, members),
-            TypeView::Vector(element) | TypeView::Set(element) => {
-                self.add_mentions(list, owner, &element)
-            }
-            TypeView::Map { key, value } => {
-                self.add_mentions(list, owner, &key)?;
-                self.add_mentions(list, owner, &value)
-            }
-            _ => Ok(()),
-        }
-    }
-
-    #[cycle(mention)]
-    fn add_all(
-        &self,
-        list: &mut Vec<u32>,
-        owner: u32,
-        members: Members<'_, TypeKind>,
-    ) -> Result<(), NoMemory>
-        ensures { OnOk result (list.new.items ≡ list.old.items
-            ++ mentions_among self.now owner (trees members.entry)) }
-    {
-        for member in members {
-            self.add_mentions(list, owner, &member)?;
-        }
-        Ok(())
     }
 }

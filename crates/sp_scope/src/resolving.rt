@@ -21,7 +21,8 @@ use sp_declared_values::{Known, ValueRow, answers};
 use sp_hook_rows::{HookRow, Site, all_sites, hook_rows, note_hooks};
 use sp_list_context::{all_parameters, homes, parameter_tables, seeing_parameters};
 use sp_list_rules::note_names;
-use sp_names::{Names, resolve_types};
+use sp_name_answers::{note_faults, resolve_types};
+use sp_names::Names;
 use sp_rules::{Fault, least_of_checked};
 use sp_stored_types::{MemberRows, stored_types};
 use sp_typed_list::{answers_are_one, typed_list};
@@ -57,7 +58,7 @@ fn note_all(
     ensures { OnOk result (least.new ≡ checked least.old (tests_at tables.now.0 (told tables.now.1)
         sites.now rows.now typed.now)) }
 {
-    tables.names().note_faults(alloc, tables.known(), least)?;
+    note_faults(alloc, tables.names(), tables.known(), least)?;
     note_hooks(alloc, tables, sites, rows, least)?;
     note_names(typed, least);
     Ok(())

@@ -1,0 +1,3 @@
+pub mod Opens
+pub mod Chains
+pub mod Checks

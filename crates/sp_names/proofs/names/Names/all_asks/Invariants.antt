@@ -1,7 +1,0 @@
-use Rattle.std.proofs.Common.{◌≡◌, length}
-use Rattle.sp_names.specs.Aliases.{IsAsked}
-use Rattle.sp_names.specs.Tables.{Each}
-use Rattle.sp_names.proofs.names.Names.all_asks.Given as goal
-
-abbrev pub invariant-loop-g : goal.invariant-loop-g
-invariant-loop-g l = (length l.all.items ≡ l.g) × Each (IsAsked l.self) l.all.items

@@ -1,8 +1,0 @@
-use Rattle.std.proofs.Common.{◌≡◌, drop}
-use Rattle.sp_rules.specs.Least.{checked}
-use Rattle.sp_solver.specs.Told.{told}
-use Rattle.sp_names.specs.Faults.{faults_from, name_faults}
-use Rattle.sp_names.proofs.names.Names.note_faults.Given as goal
-
-abbrev pub invariant-loop-i : goal.invariant-loop-i
-invariant-loop-i l = checked l.least (faults_from l.self (told l.known) l.i (drop l.i l.modules)) ≡ checked l.fn.least (name_faults l.self (told l.known))
