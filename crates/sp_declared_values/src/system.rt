@@ -22,7 +22,7 @@ use sp_numbers::Width;
 use sp_operands::seen;
 use sp_typed::Expr;
 use sp_types::{Type, Word};
-use sp_typing::{to_maybe, to_target, typed};
+use sp_typing_exprs::{to_maybe, to_target, typed};
 use std::alloc::Global;
 
 /// The type of a constant: the one that is written, else that of its value.

@@ -1,13 +1,8 @@
-//! The types of expressions: the typed expression that a tree is in what stands round it.
+//! What stands round an expression, and by definition the typed expression that a tree is there.
 #![tactic(auto)]
 
 mod calls;
 mod context;
-mod nodes;
-mod rows;
-mod typing;
 
+pub use calls::Callee;
 pub use context::{Callable, Context, Member};
-pub use nodes::to_target;
-pub use rows::to_maybe;
-pub use typing::{typed, typed_all};

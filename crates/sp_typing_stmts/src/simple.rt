@@ -18,7 +18,8 @@ use sp_numbers::Width;
 use sp_operands::{first_type, seen};
 use sp_typed::{Assign, Bare, BareOp, Expr, For, Local, Stmt, StmtNode, Valued, ValuedOp, Written};
 use sp_types::{Level, Maker, Type, Word};
-use sp_typing::{Context, to_maybe, to_target};
+use sp_typing::Context;
+use sp_typing_exprs::{to_maybe, to_target};
 use sp_words::AssignOp;
 use std::alloc::Global;
 

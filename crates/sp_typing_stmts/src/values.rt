@@ -9,7 +9,8 @@ use crate::scope::Scope;
 use sp_ast::{ExprKind, Members, Ref};
 use sp_base::NoMemory;
 use sp_typed::Expr;
-use sp_typing::{Context, typed};
+use sp_typing::Context;
+use sp_typing_exprs::typed;
 use std::alloc::Global;
 
 /// The typed expression that a tree is, where its locals are seen.

@@ -17,7 +17,8 @@ use sp_operands::{first_type, seen};
 use sp_typed::{Expr, Standing};
 use sp_typed_units::Attribute;
 use sp_types::{Level, Maker, Type, Word};
-use sp_typing::{Context, to_target, typed};
+use sp_typing::Context;
+use sp_typing_exprs::{to_target, typed};
 use sp_words::AttributeName;
 use std::alloc::Global;
 

@@ -6,7 +6,8 @@ ghost use Rattle.sp_typing_units.specs.Attributes.{present, maybe_typed};
 use sp_ast::{ExprKind, Kind, Ref};
 use sp_base::NoMemory;
 use sp_typed::Expr;
-use sp_typing::{Context, typed};
+use sp_typing::Context;
+use sp_typing_exprs::typed;
 use std::alloc::Global;
 
 /// The part that may be left out is the one that is lent, if it is. It does nothing; a caller's proof has the fact from it.

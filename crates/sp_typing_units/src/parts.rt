@@ -19,7 +19,8 @@ use sp_operands::{seen, taken};
 use sp_typed::Expr;
 use sp_typed_units::{Arm, Field, Part, PartNode, Row};
 use sp_types::Type;
-use sp_typing::{Context, typed_all};
+use sp_typing::Context;
+use sp_typing_exprs::typed_all;
 use std::alloc::Global;
 
 /// What a unit knows of its fields.

@@ -20,7 +20,8 @@ use sp_numbers::Width;
 use sp_typed::{Expr, ExprLevel, LeafOp, ManyOp, NewOf, Written};
 use sp_typed_units::{Attribute, ReadOp, Reading, Spec, SpecNode, TokenOp, UnitOf};
 use sp_types::{Level, Maker, Type, Word};
-use sp_typing::{Context, to_maybe, typed_all};
+use sp_typing::Context;
+use sp_typing_exprs::{to_maybe, typed_all};
 use sp_words::{AttributeName, IntWord};
 use std::alloc::Global;
 

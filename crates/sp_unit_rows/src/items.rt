@@ -11,7 +11,8 @@ use sp_base::{NoMemory, or_drop};
 use sp_typed::Expr;
 use sp_typed_units::{OrderProperty, Part, Sink, Variable};
 use sp_types::Type;
-use sp_typing::{Context, to_target, typed};
+use sp_typing::Context;
+use sp_typing_exprs::{to_target, typed};
 use sp_typing_units::{Constants, FieldTable, part_of};
 use std::alloc::Global;
 

@@ -1,6 +1,6 @@
 use Rattle.std.proofs.Common.{Some, ap, sym, ◌∙◌}
-use Rattle.sp_typing.proofs.Lists.{some_at, part_none}
-use Rattle.sp_typing.proofs.calls.part_at.Goals as goal
+use Rattle.sp_typing_exprs.proofs.Lists.{some_at, part_none}
+use Rattle.sp_typing_exprs.proofs.calls.part_at.Goals as goal
 
 pub returns-in_ok-copy-in-Some : goal.returns-in_ok-copy-in-Some
 returns-in_ok-copy-in-Some c =

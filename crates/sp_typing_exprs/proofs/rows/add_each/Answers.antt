@@ -1,6 +1,6 @@
 use Rattle.std.proofs.Common.{◌-◌, arith}
-use Rattle.sp_typing.proofs.Lists.{each_step, each_count}
-use Rattle.sp_typing.proofs.rows.add_each.Goals as goal
+use Rattle.sp_typing_exprs.proofs.Lists.{each_step, each_count}
+use Rattle.sp_typing_exprs.proofs.rows.add_each.Goals as goal
 
 pub loop-e-preserved : goal.loop-e-preserved
 loop-e-preserved g c =

@@ -13,7 +13,6 @@ ghost use Rattle.sp_typed.specs.declared.words.OneOp.TheVariants.{Cast};
 ghost use Rattle.sp_typing.specs.Typing.{typed, typed_all, pairs_typed, is_member, leaf_at, one_at, made_of, both_written, cast_type, led, row_at, choice_at, binary_at, indexed, new_at};
 
 use crate::calls::{call_at, indexed, method_at, new_at};
-use crate::context::Context;
 use crate::nodes::{
     binary_at, both_written, cast_type, choice_at, int_word, leaf_at, member_of, one_at,
     set_member_of, unary_at,
@@ -25,6 +24,7 @@ use sp_numbers::Width;
 use sp_operands::{made_of_one, made_of_two};
 use sp_typed::{Expr, LeafOp, ManyOp, OneOp};
 use sp_types::{Maker, Type, Word};
+use sp_typing::Context;
 use sp_words::BinaryOp;
 use std::alloc::Global;
 

@@ -1,6 +1,6 @@
 use Rattle.std.proofs.Common.{◌≡◌, ◌++◌}
 use Rattle.sp_typing.specs.Typing.{each_to}
-use Rattle.sp_typing.proofs.rows.add_each.Given as goal
+use Rattle.sp_typing_exprs.proofs.rows.add_each.Given as goal
 
 abbrev pub invariant-loop-e : goal.invariant-loop-e
 invariant-loop-e g l =

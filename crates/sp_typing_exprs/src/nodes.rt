@@ -5,7 +5,6 @@ ghost use Rattle.sp_operands.specs.Operands.{sort_of, result_type, key_of};
 ghost use Rattle.sp_typing.specs.Contexts.{Around};
 ghost use Rattle.sp_typing.specs.Typing.{leaf_at, one_at, two_at, many_at, int_word, widened, to_target, alike, agreeing, both_written, or_else, unary_op, signed_type, unary_at, joined, binary_at, cast_type, choice_type, choice_at, member_at, member_of, set_op, set_member_at, set_member_of};
 
-use crate::context::{Context, Member};
 use sp_ast::{NameKind, Ref};
 use sp_base::{NoMemory, Span, or_drop};
 use sp_numbers::Width;
@@ -14,6 +13,7 @@ use sp_operands::{
 };
 use sp_typed::{Expr, Leaf, LeafOp, Many, ManyOp, One, OneOp, Three, Two, TwoOp, Written};
 use sp_types::{Maker, Type, Word};
+use sp_typing::{Context, Member};
 use sp_words::{BinaryOp, IntWord, UnaryOp};
 use std::alloc::Global;
 

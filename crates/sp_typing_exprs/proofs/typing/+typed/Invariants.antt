@@ -1,7 +1,7 @@
 use Rattle.std.proofs.Common.{◌≡◌, ◌+◌, ◌*◌, ◌≤◌, ◌++◌}
 use Rattle.sp_ast.specs.Trees.{trees, tree_size, trees_size}
 use Rattle.sp_typing.specs.Typing.{typed_all, pairs_typed}
-use Rattle.sp_typing.proofs.typing.+typed.Given as goal
+use Rattle.sp_typing_exprs.proofs.typing.+typed.Given as goal
 
 abbrev pub decreases-typed : goal.decreases-typed
 decreases-typed g l = 3 * tree_size l.tree.now + 2

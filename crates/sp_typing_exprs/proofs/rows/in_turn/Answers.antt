@@ -1,5 +1,5 @@
-use Rattle.sp_typing.proofs.Lists.{in_turn_step}
-use Rattle.sp_typing.proofs.rows.in_turn.Goals as goal
+use Rattle.sp_typing_exprs.proofs.Lists.{in_turn_step}
+use Rattle.sp_typing_exprs.proofs.rows.in_turn.Goals as goal
 
 pub loop-k-preserved : goal.loop-k-preserved
 loop-k-preserved c =

@@ -1,8 +1,8 @@
 use Rattle.std.proofs.Common.{ap, ◌∙◌}
 use Rattle.sp_ast.specs.Trees.{trees, trees_size, span_of}
 use Rattle.sp_typing.specs.Typing.{typed, pairs_typed, method_at, call_at}
-use Rattle.sp_typing.proofs.Called.{call, call_of_member, call_of_other, ok_is, pair_step, less_behind}
-use Rattle.sp_typing.proofs.typing.+typed.Goals as goal
+use Rattle.sp_typing_exprs.proofs.Called.{call, call_of_member, call_of_other, ok_is, pair_step, less_behind}
+use Rattle.sp_typing_exprs.proofs.typing.+typed.Goals as goal
 
 pub call_typed-returns-in-Ok-or_drop : goal.call_typed-returns-in-Ok-or_drop
 call_typed-returns-in-Ok-or_drop g t c =

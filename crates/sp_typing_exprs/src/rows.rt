@@ -6,12 +6,12 @@ ghost use Rattle.sp_operands.specs.Literals.{seen, taken};
 ghost use Rattle.sp_typing.specs.Typing.{lead, maybe_taken, led, row_at, lead_half, in_turn, map_of, map_at, tuple_at, to_maybe, each_to, made_of};
 ghost use Rattle.sp_operands.specs.Wholes.{row_type, map_type};
 
-use crate::context::Context;
 use crate::nodes::{many_at, to_target};
 use sp_base::{NoMemory, Span, or_drop};
 use sp_operands::{map_type, row_type, seen, taken};
 use sp_typed::{Expr, ManyOp};
 use sp_types::{Maker, Type};
+use sp_typing::Context;
 use std::alloc::Global;
 
 /// The type of the first that is no literal.
