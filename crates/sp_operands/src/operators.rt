@@ -1,6 +1,7 @@
 // What types operators take, and of what type their results are.
 ghost use Rattle.std.specs.Prelude.{◌≡◌, ◌&&◌, IfOk};
 ghost use Rattle.sp_types.specs.Types.{tys};
+ghost use Rattle.sp_operands.specs.declared.operators.OperatorSort.TheVariants as takes;
 ghost use Rattle.sp_operands.specs.Operands.{sort_of, stands_before, stands_behind, agree, result_type, stands_alone, unary_type, has_size, can_cast, of_one_sign, is_valueless, is_unsigned, is_signed, is_integer, is_boolean, is_bytes, is_text, is_iterator, is_enum, has_keys, key_of, first_type, wider_type, sum_type};
 
 use sp_base::NoMemory;
@@ -8,7 +9,7 @@ use sp_types::{Level, Maker, Type, Word, wider};
 use sp_words::{BinaryOp, UnaryOp};
 
 /// Operators by what they take.
-#[derive(Clone, Copy, PartialEq, Eq, Debug)]
+#[derive(Clone, Copy)]
 pub enum OperatorSort {
     /// Two truths.
     Truths,
@@ -116,6 +117,19 @@ pub fn sort_of(op: BinaryOp) -> OperatorSort
     }
 }
 
+/// Whether a key goes to the type of the keys of a container, or bytes stand before bytes.
+fn is_key_of(s: &Type, t: &Type) -> Result<bool, NoMemory>
+    ensures { IfOk result (λ b. b ≡ agree takes.Member s.now t.now) }
+{
+    if is_bytes(t) {
+        return Ok(is_bytes(s));
+    }
+    let key = key_of(t)?;
+    let goes = s.goes(&key);
+    drop(key);
+    Ok(goes)
+}
+
 impl OperatorSort {
     /// Whether a type can stand before such an operator at all.
     pub fn stands_before(self, t: &Type) -> bool
@@ -150,8 +164,7 @@ impl OperatorSort {
     {
         match self {
             OperatorSort::Truths | OperatorSort::Bits | OperatorSort::Shifted => Ok(true),
-            OperatorSort::Member if is_bytes(t) => Ok(is_bytes(s)),
-            OperatorSort::Member => Ok(s.goes(&key_of(t)?)),
+            OperatorSort::Member => is_key_of(s, t),
             OperatorSort::Alike | OperatorSort::Ordered => Ok(of_one_sign(s, t) || s.same(t)),
             OperatorSort::Added if is_iterator(s) => Ok(is_unsigned(t)),
             OperatorSort::Added => Ok(of_one_sign(s, t) || s.same(t)),

@@ -5,7 +5,7 @@ ghost use Rattle.sp_operands.specs.Wholes.{may_hold, is_of, all_of, first_seen, 
 
 use crate::literals::{is_past, seen};
 use crate::operators::is_valueless;
-use sp_base::NoMemory;
+use sp_base::{NoMemory, or_drop};
 use sp_typed::Expr;
 use sp_types::{Maker, Type, Word};
 use std::alloc::Global;
@@ -48,17 +48,17 @@ fn first_seen(list: &[Expr]) -> Result<Type, NoMemory>
 pub fn made_of_one(alloc: Global, maker: Maker, t: Type) -> Result<Type, NoMemory>
     ensures { IfOk result (λ r. r ≡ made maker (tys (t ∷ []))) }
 {
-    let mut parts = Vec::with_capacity(alloc, 1)?;
-    parts.push(t)?;
+    let mut parts = or_drop!(Vec::with_capacity(alloc, 1); t);
+    or_drop!(parts.push(t); parts);
     Type::made(alloc, maker, parts)
 }
 
 pub fn made_of_two(alloc: Global, maker: Maker, t: Type, u: Type) -> Result<Type, NoMemory>
     ensures { IfOk result (λ r. r ≡ made maker (tys (t ∷ u ∷ []))) }
 {
-    let mut parts = Vec::with_capacity(alloc, 2)?;
-    parts.push(t)?;
-    parts.push(u)?;
+    let mut parts = or_drop!(Vec::with_capacity(alloc, 2); t, u);
+    or_drop!(parts.push(t); parts, u);
+    or_drop!(parts.push(u); parts);
     Type::made(alloc, maker, parts)
 }
 
@@ -76,6 +76,7 @@ pub fn row_type(alloc: Global, maker: Maker, list: &[Expr]) -> Result<Type, NoMe
     if may_hold(has_keys_alone(maker), &first) && all_of(&first, list) {
         made_of_one(alloc, maker, first)
     } else {
+        drop(first);
         Ok(Type::word(Word::Unknown))
     }
 }
@@ -115,10 +116,12 @@ pub fn map_type(alloc: Global, parts: &[Expr]) -> Result<Type, NoMemory>
     ensures { IfOk result (λ t. t ≡ map_type parts.now) }
 {
     let key = first_seen(parts)?;
-    let value = second_seen(parts)?;
+    let value = or_drop!(second_seen(parts); key);
     if are_entries(&key, &value, parts) {
         made_of_two(alloc, Maker::Map, key, value)
     } else {
+        drop(key);
+        drop(value);
         Ok(Type::word(Word::Unknown))
     }
 }

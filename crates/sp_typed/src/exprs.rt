@@ -111,7 +111,7 @@ pub(crate) fn above(levels: u16) -> Result<u16, NoMemory>
 }
 
 impl Expr {
-    ghost use Rattle.std.specs.Prelude.{◌≡◌, ◌≤◌, IfOk};
+    ghost use Rattle.std.specs.Prelude.{◌≡◌, ◌≤◌, true, IfOk};
     ghost use Rattle.sp_typed.specs.Exprs.{leaf, one, two, three, many, exprs, type_of, span_of, is_literal, is_number, retyped, settled};
     ghost use Rattle.sp_typed.specs.ExprLevels.{level_expr, expr_of_parts};
     ghost use Rattle.sp_typed.specs.Heights.{height, most_levels};
@@ -276,16 +276,18 @@ impl Expr {
         }
     }
 
+    /// A literal with another type: a node of no part or of one. Other nodes stay as they are.
     fn retyped(self, ty: Type) -> Expr
-        ensures { result ≡ retyped ty self }
+        ensures { is_literal self ≡ true → result ≡ retyped ty self }
     {
         let levels = self.levels;
         let node = match self.node {
             ExprNode::Leaf(h) => ExprNode::Leaf(Leaf { ty, ..h }),
             ExprNode::One(h, a) => ExprNode::One(One { ty, ..h }, a),
-            ExprNode::Two(h, a, b) => ExprNode::Two(Two { ty, ..h }, a, b),
-            ExprNode::Three(h, a, b, c) => ExprNode::Three(Three { ty, ..h }, a, b, c),
-            ExprNode::Many(h, parts) => ExprNode::Many(Many { ty, ..h }, parts),
+            other => {
+                drop(ty);
+                other
+            }
         };
         Expr { node, levels }
     }

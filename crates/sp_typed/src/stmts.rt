@@ -96,15 +96,15 @@ fn highest_case(cases: &[(Vec<Expr>, Stmt)]) -> u16
 }
 
 impl Stmt {
-    ghost use Rattle.std.specs.Prelude.{◌≡◌, ◌≤◌, IfOk};
+    ghost use Rattle.std.specs.Prelude.{◌≡◌, ◌≤◌, ◌+◌, IfOk};
     ghost use Rattle.sp_typed.specs.StmtViews.{stmt_of};
     ghost use Rattle.sp_typed.specs.Heights.{stmt_height, most_levels};
 
-    /// How high a statement of this first level is.
-    fn node_levels(node: &StmtNode) -> Result<u16, NoMemory>
-        ensures { IfOk result (λ n. (n ≡ stmt_height (stmt_of node.now)) × (n ≤ most_levels)) }
+    /// How high the parts of a statement of this first level are.
+    fn inside(node: &StmtNode) -> u16
+        ensures { stmt_height (stmt_of node.now) ≡ result + 1 }
     {
-        let inside = match node {
+        match node {
             StmtNode::Bare(_) => 0,
             StmtNode::Valued(_, e) => e.levels(),
             StmtNode::Assign(_, target, value) => higher(target.levels(), value.levels()),
@@ -122,15 +122,14 @@ impl Stmt {
                     higher(highest_case(cases), otherwise.levels()),
                 )
             }
-        };
-        above(inside)
+        }
     }
 
     /// The statement of this first level.
     pub fn new(node: StmtNode) -> Result<Stmt, NoMemory>
         ensures { IfOk result (λ s. s ≡ stmt_of node) }
     {
-        let levels = or_drop!(Stmt::node_levels(&node); node);
+        let levels = or_drop!(above(Stmt::inside(&node)); node);
         Ok(Stmt { node, levels })
     }
 

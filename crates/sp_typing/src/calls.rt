@@ -1,7 +1,7 @@
 // What calls are.
 
 /// What stands before arguments.
-#[derive(Clone, Copy, PartialEq, Eq, Debug)]
+#[derive(Clone, Copy)]
 pub enum Callee {
     Function(u32),
     Enum(u32),

@@ -16,14 +16,10 @@ each_more f n (x ∷ es) e =
     let s : suc n + length es ≡ n + length (x ∷ es) = omega arith in
     ap (λ ys. to_maybe (f n) x ∷ ys) (each_more f (suc n) es e ∙ ap (λ m. each_to f (suc n) es ++ to_maybe (f m) e ∷ []) s)
 
-pub in_turn_step : (k v : Option Ty) (ps : List (Expr × Expr)) (p : Expr × Expr) (all all1 all2 : List Expr) (a b : Expr) → all ≡ in_turn k v ps → all1 ≡ all ++ a ∷ [] → all2 ≡ all1 ++ b ∷ [] → a ≡ maybe_taken k p.0 → b ≡ maybe_taken v p.1 → all2 ≡ in_turn k v (ps ++ p ∷ [])
-in_turn_step k v ps p all all1 all2 a b is one two first second =
-    two
-    ∙ ap (λ es. es ++ b ∷ []) one
-    ∙ append_assoc all (a ∷ []) (b ∷ [])
-    ∙ ap (λ es. es ++ a ∷ (b ∷ [])) is
-    ∙ ap (λ x. in_turn k v ps ++ x ∷ (b ∷ [])) first
-    ∙ ap (λ y. in_turn k v ps ++ maybe_taken k p.0 ∷ (y ∷ [])) second
+pub in_turn_step : (k v : Option Ty) (ps : List (Expr × Expr)) (p : Expr × Expr) (all new : List Expr) → all ≡ in_turn k v ps → new ≡ all ++ maybe_taken k p.0 ∷ (maybe_taken v p.1 ∷ []) → new ≡ in_turn k v (ps ++ p ∷ [])
+in_turn_step k v ps p all new is put =
+    put
+    ∙ ap (λ es. es ++ maybe_taken k p.0 ∷ (maybe_taken v p.1 ∷ [])) is
     ∙ sym (in_turn_more k v ps p)
 
 each_length : (f : ℕ → Option Ty) (n : ℕ) (es : List Expr) → length (each_to f n es) ≡ length es

@@ -1,7 +1,7 @@
 // The node of an alternative, over its typed parts.
 ghost use Rattle.std.specs.Prelude.{◌≡◌, IfOk};
 ghost use Rattle.sp_operands.specs.Literals.{seen};
-ghost use Rattle.sp_operands.specs.Operands.{sort_of, result_type, key_of};
+ghost use Rattle.sp_operands.specs.Operands.{sort_of, result_type, key_of, unary_type};
 ghost use Rattle.sp_typing.specs.Contexts.{Around};
 ghost use Rattle.sp_typing.specs.Typing.{leaf_at, one_at, two_at, many_at, int_word, widened, to_target, alike, agreeing, both_written, or_else, unary_op, signed_type, unary_at, joined, binary_at, cast_type, choice_type, choice_at, member_at, member_of, set_op, set_member_at, set_member_of};
 
@@ -95,7 +95,11 @@ pub fn to_target(alloc: Global, to: &Type, e: Expr) -> Result<Expr, NoMemory>
 fn joined_type(op: BinaryOp, a: &Expr, b: &Expr) -> Result<Type, NoMemory>
     ensures { IfOk result (λ t. t ≡ result_type (sort_of op) (seen a.now) (seen b.now)) }
 {
-    sort_of(op).result(&seen(a)?, &seen(b)?)
+    let (left, right) = both_seen(a, b)?;
+    let ty = sort_of(op).result(&left, &right);
+    drop(left);
+    drop(right);
+    ty
 }
 
 /// An operator between two typed operands.
@@ -142,7 +146,10 @@ fn make_agree(a: Expr, b: Expr) -> Result<(Expr, Expr), NoMemory>
 fn key_type(e: &Expr) -> Result<Type, NoMemory>
     ensures { IfOk result (λ t. t ≡ key_of (seen e.now)) }
 {
-    key_of(&seen(e)?)
+    let of = seen(e)?;
+    let key = key_of(&of);
+    drop(of);
+    key
 }
 
 /// Whether a key is in a container.
@@ -211,12 +218,22 @@ fn unary_op(op: UnaryOp) -> OneOp
     }
 }
 
+/// The type of an operator on what it sees of its operand.
+fn operated_type(op: UnaryOp, e: &Expr) -> Result<Type, NoMemory>
+    ensures { IfOk result (λ t. t ≡ unary_type op (seen e.now)) }
+{
+    let of = seen(e)?;
+    let ty = unary_type(op, &of);
+    drop(of);
+    ty
+}
+
 fn signed_type(op: UnaryOp, e: &Expr) -> Result<Type, NoMemory>
     ensures { IfOk result (λ t. t ≡ signed_type op e.now) }
 {
     match op {
         UnaryOp::Negate if e.is_number() => Ok(Type::word(Word::Int(Width::W64))),
-        _ => unary_type(op, &seen(e)?),
+        _ => operated_type(op, e),
     }
 }
 

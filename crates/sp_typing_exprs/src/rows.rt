@@ -38,7 +38,7 @@ fn maybe_taken(to: &Option<Type>, e: Expr) -> Expr
 fn all_taken(alloc: Global, to: &Option<Type>, list: Vec<Expr>) -> Result<Vec<Expr>, NoMemory>
     ensures { IfOk result (λ r. r.items ≡ map (maybe_taken to.now) list.items) }
 {
-    let mut all = Vec::with_capacity(alloc, list.len())?;
+    let mut all = or_drop!(Vec::with_capacity(alloc, list.len()); list);
     for e in list {
         all.push(maybe_taken(to, e))?;
     }
@@ -82,6 +82,22 @@ fn lead_half(values: bool, pairs: &[(Expr, Expr)]) -> Result<Option<Type>, NoMem
     Ok(None)
 }
 
+/// Puts a key and its value behind others, where literals take these types.
+fn put_both(
+    all: &mut Vec<Expr>,
+    key: &Option<Type>,
+    value: &Option<Type>,
+    pair: (Expr, Expr),
+) -> Result<(), NoMemory>
+    ensures { OnOk result (all.new.items ≡ all.old.items
+        ++ maybe_taken key.now pair.0 ∷ (maybe_taken value.now pair.1 ∷ [])) }
+{
+    let (k, v) = pair;
+    or_drop!(all.push(maybe_taken(key, k)); v);
+    all.push(maybe_taken(value, v))?;
+    Ok(())
+}
+
 /// Keys and values in turn, where literals take these types.
 fn in_turn(
     alloc: Global,
@@ -92,9 +108,8 @@ fn in_turn(
     ensures { IfOk result (λ r. r.items ≡ in_turn key.now value.now pairs.items) }
 {
     let mut all = Vec::new(alloc);
-    for (k, v) in pairs {
-        all.push(maybe_taken(key, k))?;
-        all.push(maybe_taken(value, v))?;
+    for pair in pairs {
+        put_both(&mut all, key, value, pair)?;
     }
     Ok(all)
 }

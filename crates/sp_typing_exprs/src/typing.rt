@@ -56,9 +56,8 @@ fn pairs_typed<C: Context>(
     let mut all = Vec::new(alloc);
     for pair in pairs.again() {
         let pair = pair.view();
-        let key = or_drop!(typed(alloc, context, &pair.key); all);
-        let value = or_drop!(typed(alloc, context, &pair.value); all, key);
-        or_drop!(all.push((key, value)); all);
+        let both = or_drop!(both_typed(alloc, context, &pair.key, &pair.value); all);
+        or_drop!(all.push(both); all);
     }
     Ok(all)
 }
@@ -101,20 +100,17 @@ fn call_typed<C: Context>(
     }
 }
 
-/// A vector or a set of the expressions that trees are.
-#[cycle(typed)]
-fn row_typed<C: Context>(
+/// A vector or a set of these expressions, literals among which take the type of the first that is none.
+fn led_row(
     alloc: Global,
-    context: &C,
     span: Span,
     maker: Maker,
     op: ManyOp,
-    members: &Members<'_, ExprKind>,
+    list: Vec<Expr>,
 ) -> Result<Expr, NoMemory>
-    ensures { IfOk result (λ e. e ≡ row_at span maker op (led (typed_all (C.around context.now)
-        (trees members.now)))) }
+    ensures { IfOk result (λ e. e ≡ row_at span maker op (led list.items)) }
 {
-    let list = led(alloc, typed_all(alloc, context, members)?)?;
+    let list = led(alloc, list)?;
     row_at(alloc, span, maker, op, list)
 }
 
@@ -177,40 +173,50 @@ fn empty_map<C: Context>(
 }
 
 /// `cast<T>(e)`.
-#[cycle(typed)]
-fn cast_typed<C: Context>(
+fn cast_of<C: Context>(
     alloc: Global,
     context: &C,
     span: Span,
     to: &Ref<'_, TypeKind>,
-    operand: &Ref<'_, ExprKind>,
+    operand: Expr,
 ) -> Result<Expr, NoMemory>
     ensures { IfOk result (λ e. e ≡ one_at span (cast_type ((C.around context.now).type_in to.now))
-        (Cast ((C.around context.now).written to.now)) (typed (C.around context.now)
-        operand.now)) }
+        (Cast ((C.around context.now).written to.now)) operand) }
 {
-    let operand = typed(alloc, context, operand)?;
     let ty = cast_type(or_drop!(context.type_in(alloc, to); operand));
     one_at(alloc, span, ty, OneOp::Cast(context.written(to)), operand)
 }
 
 /// `new path(a)`.
-#[cycle(typed)]
-fn new_typed<C: Context>(
+fn new_of<C: Context>(
     alloc: Global,
     context: &C,
     span: Span,
     path: &Ref<'_, PathKind>,
-    arguments: &Members<'_, ExprKind>,
+    list: Vec<Expr>,
 ) -> Result<Expr, NoMemory>
     ensures { IfOk result (λ e. e ≡ new_at (C.around context.now) span (span_of path.now)
-        ((C.around context.now).named (span_of path.now) path.now) (typed_all
-        (C.around context.now) (trees arguments.now))) }
+        ((C.around context.now).named (span_of path.now) path.now) list.items) }
 {
     let at = path.span();
-    let list = typed_all(alloc, context, arguments)?;
     let callee = or_drop!(context.named(alloc, at, path); list);
     new_at(alloc, context, span, at, callee, list)
+}
+
+/// Two typed expressions.
+#[cycle(typed)]
+fn both_typed<C: Context>(
+    alloc: Global,
+    context: &C,
+    first: &Ref<'_, ExprKind>,
+    second: &Ref<'_, ExprKind>,
+) -> Result<(Expr, Expr), NoMemory>
+    ensures first { IfOk result (λ r. r.0 ≡ typed (C.around context.now) first.now) }
+    ensures second { IfOk result (λ r. r.1 ≡ typed (C.around context.now) second.now) }
+{
+    let first = typed(alloc, context, first)?;
+    let second = or_drop!(typed(alloc, context, second); first);
+    Ok((first, second))
 }
 
 /// `c ? a : b`.
@@ -227,44 +233,8 @@ fn choice_typed<C: Context>(
         (typed (C.around context.now) if_true.now) (typed (C.around context.now) if_false.now)) }
 {
     let c = typed(alloc, context, condition)?;
-    let a = or_drop!(typed(alloc, context, if_true); c);
-    let b = or_drop!(typed(alloc, context, if_false); a, c);
+    let (a, b) = or_drop!(both_typed(alloc, context, if_true, if_false); c);
     choice_at(alloc, span, c, a, b)
-}
-
-/// `a[i]`.
-#[cycle(typed)]
-fn index_typed<C: Context>(
-    alloc: Global,
-    context: &C,
-    span: Span,
-    object: &Ref<'_, ExprKind>,
-    index: &Ref<'_, ExprKind>,
-) -> Result<Expr, NoMemory>
-    ensures { IfOk result (λ e. e ≡ indexed (C.around context.now) span (typed
-        (C.around context.now) object.now) (typed (C.around context.now) index.now)) }
-{
-    let object = typed(alloc, context, object)?;
-    let index = or_drop!(typed(alloc, context, index); object);
-    indexed(alloc, context, span, object, index)
-}
-
-/// An operator with two operands.
-#[cycle(typed)]
-fn binary_typed<C: Context>(
-    alloc: Global,
-    context: &C,
-    span: Span,
-    op: BinaryOp,
-    left: &Ref<'_, ExprKind>,
-    right: &Ref<'_, ExprKind>,
-) -> Result<Expr, NoMemory>
-    ensures { IfOk result (λ e. e ≡ binary_at span op (typed (C.around context.now) left.now)
-        (typed (C.around context.now) right.now)) }
-{
-    let left = typed(alloc, context, left)?;
-    let right = or_drop!(typed(alloc, context, right); left);
-    binary_at(alloc, span, op, left, right)
 }
 
 /// The typed expression that a tree is, in what stands round it.
@@ -291,22 +261,14 @@ pub fn typed<C: Context>(
         ExprView::Bytes(bytes) => bytes_at(alloc, span, bytes),
         ExprView::Regex(text) => regex_at(alloc, span, text),
         ExprView::Tuple(members) => tuple_at(alloc, span, typed_all(alloc, context, &members)?),
-        ExprView::Vector(members) => row_typed(
-            alloc,
-            context,
-            span,
-            Maker::Vector,
-            ManyOp::Vector,
-            &members,
-        ),
-        ExprView::Set(members) => row_typed(
-            alloc,
-            context,
-            span,
-            Maker::Set,
-            ManyOp::Set,
-            &members,
-        ),
+        ExprView::Vector(members) => {
+            let list = typed_all(alloc, context, &members)?;
+            led_row(alloc, span, Maker::Vector, ManyOp::Vector, list)
+        }
+        ExprView::Set(members) => {
+            let list = typed_all(alloc, context, &members)?;
+            led_row(alloc, span, Maker::Set, ManyOp::Set, list)
+        }
         ExprView::Map(pairs) => {
             let pairs = pairs_typed(alloc, context, &pairs)?;
             map_at(alloc, span, pairs)
@@ -318,8 +280,14 @@ pub fn typed<C: Context>(
             let ty = Type::word(int_word(word));
             Ok(leaf_at(span, ty, LeafOp::TypedNumber(number.value())))
         }
-        ExprView::Cast(to, operand) => cast_typed(alloc, context, span, &to, &operand),
-        ExprView::New(path, arguments) => new_typed(alloc, context, span, &path, &arguments),
+        ExprView::Cast(to, operand) => {
+            let operand = typed(alloc, context, &operand)?;
+            cast_of(alloc, context, span, &to, operand)
+        }
+        ExprView::New(path, arguments) => {
+            let list = typed_all(alloc, context, &arguments)?;
+            new_of(alloc, context, span, &path, list)
+        }
         ExprView::Size(operand) => {
             let operand = typed(alloc, context, &operand)?;
             one_at(
@@ -343,12 +311,18 @@ pub fn typed<C: Context>(
             let object = typed(alloc, context, &object)?;
             set_member_of(alloc, context, span, &name, object)
         }
-        ExprView::Index { object, index } => index_typed(alloc, context, span, &object, &index),
+        ExprView::Index { object, index } => {
+            let (object, index) = both_typed(alloc, context, &object, &index)?;
+            indexed(alloc, context, span, object, index)
+        }
         ExprView::Call(callee, arguments) => call_typed(alloc, context, span, &callee, &arguments),
         ExprView::Unary(op, operand) => {
             let operand = typed(alloc, context, &operand)?;
             unary_at(alloc, span, op, operand)
         }
-        ExprView::Binary(op, left, right) => binary_typed(alloc, context, span, op, &left, &right),
+        ExprView::Binary(op, left, right) => {
+            let (left, right) = both_typed(alloc, context, &left, &right)?;
+            binary_at(alloc, span, op, left, right)
+        }
     }
 }

@@ -5,7 +5,7 @@ ghost use Rattle.sp_typing_units.specs.Roles.{has_view, has_byte_order, has_bit_
 use sp_words::AttributeName;
 
 /// What is read, by the attributes that can stand on it.
-#[derive(Clone, Copy, PartialEq, Eq, Debug)]
+#[derive(Clone, Copy)]
 pub enum Kind {
     Integer,
     Bitfield,
@@ -26,7 +26,7 @@ pub enum Kind {
 }
 
 /// What attributes stand behind.
-#[derive(Clone, Copy, PartialEq, Eq, Debug)]
+#[derive(Clone, Copy)]
 pub enum Holder {
     NamedField,
     AnonymousField,
@@ -35,7 +35,7 @@ pub enum Holder {
 }
 
 /// What an attribute is for.
-#[derive(Clone, Copy, PartialEq, Eq, Debug)]
+#[derive(Clone, Copy)]
 pub enum Role {
     /// It says how something ends that has no such end, so no type is asked of its value.
     Unasked,

@@ -36,7 +36,7 @@ pairs_typed-loop-pair-preserved g t c =
     let around = g.C.Context.around c.args.context.now in (
       tt,
       tt,
-      pair_step around c.loop-pair.all.items c.push.new.self.items c.loop-pair.pair-iterator c.next.new.self c.in-Some.pair c.view-pair.result.key c.view-pair.result.value (span_of c.in-Some.pair) c.in-Ok-or_drop.field-0 c.in-Ok-or_drop-value.field-0 (pairs_typed around (trees c.args.pairs.now)) c.in-Some.ensures.steps c.view-pair.ensures c.in-Ok-or_drop.ensures c.in-Ok-or_drop-value.ensures c.in-Ok-or_drop-2.ensures.items c.loop-pair.invariant.2,
+      pair_step around c.loop-pair.all.items c.push.new.self.items c.loop-pair.pair-iterator c.next.new.self c.in-Some.pair c.view-pair.result.key c.view-pair.result.value (span_of c.in-Some.pair) c.in-Ok-or_drop.field-0.0 c.in-Ok-or_drop.field-0.1 (pairs_typed around (trees c.args.pairs.now)) c.in-Some.ensures.steps c.view-pair.ensures c.in-Ok-or_drop.ensures.first c.in-Ok-or_drop.ensures.second c.in-Ok-or_drop-2.ensures.items c.loop-pair.invariant.2,
       less_behind c.loop-pair.pair-iterator c.next.new.self c.in-Some.pair (trees_size (trees c.args.pairs.now)) c.in-Some.ensures.steps c.loop-pair.invariant.3,
     )
 

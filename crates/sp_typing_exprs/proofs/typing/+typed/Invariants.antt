@@ -27,20 +27,8 @@ invariant-pairs_typed-loop-pair g l =
 abbrev pub decreases-call_typed : goal.decreases-call_typed
 decreases-call_typed g l = 3 * (tree_size l.callee.now + trees_size (trees l.arguments.now)) + 4
 
-abbrev pub decreases-row_typed : goal.decreases-row_typed
-decreases-row_typed g l = 3 * trees_size (trees l.members.now) + 1
-
-abbrev pub decreases-cast_typed : goal.decreases-cast_typed
-decreases-cast_typed g l = 3 * tree_size l.operand.now + 3
-
-abbrev pub decreases-new_typed : goal.decreases-new_typed
-decreases-new_typed g l = 3 * trees_size (trees l.arguments.now) + 1
-
 abbrev pub decreases-choice_typed : goal.decreases-choice_typed
 decreases-choice_typed g l = 3 * (tree_size l.condition.now + (tree_size l.if_true.now + tree_size l.if_false.now)) + 3
 
-abbrev pub decreases-index_typed : goal.decreases-index_typed
-decreases-index_typed g l = 3 * (tree_size l.object.now + tree_size l.index.now) + 3
-
-abbrev pub decreases-binary_typed : goal.decreases-binary_typed
-decreases-binary_typed g l = 3 * (tree_size l.left.now + tree_size l.right.now) + 3
+abbrev pub decreases-both_typed : goal.decreases-both_typed
+decreases-both_typed g l = 3 * (tree_size l.first.now + tree_size l.second.now) + 3
