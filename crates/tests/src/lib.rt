@@ -1,6 +1,6 @@
 //! Tests of what no clause says and no run of a program shows: integers, values, lists and windows; the adapters over real files and
-//! streams, command lines, lists of modules, runs of tokens, literals and regular expressions. They stand in a crate of their own, so
-//! that the crates that they ask are proved once.
+//! streams and over fakes that fail; runs of tokens, literals and regular expressions. They stand in a crate of their own, so that the
+//! crates that they ask are proved once.
 #![tactic(auto)]
 
 #[cfg(test)]
@@ -12,8 +12,6 @@ mod lists;
 #[cfg(test)]
 mod literals;
 #[cfg(test)]
-mod modules;
-#[cfg(test)]
 mod regexes;
 #[cfg(test)]
 mod runs;
@@ -21,5 +19,3 @@ mod runs;
 mod values;
 #[cfg(test)]
 mod windows;
-#[cfg(test)]
-mod words;
