@@ -1,6 +1,6 @@
-pub mod bodies_end
+pub mod finished_bodies
 pub mod unit_told
-pub mod units_end
+pub mod finished_units
 pub mod program_laid
 pub mod whole_program
 pub mod list_runs

@@ -3,14 +3,19 @@
 //! There is no code here, and so no edit that must fail.
 #![tactic(auto)]
 
-mod bodies_end;
+mod finished_bodies;
+mod finished_units;
 mod list_runs;
 mod program_laid;
 mod unit_told;
-mod units_end;
 mod whole_program;
 
-pub use bodies_end::{fuel_suffices, more_fuel_is_the_same, turns_are_enough};
+pub use finished_bodies::{fuel_suffices, more_fuel_is_the_same, turns_are_enough};
+pub use finished_units::{
+    ended_inputs_decide, feeds_tell, fuels_agree, meanings_are_reached, meanings_end,
+    meanings_stay, stops_tell, units_are_decided_by_turns, units_are_finished,
+    units_are_the_same_at_more,
+};
 pub use list_runs::{
     compiled_lists_run, functions_fit_as_called, hooks_fit_as_run, list_ended_inputs_decide,
     list_feeds_tell, list_meanings_are_reached, list_meanings_end, list_meanings_stay,
@@ -26,11 +31,6 @@ pub use unit_told::{
     ended_decides, ended_steps_decide, ends_are_exact, feeds_are_meant, meanings_are_told,
     runs_go_on, runs_pass, started_keeps, starters_keep, stops_are_meant, stops_are_one,
     told_stays, units_end,
-};
-pub use units_end::{
-    ended_inputs_decide, feeds_tell, fuels_agree, meanings_are_reached, meanings_end,
-    meanings_stay, stops_tell, units_are_decided_by_turns, units_are_finished,
-    units_are_the_same_at_more,
 };
 pub use whole_program::{
     compiled_lists_are_sound, currents_are_listed, fitting_programs_are_sound,

@@ -19,10 +19,10 @@ use Rattle.sp_code_programs.specs.programs.Whole.{starter_at, IsProgramOf}
 use Rattle.sp_law_programs.specs.program_laid.Fits as laid
 use Rattle.sp_law_programs.specs.program_laid.Places.{StmtChangesPlaces}
 use Rattle.sp_law_programs.specs.program_laid.Arguments.{StmtArgumentsMatch}
-use Rattle.sp_law_programs.specs.bodies_end.Finished.{HookFits, FunctionsFit}
+use Rattle.sp_law_programs.specs.finished_bodies.Finished.{HookFits, FunctionsFit}
 use Rattle.sp_law_programs.specs.unit_told.Told.{Starts}
-use Rattle.sp_law_programs.specs.units_end.Built.{HookIsBuilt, UnitIsBuilt, HooksFit}
-use Rattle.sp_law_programs.specs.units_end.Meaning.{RunsUnit}
+use Rattle.sp_law_programs.specs.finished_units.Built.{HookIsBuilt, UnitIsBuilt, HooksFit}
+use Rattle.sp_law_programs.specs.finished_units.Meaning.{RunsUnit}
 use Rattle.sp_law_programs.specs.whole_program.Fits.{UnitFits, ListFits}
 use Rattle.sp_law_programs.proofs.whole_program_lemmas.Programs.{programs_have_bodies, programs_have_units, programs_have_starters}
 use Rattle.sp_law_programs.proofs.whole_program_lemmas.Fitting.{listed_units_fit, listed_calls_count, fitting_programs_are_sound}

@@ -20,9 +20,9 @@ use Rattle.sp_code_programs.specs.programs.Named.{hook_names_of, value_names_of}
 use Rattle.sp_code_programs.specs.programs.Whole.{starter_at}
 use Rattle.sp_law_programs.specs.unit_told.Told.{end_of, events_of, IsNeed, Tells}
 use Rattle.sp_law_programs.proofs.unit_told_lemmas.Kept.{started_keeps}
-use Rattle.sp_law_programs.specs.units_end.Meaning.{meaning}
-use Rattle.sp_law_programs.specs.units_end.Laws.{IsLast}
-use Rattle.sp_law_programs.proofs.units_end_lemmas.Meanings.{stops_tell, meanings_stay, ended_inputs_decide}
+use Rattle.sp_law_programs.specs.finished_units.Meaning.{meaning}
+use Rattle.sp_law_programs.specs.finished_units.Laws.{IsLast}
+use Rattle.sp_law_programs.proofs.finished_units_lemmas.Meanings.{stops_tell, meanings_stay, ended_inputs_decide}
 use Rattle.sp_law_programs.proofs.whole_program_lemmas.Programs.{units_mean_theirs, starters_are_last, starter_shows}
 use Rattle.sp_fiber.specs.Moves.{whole_reads}
 use Rattle.sp_session.specs.Units.{unit_result}

@@ -11,7 +11,7 @@ use Rattle.sp_running.specs.Telling.{Names}
 use Rattle.sp_code.specs.declared.program.Program.{Program}
 use Rattle.sp_code_programs.specs.programs.Named.{value_names_of}
 use Rattle.sp_law_programs.specs.unit_told.Told.{end_of, events_of, IsNeed}
-use Rattle.sp_law_programs.specs.units_end.Laws.{IsLast}
+use Rattle.sp_law_programs.specs.finished_units.Laws.{IsLast}
 use Rattle.sp_meaning.specs.declared.stand.Stand.{Stand}
 use Rattle.sp_meaning.specs.declared.stand.Stand.TheVariants as stand_is
 use Rattle.sp_meaning.specs.Meaning.{Meaning}

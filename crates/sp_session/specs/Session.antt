@@ -10,7 +10,7 @@ use Rattle.sp_code.specs.Machine.{Config}
 use Rattle.sp_code.specs.Programs.{plain_of, shapes_of, IsSoundProgram}
 use Rattle.sp_code_programs.specs.programs.Named.{hook_names_of}
 use Rattle.sp_code_programs.specs.programs.Whole.{starter_at, IsCompiled}
-use Rattle.sp_law_programs.specs.units_end.Meaning.{RunsUnit}
+use Rattle.sp_law_programs.specs.finished_units.Meaning.{RunsUnit}
 use Rattle.sp_fiber.specs.declared.phase.Phase.{Phase as FiberPhase}
 use Rattle.sp_fiber.specs.declared.phase.Phase.TheVariants as fiber_is
 use Rattle.sp_fiber.specs.Fibers.{Suspended, started, HasRun}

@@ -19,12 +19,12 @@ use Rattle.sp_code_programs.specs.programs.Routines.{Routine, entry_at, function
 use Rattle.sp_code_programs.specs.programs.Currents.{currents_of}
 use Rattle.sp_code_programs.specs.programs.Whole.{behind_bodies, IsProgramOf}
 use Rattle.sp_law_code.specs.bodies.Fits.{StmtFits}
-use Rattle.sp_law_programs.specs.bodies_end.Finished.{FunctionFits, HookFits}
+use Rattle.sp_law_programs.specs.finished_bodies.Finished.{FunctionFits, HookFits}
 use Rattle.sp_law_programs.proofs.program_laid_lemmas.Begins.{stmt_begins, shown_first}
 use Rattle.sp_law_programs.proofs.program_laid_lemmas.Laid.{placed_function, placed_hook}
 use Rattle.sp_law_programs.proofs.program_laid_lemmas.Routines.{IsPlaced}
 use Rattle.sp_law_programs.proofs.program_laid_lemmas.Zeros.{zero_has}
-use Rattle.sp_law_programs.specs.units_end.Built.{HookIsBuilt}
+use Rattle.sp_law_programs.specs.finished_units.Built.{HookIsBuilt}
 use Rattle.sp_law_programs.specs.whole_program.Fits.{ListFits}
 use Rattle.sp_law_programs.specs.list_runs.Runs.{BodiesAreBuilt}
 use Rattle.sp_law_programs.specs.list_runs.Laws.{FunctionsFitAsCalled, HooksFitAsRun}

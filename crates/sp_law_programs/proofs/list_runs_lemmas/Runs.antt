@@ -18,13 +18,13 @@ use Rattle.sp_code_programs.specs.units.Units.{kinds_over, starter_kinds}
 use Rattle.sp_code_programs.specs.programs.Named.{hook_names_of}
 use Rattle.sp_code_programs.specs.programs.Whole.{starter_at}
 use Rattle.sp_law_machine.specs.ends.Ending.{IsStop}
-use Rattle.sp_law_programs.specs.bodies_end.Laws.{IsFinished}
+use Rattle.sp_law_programs.specs.finished_bodies.Laws.{IsFinished}
 use Rattle.sp_law_programs.specs.unit_told.Told.{started, end_of, events_of, Tells}
-use Rattle.sp_law_programs.specs.units_end.Built.{UnitIsBuilt}
-use Rattle.sp_law_programs.specs.units_end.Fuel.{IsUnitEnd}
-use Rattle.sp_law_programs.specs.units_end.Meaning.{meaning, RunsUnit}
-use Rattle.sp_law_programs.specs.units_end.Laws.{IsLast}
-use Rattle.sp_law_programs.proofs.units_end_lemmas.Meanings.{meanings_end, meanings_are_reached, stops_tell, meanings_stay, ended_inputs_decide, feeds_tell}
+use Rattle.sp_law_programs.specs.finished_units.Built.{UnitIsBuilt}
+use Rattle.sp_law_programs.specs.finished_units.Fuel.{IsUnitEnd}
+use Rattle.sp_law_programs.specs.finished_units.Meaning.{meaning, RunsUnit}
+use Rattle.sp_law_programs.specs.finished_units.Laws.{IsLast}
+use Rattle.sp_law_programs.proofs.finished_units_lemmas.Meanings.{meanings_end, meanings_are_reached, stops_tell, meanings_stay, ended_inputs_decide, feeds_tell}
 use Rattle.sp_law_programs.proofs.whole_program_lemmas.Programs.{units_have_kinds, units_mean_theirs}
 use Rattle.sp_law_programs.proofs.whole_program_lemmas.Fitting.{listed_units_fit, compiled_lists_are_sound, fitting_programs_start}
 use Rattle.sp_law_programs.specs.list_runs.Runs.{IsRunnable, list_meaning}

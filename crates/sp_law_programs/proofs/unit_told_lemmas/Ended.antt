@@ -12,7 +12,7 @@ use Rattle.sp_law_machine.specs.continues.Laws.{IsLack, IsWait}
 use Rattle.sp_law_machine.specs.continues.Windows.{From}
 use Rattle.sp_law_machine.proofs.continues_lemmas.Places.{After, act_after, end_after}
 use Rattle.sp_law_machine.proofs.continues_lemmas.Marks.{places_stay}
-use Rattle.sp_law_programs.specs.bodies_end.Laws.{IsFinished}
+use Rattle.sp_law_programs.specs.finished_bodies.Laws.{IsFinished}
 use Rattle.sp_law_programs.specs.unit_told.Told.{frames_of, started, meant, end_of, events_of, IsNeed}
 use Rattle.sp_law_programs.specs.unit_told.Laws.{EndedStepsDecide, EndedDecides}
 use Rattle.sp_law_programs.proofs.unit_told_lemmas.Exact.{needs_wait}

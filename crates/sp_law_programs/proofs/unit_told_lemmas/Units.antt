@@ -17,7 +17,7 @@ use Rattle.sp_code.specs.Runs.{Ways, leads, Comes, Runs}
 use Rattle.sp_law_code.proofs.exprs_lemmas.Steps.{then_comes, one, act_at}
 use Rattle.sp_law_code.proofs.units_lemmas.Units.{units_run}
 use Rattle.sp_law_machine.specs.ends.Ending.{IsStop}
-use Rattle.sp_law_programs.specs.bodies_end.Laws.{IsFinished}
+use Rattle.sp_law_programs.specs.finished_bodies.Laws.{IsFinished}
 use Rattle.sp_law_programs.specs.unit_told.Told.{first, started, meant, end_of, events_of, MayEndUnit, told_end, IsOverIn, Tells}
 use Rattle.sp_law_programs.specs.unit_told.Laws.{UnitsEnd, MeaningsAreTold, StopsAreMeant}
 use Rattle.sp_law_programs.proofs.unit_told_lemmas.Stops.{stops_are_one}

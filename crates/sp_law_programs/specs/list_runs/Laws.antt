@@ -20,13 +20,13 @@ use Rattle.sp_code_programs.specs.programs.Named.{hook_names_of}
 use Rattle.sp_code_programs.specs.programs.Whole.{starter_at, IsProgramOf, IsCompiled}
 use Rattle.sp_law_machine.specs.continues.Laws.{IsSteady}
 use Rattle.sp_law_machine.specs.ends.Ending.{IsStop}
-use Rattle.sp_law_programs.specs.bodies_end.Finished.{FunctionsFit}
-use Rattle.sp_law_programs.specs.bodies_end.Laws.{IsFinished}
+use Rattle.sp_law_programs.specs.finished_bodies.Finished.{FunctionsFit}
+use Rattle.sp_law_programs.specs.finished_bodies.Laws.{IsFinished}
 use Rattle.sp_law_programs.specs.unit_told.Told.{started, end_of, events_of, IsNeed, Tells}
-use Rattle.sp_law_programs.specs.units_end.Built.{UnitIsBuilt, HooksFit}
-use Rattle.sp_law_programs.specs.units_end.Fuel.{IsUnitEnd}
-use Rattle.sp_law_programs.specs.units_end.Meaning.{meaning, RunsUnit}
-use Rattle.sp_law_programs.specs.units_end.Laws.{IsLast}
+use Rattle.sp_law_programs.specs.finished_units.Built.{UnitIsBuilt, HooksFit}
+use Rattle.sp_law_programs.specs.finished_units.Fuel.{IsUnitEnd}
+use Rattle.sp_law_programs.specs.finished_units.Meaning.{meaning, RunsUnit}
+use Rattle.sp_law_programs.specs.finished_units.Laws.{IsLast}
 use Rattle.sp_law_programs.specs.whole_program.Fits.{ListFits, AlwaysFits}
 use Rattle.sp_law_programs.specs.list_runs.Runs.{BodiesAreBuilt, AlwaysRuns, IsRunnable, list_meaning}
 

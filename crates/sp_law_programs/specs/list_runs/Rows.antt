@@ -23,11 +23,11 @@ use Rattle.sp_code_programs.specs.units.Units.{starter_kinds}
 use Rattle.sp_code_programs.specs.programs.Rows.{here, same, seven}
 use Rattle.sp_code_programs.specs.programs.Whole.{IsCompiled}
 use Rattle.sp_code_programs.specs.programs.WholeRows.{with_hook, with_parameter, told_byte, whole_list, whole_program, whole_shapes, it_is_the_program}
-use Rattle.sp_law_programs.specs.bodies_end.Built.{StmtIsBuilt}
+use Rattle.sp_law_programs.specs.finished_bodies.Built.{StmtIsBuilt}
 use Rattle.sp_law_programs.specs.unit_told.Told.{end_of}
 use Rattle.sp_law_programs.specs.unit_told.Rows.{none}
-use Rattle.sp_law_programs.specs.units_end.Built.{HookIsBuilt, UnitIsBuilt}
-use Rattle.sp_law_programs.specs.units_end.Meaning.{meaning, RunsUnit}
+use Rattle.sp_law_programs.specs.finished_units.Built.{HookIsBuilt, UnitIsBuilt}
+use Rattle.sp_law_programs.specs.finished_units.Meaning.{meaning, RunsUnit}
 use Rattle.sp_law_programs.specs.whole_program.Fits.{AlwaysFits}
 use Rattle.sp_law_programs.specs.whole_program.Rows.{the_list_fits}
 use Rattle.sp_law_programs.specs.list_runs.Runs.{BodiesAreBuilt, UnitsAreBuilt, IsRunnable, list_meaning}

@@ -13,8 +13,8 @@ use Rattle.sp_bodies.specs.Globals.{globals_of}
 use Rattle.sp_code.specs.declared.program.Program.{Program}
 use Rattle.sp_code_programs.specs.units.Units.{starter_kinds}
 use Rattle.sp_code_programs.specs.programs.Whole.{IsCompiled}
-use Rattle.sp_law_programs.specs.bodies_end.Built.{StmtIsBuilt}
-use Rattle.sp_law_programs.specs.units_end.Built.{HookIsBuilt, UnitIsBuilt}
+use Rattle.sp_law_programs.specs.finished_bodies.Built.{StmtIsBuilt}
+use Rattle.sp_law_programs.specs.finished_units.Built.{HookIsBuilt, UnitIsBuilt}
 use Rattle.sp_law_programs.specs.whole_program.Fits.{AlwaysFits}
 use Rattle.sp_law_programs.specs.whole_program.Meant.{list_means}
 

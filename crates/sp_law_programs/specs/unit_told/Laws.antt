@@ -11,7 +11,7 @@ use Rattle.sp_code.specs.Runs.{Comes}
 use Rattle.sp_law_machine.specs.continues.Laws.{IsSteady, IsWait}
 use Rattle.sp_law_machine.specs.continues.Windows.{From}
 use Rattle.sp_law_machine.specs.ends.Ending.{IsStop}
-use Rattle.sp_law_programs.specs.bodies_end.Laws.{IsFinished}
+use Rattle.sp_law_programs.specs.finished_bodies.Laws.{IsFinished}
 use Rattle.sp_law_programs.specs.unit_told.Told.{started, Starts, meant, end_of, events_of, MayEndUnit, IsNeed, told_end, Tells}
 
 -- A run that comes to a stop passes each configuration to which a run from the same one comes.

@@ -12,7 +12,7 @@ use Rattle.sp_bodies.specs.Exprs.{slot_local}
 use Rattle.sp_code.specs.Machine.{Plain}
 use Rattle.sp_code.specs.Shapes.{Round, Shapes}
 use Rattle.sp_law_code.specs.bodies.Fits.{StmtsFit, BranchesFit, CasesFit}
-use Rattle.sp_law_programs.specs.bodies_end.Built.{StmtsAreBuilt, BranchesAreBuilt, CasesAreBuilt}
+use Rattle.sp_law_programs.specs.finished_bodies.Built.{StmtsAreBuilt, BranchesAreBuilt, CasesAreBuilt}
 use Rattle.sp_emit_stmt.specs.Literals.{StmtsLiteralsFit, BranchesLiteralsFit, CasesLiteralsFit}
 use Rattle.sp_law_programs.specs.program_laid.Arguments.{StmtsArgumentsMatch, BranchesArgumentsMatch, CasesArgumentsMatch}
 use Rattle.sp_law_programs.specs.program_laid.Places.{StmtsChangePlaces, BranchesChangePlaces, CasesChangePlaces}

@@ -21,7 +21,7 @@ use Rattle.sp_code.specs.Machine.{Plain}
 use Rattle.sp_code.specs.Shapes.{Round, Shapes}
 use Rattle.sp_code_programs.specs.exprs.Code.{kind_of, kind_at}
 use Rattle.sp_law_code.specs.bodies.Fits.{BareFits, ValuedFits, ValuesFit}
-use Rattle.sp_law_programs.specs.bodies_end.Built.{ExprIsBuilt, PlaceIsBuilt, AllAreBuilt, BareIsBuilt, ValuedIsBuilt}
+use Rattle.sp_law_programs.specs.finished_bodies.Built.{ExprIsBuilt, PlaceIsBuilt, AllAreBuilt, BareIsBuilt, ValuedIsBuilt}
 use Rattle.sp_emit_expr.specs.Literals.{AllLiteralsFit}
 use Rattle.sp_emit_stmt.specs.Literals.{ValuedLiteralsFit}
 use Rattle.sp_law_programs.specs.program_laid.Arguments.{ArgumentsMatch, AllArgumentsMatch}

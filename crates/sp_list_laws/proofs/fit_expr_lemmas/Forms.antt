@@ -32,7 +32,7 @@ use Rattle.sp_code_programs.specs.exprs.Code.{kinds_on, count}
 use Rattle.sp_code_programs.specs.programs.Routines.{parameter_kinds}
 use Rattle.sp_law_code.specs.exprs.Parts.{OneFits, BinaryFits, TwoFits, ManyFits, ChangeFits}
 use Rattle.sp_law_programs.specs.program_laid.Arguments.{CallMatches}
-use Rattle.sp_law_programs.specs.bodies_end.Built.{IsThere}
+use Rattle.sp_law_programs.specs.finished_bodies.Built.{IsThere}
 use Rattle.sp_list_laws.specs.fit_expr.Around.{Around, globals_in}
 use Rattle.sp_list_laws.specs.fit_expr.Sorts.{Sort, sort_of, takes, is_sized, is_integer, casts}
 use Rattle.sp_list_laws.specs.fit_expr.Sorts as sort_is

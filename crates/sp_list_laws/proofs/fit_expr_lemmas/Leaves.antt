@@ -24,7 +24,7 @@ use Rattle.sp_code.specs.Shapes.{UnitKinds, Shapes, IsMember}
 use Rattle.sp_methods.specs.Kinds as kinds
 use Rattle.sp_law_programs.proofs.program_laid_lemmas.Zeros.{zero_has}
 use Rattle.sp_law_code.specs.exprs.Parts.{OneOf, LeafFits}
-use Rattle.sp_law_programs.specs.bodies_end.Built.{LeafIsBuilt}
+use Rattle.sp_law_programs.specs.finished_bodies.Built.{LeafIsBuilt}
 use Rattle.sp_emit_expr.specs.Literals as literals
 use Rattle.sp_list_laws.specs.fit_expr.Around.{Around, globals_in, locals_in}
 use Rattle.sp_list_laws.specs.fit_expr.Sorts as sort_is

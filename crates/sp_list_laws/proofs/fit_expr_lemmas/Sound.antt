@@ -25,7 +25,7 @@ use Rattle.sp_code.specs.Machine.{Plain}
 use Rattle.sp_code.specs.Shapes.{Shapes, IsMember}
 use Rattle.sp_code_programs.specs.exprs.Code.{count, member_of, place_local, kinds_on}
 use Rattle.sp_law_code.specs.exprs.Parts as expressions
-use Rattle.sp_law_programs.specs.bodies_end.Built.{IsThere, PartIsBuilt, PartsAreBuilt, ExprIsBuilt, AllAreBuilt, ReceiverIsBuilt, PlaceIsBuilt}
+use Rattle.sp_law_programs.specs.finished_bodies.Built.{IsThere, PartIsBuilt, PartsAreBuilt, ExprIsBuilt, AllAreBuilt, ReceiverIsBuilt, PlaceIsBuilt}
 use Rattle.sp_emit_expr.specs.declared.rows.Row.TheVariants as row_is
 use Rattle.sp_emit_expr.specs.Many.{row_of}
 use Rattle.sp_emit_expr.specs.Literals.{number_behind, negative_number, NegativeFits, LeafFits, LiteralsFit, AllLiteralsFit, PlaceFits, ReceiverFits}

@@ -22,8 +22,8 @@ use Rattle.sp_code.specs.Shapes.{Shapes, read_kind}
 use Rattle.sp_code_programs.specs.programs.Routines.{hook_unit}
 use Rattle.sp_law_programs.specs.whole_program.Laws.{CurrentsAreListed}
 use Rattle.sp_law_programs.specs.whole_program.Fits.{IsOfField, IsOfValue, AreOfField, AreOfValue, HasMember, StoreFits, IntegerFits, PartsFit, ValueFits, VariablesFit}
-use Rattle.sp_law_programs.specs.bodies_end.Built.{IsThere}
-use Rattle.sp_law_programs.specs.units_end.Built as built
+use Rattle.sp_law_programs.specs.finished_bodies.Built.{IsThere}
+use Rattle.sp_law_programs.specs.finished_units.Built as built
 use Rattle.sp_emit_unit.specs.Values as literals
 use Rattle.sp_list_laws.specs.fit_expr.Around.{Around}
 use Rattle.sp_list_laws.specs.fit_expr.Sorts as sort_is

@@ -41,8 +41,8 @@ use Rattle.sp_typed_list.specs.Settled.{Answers}
 use Rattle.sp_typed_list.specs.Lists.{typed_of}
 use Rattle.sp_check_unit.specs.Rules.{Breaks}
 use Rattle.sp_bodies.specs.Units.{is_plain, last_order, module_order, integer_field, unit_layout}
-use Rattle.sp_law_programs.specs.bodies_end.Built.{IsThere}
-use Rattle.sp_law_programs.specs.units_end.Built as built
+use Rattle.sp_law_programs.specs.finished_bodies.Built.{IsThere}
+use Rattle.sp_law_programs.specs.finished_units.Built as built
 use Rattle.sp_emit_unit.specs.Values as literals
 use Rattle.sp_list_laws.specs.whole_list.Whole.{is_known_parameter, is_known_member, is_known_variable, is_known_unit, is_known_function}
 use Rattle.sp_list_laws.proofs.whole_list_lemmas.None.{none_parts}

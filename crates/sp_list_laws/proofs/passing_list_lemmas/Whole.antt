@@ -24,8 +24,8 @@ use Rattle.sp_check_unit.specs.Rules.{Breaks}
 use Rattle.sp_unbuilt.specs.Fields.{kinds_in_units}
 use Rattle.sp_unbuilt.specs.Unbuilt.{Texts, tests_from, unbuilt_tests, first_unbuilt}
 use Rattle.sp_bodies.specs.Globals.{globals_of}
-use Rattle.sp_law_programs.specs.bodies_end.Built.{StmtIsBuilt}
-use Rattle.sp_law_programs.specs.units_end.Built.{UnitIsBuilt}
+use Rattle.sp_law_programs.specs.finished_bodies.Built.{StmtIsBuilt}
+use Rattle.sp_law_programs.specs.finished_units.Built.{UnitIsBuilt}
 use Rattle.sp_emit_unit.specs.Values.{ValuesFit}
 use Rattle.sp_emit_stmt.specs.Literals.{StmtLiteralsFit}
 use Rattle.sp_law_programs.specs.whole_program.Laws.{MembersAreListed, FunctionsAreEntered, CurrentsAreListed}

@@ -7,7 +7,7 @@ use Rattle.sp_bodies.specs.Globals.{Layout, globals_of}
 use Rattle.sp_code.specs.Machine.{Plain}
 use Rattle.sp_code.specs.Shapes.{Round, Shapes}
 use Rattle.sp_law_code.specs.bodies.Fits.{StmtFits}
-use Rattle.sp_law_programs.specs.bodies_end.Built.{StmtIsBuilt}
+use Rattle.sp_law_programs.specs.finished_bodies.Built.{StmtIsBuilt}
 use Rattle.sp_emit_stmt.specs.Literals.{StmtLiteralsFit}
 use Rattle.sp_law_programs.specs.program_laid.Arguments.{StmtArgumentsMatch}
 use Rattle.sp_law_programs.specs.program_laid.Places.{StmtChangesPlaces}

@@ -16,7 +16,7 @@ use Rattle.sp_code.specs.Machine.{Plain}
 use Rattle.sp_code.specs.Shapes.{UnitKinds, Shapes, OfFunction, IsMember, Enters}
 use Rattle.sp_code_programs.specs.programs.Routines.{parameter_kinds}
 use Rattle.sp_law_code.specs.exprs.Parts as expressions
-use Rattle.sp_law_programs.specs.bodies_end.Built.{ExprIsBuilt, AllAreBuilt, PlaceIsBuilt}
+use Rattle.sp_law_programs.specs.finished_bodies.Built.{ExprIsBuilt, AllAreBuilt, PlaceIsBuilt}
 use Rattle.sp_emit_expr.specs.Literals.{LiteralsFit, AllLiteralsFit, PlaceFits}
 use Rattle.sp_law_programs.specs.program_laid.Arguments.{ArgumentsMatch, AllArgumentsMatch}
 use Rattle.sp_law_programs.specs.program_laid.Places.{IsPlace, ChangesPlaces, AllChangePlaces}

@@ -6,8 +6,8 @@ use Rattle.sp_typed_units.specs.declared.declarations.Hook.{Hook}
 use Rattle.sp_typed_units.specs.declared.declarations.Typed.{Typed}
 use Rattle.sp_typed_units.specs.declared.declarations.Unit.{Unit as TypedUnit}
 use Rattle.sp_bodies.specs.Globals.{globals_of}
-use Rattle.sp_law_programs.specs.bodies_end.Built.{StmtIsBuilt}
-use Rattle.sp_law_programs.specs.units_end.Built.{UnitIsBuilt}
+use Rattle.sp_law_programs.specs.finished_bodies.Built.{StmtIsBuilt}
+use Rattle.sp_law_programs.specs.finished_units.Built.{UnitIsBuilt}
 use Rattle.sp_emit_stmt.specs.Literals.{StmtLiteralsFit}
 use Rattle.sp_emit_unit.specs.Values.{ValuesFit}
 use Rattle.sp_law_programs.specs.whole_program.Fits.{AlwaysFits}

@@ -9,10 +9,10 @@ use Rattle.sp_unbuilt.specs.Unbuilt.{Texts, first_unbuilt}
 use Rattle.sp_typed_list.specs.Settled.{Answers}
 use Rattle.sp_typed_list.specs.Lists.{typed_of}
 use Rattle.sp_bodies.specs.Globals.{globals_of}
-use Rattle.sp_law_programs.specs.bodies_end.Built.{StmtIsBuilt}
+use Rattle.sp_law_programs.specs.finished_bodies.Built.{StmtIsBuilt}
 use Rattle.sp_emit_stmt.specs.Literals.{StmtLiteralsFit}
 use Rattle.sp_emit_unit.specs.Values.{ValuesFit}
-use Rattle.sp_law_programs.specs.units_end.Built.{UnitIsBuilt}
+use Rattle.sp_law_programs.specs.finished_units.Built.{UnitIsBuilt}
 use Rattle.sp_list_laws.specs.unbroken_list.Given.{AreFormed, IsUnbroken}
 use Rattle.sp_list_laws.specs.fit_expr.Passes.{ConstantsFit}
 use Rattle.sp_list_laws.specs.fit_list.Passes.{Bodies, ListPasses}

@@ -1,5 +1,0 @@
-use Rattle.sp_law_programs.proofs.bodies_end_lemmas.SameCalls.{more_fuel_is_the_same}
-use Rattle.sp_law_programs.proofs.bodies_end.more_fuel_is_the_same.Goals as goal
-
-pub returns : goal.returns
-returns c = more_fuel_is_the_same

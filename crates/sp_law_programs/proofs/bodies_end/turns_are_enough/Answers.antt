@@ -1,5 +1,0 @@
-use Rattle.sp_law_programs.proofs.bodies_end_lemmas.SameCalls.{turns_are_enough}
-use Rattle.sp_law_programs.proofs.bodies_end.turns_are_enough.Goals as goal
-
-pub returns : goal.returns
-returns c = turns_are_enough

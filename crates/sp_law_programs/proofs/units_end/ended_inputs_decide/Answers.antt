@@ -1,5 +1,0 @@
-use Rattle.sp_law_programs.proofs.units_end_lemmas.Meanings.{ended_inputs_decide}
-use Rattle.sp_law_programs.proofs.units_end.ended_inputs_decide.Goals as goal
-
-pub returns : goal.returns
-returns c = ended_inputs_decide
