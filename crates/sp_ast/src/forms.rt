@@ -129,7 +129,7 @@ pub enum ExprForm {
 }
 
 /// What a type can be.
-#[derive(Clone, Copy, Debug, PartialEq, Eq)]
+#[derive(Clone, Copy, PartialEq, Eq)]
 pub enum TypeForm {
     /// `T`, `M::T`: the path.
     Path,
@@ -160,7 +160,7 @@ pub enum TypeForm {
 }
 
 /// What a statement can be.
-#[derive(Clone, Copy, Debug, PartialEq, Eq)]
+#[derive(Clone, Copy, PartialEq, Eq)]
 pub enum StmtForm {
     /// A block.
     Block,
@@ -203,7 +203,7 @@ pub enum StmtForm {
 }
 
 /// What an item of a unit can be.
-#[derive(Clone, Copy, Debug, PartialEq, Eq)]
+#[derive(Clone, Copy, PartialEq, Eq)]
 pub enum ItemForm {
     /// `%filter;`
     Filter,
@@ -233,7 +233,7 @@ pub enum TargetForm {
 }
 
 /// What a part of a unit can be.
-#[derive(Clone, Copy, Debug, PartialEq, Eq)]
+#[derive(Clone, Copy, PartialEq, Eq)]
 pub enum PartForm {
     /// A field.
     Field,
@@ -242,7 +242,7 @@ pub enum PartForm {
 }
 
 /// When an arm can be taken.
-#[derive(Clone, Copy, Debug, PartialEq, Eq)]
+#[derive(Clone, Copy, PartialEq, Eq)]
 pub enum GuardForm {
     /// `*`: where no other arm is.
     Otherwise,
@@ -253,7 +253,7 @@ pub enum GuardForm {
 }
 
 /// What an arm can read.
-#[derive(Clone, Copy, Debug, PartialEq, Eq)]
+#[derive(Clone, Copy, PartialEq, Eq)]
 pub enum BodyForm {
     /// `;`
     Nothing,
@@ -281,7 +281,7 @@ pub enum BaseForm {
 }
 
 /// What a declaration can be, with whether `public` stands before it.
-#[derive(Clone, Copy, Debug, PartialEq, Eq)]
+#[derive(Clone, Copy, PartialEq, Eq)]
 pub enum DeclForm {
     /// `import M;`: the name.
     Import,

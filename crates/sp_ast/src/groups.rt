@@ -7,7 +7,7 @@ use crate::forms::Form;
 use crate::lent::{Level, Parts, TreeRef};
 
 /// Trees that can stand in one another's place.
-#[derive(Clone, Copy, Debug, PartialEq, Eq)]
+#[derive(Clone, Copy, PartialEq, Eq)]
 pub enum Group {
     Names,
     Strings,
@@ -42,7 +42,7 @@ pub enum Group {
 }
 
 /// What may stand for a part.
-#[derive(Clone, Copy, Debug, PartialEq, Eq)]
+#[derive(Clone, Copy, PartialEq, Eq)]
 pub enum Sort {
     /// A tree of the group.
     One(Group),
@@ -53,7 +53,7 @@ pub enum Sort {
 }
 
 /// Parts of a tree that is built.
-#[derive(Clone, Copy, Debug, PartialEq, Eq)]
+#[derive(Clone, Copy, PartialEq, Eq)]
 pub enum Slot {
     /// One part.
     Part(Sort),
@@ -65,38 +65,7 @@ impl Group {
     fn number(self) -> u8
         ensures { result ≡ group_number self }
     {
-        match self {
-            Group::Names => 0,
-            Group::Strings => 1,
-            Group::Numbers => 2,
-            Group::HookNames => 3,
-            Group::Paths => 4,
-            Group::Expressions => 5,
-            Group::Pairs => 6,
-            Group::Types => 7,
-            Group::Labels => 8,
-            Group::Ranges => 9,
-            Group::Parameters => 10,
-            Group::Statements => 11,
-            Group::Blocks => 12,
-            Group::Branches => 13,
-            Group::Cases => 14,
-            Group::Items => 15,
-            Group::Targets => 16,
-            Group::Parts => 17,
-            Group::Arms => 18,
-            Group::Guards => 19,
-            Group::Bodies => 20,
-            Group::Bases => 21,
-            Group::Counts => 22,
-            Group::Attributes => 23,
-            Group::Hooks => 24,
-            Group::HookBodies => 25,
-            Group::Units => 26,
-            Group::Fields => 27,
-            Group::Declarations => 28,
-            Group::Modules => 29,
-        }
+        self as u8
     }
 
     fn is(self, other: Group) -> bool

@@ -10,7 +10,7 @@ use sp_ast::{Group, Level, Slot, Sort, TreeRef, is_node};
 use sp_base::Span;
 
 /// Which trees are found.
-#[derive(Clone, Copy, Debug, PartialEq, Eq)]
+#[derive(Clone, Copy, PartialEq, Eq)]
 pub(crate) enum Wanted {
     /// Those of a group.
     Of(Group),

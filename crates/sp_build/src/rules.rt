@@ -31,7 +31,7 @@ pub(crate) enum Leaf {
 }
 
 /// What is built by the integer type at which it began.
-#[derive(Clone, Copy, Debug, PartialEq, Eq)]
+#[derive(Clone, Copy, PartialEq, Eq)]
 pub(crate) enum Worded {
     TypedNumber,
     NumberBase,

@@ -13,7 +13,7 @@ use std::alloc::Global;
 use std::marker::Model;
 
 /// Where a tree began.
-#[derive(Clone, Copy, Debug, PartialEq, Eq)]
+#[derive(Clone, Copy, PartialEq, Eq)]
 pub(crate) struct Begin {
     /// How many tokens stand before it.
     token: u32,

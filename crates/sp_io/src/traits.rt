@@ -36,7 +36,7 @@ pub enum OutFault {
 }
 
 /// Whether a take gave bytes, or found the end.
-#[derive(Clone, Copy, Debug, PartialEq, Eq)]
+#[derive(Clone, Copy, PartialEq, Eq)]
 pub enum Took {
     Some,
     End,

@@ -13,7 +13,7 @@ use crate::signs::{is_letter, is_white, longest_sign, word_kind};
 use sp_words::Punctuation;
 
 /// What stands at a place, with its number of bytes.
-#[derive(Clone, Copy, Debug, PartialEq, Eq)]
+#[derive(Clone, Copy, PartialEq, Eq)]
 pub(crate) enum Element {
     /// White space or a comment.
     Blank(usize),
@@ -23,7 +23,7 @@ pub(crate) enum Element {
 }
 
 /// What a first byte can begin.
-#[derive(Clone, Copy, Debug, PartialEq, Eq)]
+#[derive(Clone, Copy, PartialEq, Eq)]
 pub(crate) enum Start {
     Space,
     Comment,

@@ -5,7 +5,7 @@ ghost use Rattle.sp_lex.specs.Spellings.{absent_text, spelling};
 use sp_words::{AttributeName, HookName, IntWord, Keyword, Property, Punctuation};
 
 /// A word of the language that this profile leaves out: a reserved word, an attribute, a property or a hook.
-#[derive(Clone, Copy, Debug, PartialEq, Eq)]
+#[derive(Clone, Copy, PartialEq, Eq)]
 pub enum Absent {
     /// `global`
     Global,
@@ -60,36 +60,39 @@ impl Absent {
     pub fn text(self) -> &'static str
         ensures { result.now ≡ absent_text self }
     {
-        match self {
-            Absent::Global => "global",
-            Absent::Struct => "struct",
-            Absent::Optional => "optional",
-            Absent::Result => "result",
-            Absent::Real => "real",
-            Absent::Time => "time",
-            Absent::Interval => "interval",
-            Absent::Addr => "addr",
-            Absent::Port => "port",
-            Absent::Network => "network",
-            Absent::Iterator => "iterator",
-            Absent::Stream => "stream",
-            Absent::Skip => "skip",
-            Absent::Try => "try",
-            Absent::Catch => "catch",
-            Absent::Unset => "unset",
-            Absent::ChunkedAttribute => "&chunked",
-            Absent::PortProperty => "%port",
-            Absent::ContextProperty => "%context",
-            Absent::SynchronizeAtProperty => "%synchronize-at",
-            Absent::SynchronizeAfterProperty => "%synchronize-after",
-            Absent::CxxIncludeProperty => "%cxx-include",
-            Absent::SyncAdvanceHook => "%sync_advance",
-        }
+        ABSENT_TEXTS[self as usize]
     }
 }
 
+/// How the words out of profile are written, in their order.
+const ABSENT_TEXTS: [&str; 23] = [
+    "global",
+    "struct",
+    "optional",
+    "result",
+    "real",
+    "time",
+    "interval",
+    "addr",
+    "port",
+    "network",
+    "iterator",
+    "stream",
+    "skip",
+    "try",
+    "catch",
+    "unset",
+    "&chunked",
+    "%port",
+    "%context",
+    "%synchronize-at",
+    "%synchronize-after",
+    "%cxx-include",
+    "%sync_advance",
+];
+
 /// The kind of a token. What a name, a number, a literal or a regular expression holds is in its slice of the text.
-#[derive(Clone, Copy, Debug, PartialEq, Eq)]
+#[derive(Clone, Copy, PartialEq, Eq)]
 pub enum TokenKind {
     /// A name that is no reserved word.
     Id,

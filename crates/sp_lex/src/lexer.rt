@@ -19,7 +19,7 @@ use std::alloc::Global;
 const MOST_BYTES: usize = 1_048_576;
 
 /// What is wrong, and where.
-#[derive(Clone, Copy, Debug, PartialEq, Eq)]
+#[derive(Clone, Copy, PartialEq, Eq)]
 struct Fault {
     span: Span,
     kind: MKind,

@@ -6,7 +6,7 @@ ghost use Rattle.sp_lex.specs.Bytes.{is_in_line};
 ghost use Rattle.sp_lex.specs.Literals.{closing, opening, is_short_escape, is_hex_escape, is_plain, escape_len, char_len, literal_end, literal_len, is_hex, number_len, digits_value, number_value};
 
 /// The literals between delimiters.
-#[derive(Clone, Copy, Debug, PartialEq, Eq)]
+#[derive(Clone, Copy, PartialEq, Eq)]
 pub(crate) enum Form {
     String,
     Bytes,

@@ -9,7 +9,7 @@ use std::alloc::Global;
 use std::marker::Model;
 
 /// What a token does to the level.
-#[derive(Clone, Copy, Debug, PartialEq, Eq)]
+#[derive(Clone, Copy, PartialEq, Eq)]
 pub(crate) enum Role {
     Plain,
     Counts,
@@ -21,7 +21,7 @@ pub(crate) enum Role {
 }
 
 /// The level at a bracket's beginning, and what was counted in it since its last part ended.
-#[derive(Clone, Copy, Debug, PartialEq, Eq)]
+#[derive(Clone, Copy, PartialEq, Eq)]
 pub(crate) struct Bracket {
     pub(crate) base: u32,
     pub(crate) count: u32,

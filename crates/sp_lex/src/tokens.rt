@@ -9,7 +9,7 @@ use std::marker::Model;
 use thiserror::Error;
 
 /// A token: its kind, and the slice of the text that it is.
-#[derive(Clone, Copy, Debug, PartialEq, Eq)]
+#[derive(Clone, Copy, PartialEq, Eq)]
 pub struct Token {
     pub kind: TokenKind,
     pub span: Span,

@@ -7,7 +7,7 @@ use base64::engine::general_purpose::STANDARD;
 use sp_base::PKind;
 
 /// The bytes that a group stands for: the first `used` of `bytes`, 1 to 3; those behind them are 0.
-#[derive(Clone, Copy, Debug, PartialEq, Eq)]
+#[derive(Clone, Copy, PartialEq, Eq)]
 pub struct Decoded {
     pub bytes: [u8; 3],
     pub used: u8,

@@ -1,7 +1,7 @@
 // What the bytes so far tell of a token set.
 
 /// What the bytes so far tell of a token set.
-#[derive(Clone, Copy, Debug, PartialEq, Eq)]
+#[derive(Clone, Copy, PartialEq, Eq)]
 pub enum Verdict {
     /// More bytes may make a longer match.
     Need,

@@ -34,7 +34,7 @@ pub enum Note {
 }
 
 /// Why a call is refused.
-#[derive(Clone, Copy, Debug, PartialEq, Eq)]
+#[derive(Clone, Copy, PartialEq, Eq)]
 pub enum ReasmFault {
     /// A run error. The call changes nothing.
     Run(PKind),

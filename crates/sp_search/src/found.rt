@@ -1,7 +1,7 @@
 // What a search tells.
 
 /// What a search tells.
-#[derive(Clone, Copy, Debug, PartialEq, Eq)]
+#[derive(Clone, Copy, PartialEq, Eq)]
 pub enum Found {
     /// The least place at which a token begins.
     At(u64),

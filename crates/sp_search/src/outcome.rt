@@ -1,7 +1,7 @@
 // What the bytes from one place on tell of it.
 
 /// What the bytes from one place on tell of it.
-#[derive(Clone, Copy, Debug, PartialEq, Eq)]
+#[derive(Clone, Copy, PartialEq, Eq)]
 pub enum Outcome {
     /// Some of them, from the front, are a token.
     Begins,

@@ -3,7 +3,7 @@ use Rattle.sp_types.specs.Types.{word}
 use Rattle.sp_types.specs.declared.words.Word.TheVariants as word_is
 use Rattle.sp_typed.specs.declared.words.ManyOp.TheVariants as many_is
 use Rattle.sp_typed.specs.declared.words.NewOf.TheVariants as new_is
-use Rattle.sp_typing.proofs.Lists.{each_step}
+use Rattle.sp_typing_exprs.proofs.Lists.{each_step}
 use Rattle.sp_typing_units.proofs.readings.arguments.Goals as goal
 
 pub loop-e-preserved : goal.loop-e-preserved
