@@ -382,7 +382,11 @@ static NAMES: [&str; %d] = [
 /// The name of the action with a number in the table, empty if there is none.
 pub fn action_name(number: u8) -> &'static str {
     let place = number as usize;
-    if place < NAMES.len() { NAMES[place] } else { "" }
+    if place < NAMES.len() {
+        NAMES[place]
+    } else {
+        ""
+    }
 }
 """
 
