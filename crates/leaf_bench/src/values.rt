@@ -107,43 +107,103 @@ fn deleted(alloc: Global) -> Result<usize, NoMemory> {
     Ok(size_of(map))
 }
 
-/// Appends an item to the vector that a map has at a key, in place.
-fn append_at(map: &mut Value, key: &Value, item: Value) -> Result<(), NoMemory>
-    requires { IsMap map.old }
-    ensures { IsMap map.new }
-{
-    let mut inner = Value::void();
-    map.swap_value(key, &mut inner)?;
-    if let Level::Vector(_) = inner.level() {
-        inner.push_back(item)?;
+/// Swaps a value with the one that a map has at a key.
+fn swap_at(map: &mut Value, key: &Value, inner: &mut Value) -> Result<(), NoMemory> {
+    match map.level() {
+        Level::Map(_) => {}
+        _ => return Ok(()),
     }
-    map.swap_value(key, &mut inner)?;
+    map.swap_value(key, inner)?;
+    Ok(())
+}
+
+/// Appends an item to a vector.
+fn append_to(vector: &mut Value, item: Value) -> Result<(), NoMemory> {
+    match vector.level() {
+        Level::Vector(_) => {}
+        _ => {
+            drop(item);
+            return Ok(());
+        }
+    }
+    vector.push_back(item)
+}
+
+/// Appends an item to the vector that a map has at a key, in place.
+fn append_at(map: &mut Value, key: &Value, item: Value) -> Result<(), NoMemory> {
+    let mut inner = Value::void();
+    or_drop!(swap_at(map, key, &mut inner); inner, item);
+    let appended = append_to(&mut inner, item);
+    let swapped = swap_at(map, key, &mut inner);
+    drop(inner);
+    appended?;
+    swapped
+}
+
+/// A map that has an empty vector at a key.
+fn with_vector(alloc: Global, key: &Value) -> Result<Value, NoMemory> {
+    let mut map = Value::map(Vec::new(alloc))?;
+    let key = or_drop!(key.copy(); map);
+    let vector = or_drop!(Value::vector(Vec::new(alloc)); map, key);
+    or_drop!(map.insert(key, vector); map);
+    Ok(map)
+}
+
+/// The size of the vector that a map has at a key.
+fn size_at(map: &Value, key: &Value) -> usize {
+    match map.level() {
+        Level::Map(_) => {}
+        _ => return 0,
+    }
+    map.get(key).and_then(|inner| inner.size()).unwrap_or(0)
+}
+
+/// Appends `COUNT` items to the vector that a map has at a key.
+fn append_all(map: &mut Value, key: &Value) -> Result<(), NoMemory> {
+    for n in 0..COUNT {
+        append_at(map, key, Value::uint(Width::W64, n))?;
+    }
     Ok(())
 }
 
 /// The size of a vector to which `COUNT` items were appended where a map has it.
 fn deep(alloc: Global) -> Result<usize, NoMemory> {
     let key = Value::uint(Width::W64, 7);
-    let mut map = Value::map(Vec::new(alloc))?;
-    map.insert(key.copy()?, Value::vector(Vec::new(alloc))?)?;
-    for n in 0..COUNT {
-        append_at(&mut map, &key, Value::uint(Width::W64, n))?;
-    }
-    Ok(map.get(&key).and_then(|inner| inner.size()).unwrap_or(0))
+    let mut map = or_drop!(with_vector(alloc, &key); key);
+    let appended = append_all(&mut map, &key);
+    let size = size_at(&map, &key);
+    drop(map);
+    drop(key);
+    appended?;
+    Ok(size)
 }
 
-/// The number of items of a copy of `COUNT` items, the first of which was swapped out.
-fn copied(alloc: Global) -> Result<usize, NoMemory> {
-    let vector = filled(alloc, COUNT)?;
+/// The size of a vector that has the items of another, the first of which was swapped out.
+fn copied_from(alloc: Global, vector: &Value) -> Result<usize, NoMemory> {
     let items = match vector.level() {
         Level::Vector(items) => copy_all(alloc, items)?,
         _ => Vec::new(alloc),
     };
     let mut copy = Value::vector(items)?;
-    if copy.size() != Some(0) {
-        copy.swap_item(0, &mut Value::void())?;
-    }
-    Ok(copy.size().unwrap_or(0))
+    let mut first = Value::void();
+    let swapped = if copy.size() != Some(0) {
+        copy.swap_item(0, &mut first)
+    } else {
+        Ok(())
+    };
+    let size = copy.size().unwrap_or(0);
+    drop(copy);
+    drop(first);
+    swapped?;
+    Ok(size)
+}
+
+/// The number of items of a copy of `COUNT` items, the first of which was swapped out.
+fn copied(alloc: Global) -> Result<usize, NoMemory> {
+    let vector = filled(alloc, COUNT)?;
+    let size = copied_from(alloc, &vector);
+    drop(vector);
+    size
 }
 
 fn run(alloc: Global, word: &str) -> Result<usize, NoMemory> {

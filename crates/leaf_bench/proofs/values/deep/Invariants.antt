@@ -1,5 +1,0 @@
-use Rattle.sp_value.specs.Changes.{IsMap}
-use Rattle.leaf_bench.proofs.values.deep.Given as goal
-
-abbrev pub invariant-loop-n : goal.invariant-loop-n
-invariant-loop-n l = IsMap l.map
