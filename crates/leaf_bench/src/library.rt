@@ -4,6 +4,7 @@ ghost use Rattle.std.specs.Prelude.{IfOk, IsTrue};
 ghost use Rattle.sp_value.specs.Changes.{IsVector, IsMap};
 
 use crate::token_sets::{put, text_of};
+use crate::values::is_vector;
 use sp_base::{NoMemory, or_drop};
 use sp_lib::{
     back, decode, encode, front, get, lower, pop_back, push_back, split, split1, starts_with, sub,
@@ -11,7 +12,7 @@ use sp_lib::{
 };
 use sp_numbers::Width;
 use sp_operators::ValueFault;
-use sp_value::{Level, Value};
+use sp_value::Value;
 use std::alloc::{AllocError, Global};
 
 /// How often a method is called on bytes.
@@ -124,9 +125,8 @@ fn filled(alloc: Global, count: u64) -> Result<Value, NoMemory>
 
 /// The number of the last item of a vector, which is taken away; 0 where there is none.
 fn last_number(vector: &mut Value) -> u64 {
-    match vector.level() {
-        Level::Vector(_) => {}
-        _ => return 0,
+    if !is_vector(vector) {
+        return 0;
     }
     match pop_back(vector) {
         Ok(item) => {
@@ -162,7 +162,7 @@ fn number_of(item: Result<Value, ValueFault>) -> u64 {
 
 /// The sum of the first and the last number of a vector.
 fn two_numbers(vector: &Value) -> u64 {
-    if let Level::Vector(_) = vector.level() {
+    if is_vector(vector) {
         number_of(front(vector)).wrapping_add(number_of(back(vector)))
     } else {
         0

@@ -1,5 +1,5 @@
 //! Values that are changed in place, and questions for sizes: each line says which.
-ghost use Rattle.std.specs.Prelude.{IfOk};
+ghost use Rattle.std.specs.Prelude.{IfOk, IsTrue};
 ghost use Rattle.sp_value.specs.Changes.{IsVector, IsMap};
 
 use crate::token_sets::{put, text_of};
@@ -107,24 +107,39 @@ fn deleted(alloc: Global) -> Result<usize, NoMemory> {
     Ok(size_of(map))
 }
 
+/// Whether a value is a vector.
+pub fn is_vector(v: &Value) -> bool
+    ensures { IsTrue result → IsVector v.now }
+{
+    match v.level() {
+        Level::Vector(_) => true,
+        _ => false,
+    }
+}
+
+/// Whether a value is a map.
+fn is_map(v: &Value) -> bool
+    ensures { IsTrue result → IsMap v.now }
+{
+    match v.level() {
+        Level::Map(_) => true,
+        _ => false,
+    }
+}
+
 /// Swaps a value with the one that a map has at a key.
 fn swap_at(map: &mut Value, key: &Value, inner: &mut Value) -> Result<(), NoMemory> {
-    match map.level() {
-        Level::Map(_) => {}
-        _ => return Ok(()),
+    if is_map(map) {
+        map.swap_value(key, inner)?;
     }
-    map.swap_value(key, inner)?;
     Ok(())
 }
 
 /// Appends an item to a vector.
 fn append_to(vector: &mut Value, item: Value) -> Result<(), NoMemory> {
-    match vector.level() {
-        Level::Vector(_) => {}
-        _ => {
-            drop(item);
-            return Ok(());
-        }
+    if !is_vector(vector) {
+        drop(item);
+        return Ok(());
     }
     vector.push_back(item)
 }
@@ -151,11 +166,11 @@ fn with_vector(alloc: Global, key: &Value) -> Result<Value, NoMemory> {
 
 /// The size of the vector that a map has at a key.
 fn size_at(map: &Value, key: &Value) -> usize {
-    match map.level() {
-        Level::Map(_) => {}
-        _ => return 0,
+    if is_map(map) {
+        map.get(key).and_then(|inner| inner.size()).unwrap_or(0)
+    } else {
+        0
     }
-    map.get(key).and_then(|inner| inner.size()).unwrap_or(0)
 }
 
 /// Appends `COUNT` items to the vector that a map has at a key.
