@@ -10,7 +10,7 @@ ghost use Rattle.sp_types.specs.declared.words.Word.TheVariants as word_is;
 ghost use Rattle.sp_typed.specs.declared.words.LeafOp.TheVariants as leaf_is;
 ghost use Rattle.sp_typed.specs.declared.words.LeafOp.TheVariants.{Empty};
 ghost use Rattle.sp_typed.specs.declared.words.OneOp.TheVariants.{Cast};
-ghost use Rattle.sp_typing.specs.Typing.{typed, typed_all, pairs_typed, is_member, leaf_at, one_at, made_of, both_written, cast_type, led, row_at, choice_at, binary_at, indexed, new_at};
+ghost use Rattle.sp_typing.specs.Typing.{typed, typed_all, pairs_typed, is_member, leaf_at, one_at, made_of, both_written, cast_type, led, row_at, choice_at, new_at};
 
 use crate::calls::{call_at, indexed, method_at, new_at};
 use crate::nodes::{
