@@ -28,7 +28,7 @@ abbrev pub decreases-call_typed : goal.decreases-call_typed
 decreases-call_typed g l = 3 * (tree_size l.callee.now + trees_size (trees l.arguments.now)) + 4
 
 abbrev pub decreases-choice_typed : goal.decreases-choice_typed
-decreases-choice_typed g l = 3 * (tree_size l.condition.now + (tree_size l.if_true.now + tree_size l.if_false.now)) + 3
+decreases-choice_typed g l = 3 * (tree_size l.condition.now + (tree_size l.if_true.now + tree_size l.if_false.now)) + 4
 
 abbrev pub decreases-both_typed : goal.decreases-both_typed
 decreases-both_typed g l = 3 * (tree_size l.first.now + tree_size l.second.now) + 3
