@@ -1,5 +1,5 @@
 // What passes the test of what fits.
-ghost use Rattle.sp_list_laws.specs.passing_list.Laws.{ListsAreBuilt, BodiesPassFunctions, BodiesPassHooks, BodiesAreBuiltBuilt, BodiesAreBuiltLiterals, UnitsAreBuiltBuilt, UnitsAreBuiltValues, ConstantsFit, ListsPass};
+ghost use Rattle.sp_list_laws.specs.passing_list.Laws.{ListsAreBuilt, BodiesPassFunctions, BodiesPassHooks, BodiesAreBuiltBuilt, BodiesAreBuiltLiterals, UnitsAreBuiltBuilt, UnitsAreBuiltValues, EachConstantFits, ListsPass};
 
 use sp_stored_types::none_is_passed_over;
 
@@ -37,7 +37,7 @@ pub fn units_are_built()
 
 /// The constants of a list in which no rule is broken that have a value have one of the kind of their type.
 pub fn constants_fit()
-    ensures { ConstantsFit }
+    ensures { EachConstantFits }
 {}
 
 /// Such a list passes, where the fields of each unit stand at places of their own, so that each body of a hook hangs on one field alone or

@@ -72,8 +72,8 @@ UnitsAreBuiltValues =
     → ValuesFit x.variables
 
 -- The constants of a list in which no rule is broken that have a value have one of the kind of their type.
-abbrev pub ConstantsFit : Type 0
-ConstantsFit =
+abbrev pub EachConstantFits : Type 0
+EachConstantFits =
     (list : List Tree) (a : Answers list) → AreFormed list → IsUnbroken list
     → ConstantsFit (typed_of list a)
 
