@@ -11,7 +11,7 @@ ghost use Rattle.sp_ast.specs.Levels.{level_tree};
 use crate::forms::Form;
 use crate::heads::{Head, Heads};
 use crate::lent::{Level, Parts};
-use sp_base::{NoMemory, Span};
+use sp_base::{NoMemory, Span, or_drop};
 use std::alloc::Global;
 use std::marker::Model;
 
@@ -126,15 +126,18 @@ impl Arena {
     {
         let at = self.count();
         let Ok(from) = u32::try_from(self.places.len()) else {
+            drop(head);
             return Err(NoMemory);
         };
         let Ok(count) = u32::try_from(parts.len()) else {
+            drop(head);
             return Err(NoMemory);
         };
         if at >= NO_PARTS {
+            drop(head);
             return Err(NoMemory);
         }
-        self.places.extend_from_slice(parts)?;
+        or_drop!(self.places.extend_from_slice(parts); head);
         let head = self.heads.keep(head)?;
         self.entries.push(Entry {
             head,
