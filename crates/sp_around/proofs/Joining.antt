@@ -9,7 +9,8 @@ use Rattle.sp_around.specs.declared.members.MemberTable.{MemberTable}
 use Rattle.sp_ast.specs.Trees.{Tree, trees}
 use Rattle.std.proofs.lemmas.Slice.Eq.{bytes_eq-Decides}
 use Rattle.sp_around.specs.Members.{UnitMember, is_called, firsts, numbered, kinds_of, named_in, named_among}
-use Rattle.sp_around.specs.inside.Kept.{joined, all_joined, IsKept, Joins, LeadsOn, told_by}
+use Rattle.sp_around.specs.inside.Kept.{joined, all_joined, IsKept, Joins, LeadsOn}
+use Rattle.sp_name_tables.specs.Tables.{told_by}
 
 pub bytes_decide : (x y : List ℕ) → bytes_eq x y ≡ true → x ≡ y
 bytes_decide x y e = (bytes_eq-Decides x y).0 e

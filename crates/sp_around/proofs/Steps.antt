@@ -22,7 +22,8 @@ use Rattle.sp_around.specs.declared.tables.BitTable.{BitTable}
 use Rattle.sp_around.specs.Members.{unit_in, members_of, declared_unit, unit_declaration, unit_members, first_member, range_name, bitfield_ranges, bitfield_width, tree_of}
 use Rattle.sp_around.specs.Heads.{parameter_tree, parameter_types, types_of_unit, types_of_function, type_or_void, unit_parameters, result_of, function_declaration}
 use Rattle.sp_around.specs.Arounds.{width_type}
-use Rattle.sp_around.specs.inside.Kept.{IsKept, told_by}
+use Rattle.sp_around.specs.inside.Kept.{IsKept}
+use Rattle.sp_name_tables.specs.Tables.{told_by}
 use Rattle.sp_around.specs.inside.Tables.{IsUnit, IsFunction, IsBits}
 use Rattle.sp_around.proofs.Joining.{length_kinds}
 

@@ -19,7 +19,8 @@ use Rattle.sp_around.specs.declared.tables.BitTable.{BitTable}
 use Rattle.sp_around.specs.Members.{UnitMember, unit_members, members_of, declared_unit, numbered, range_name, range_number, bitfield_ranges, bitfield_width, bitfield_tree, tree_of}
 use Rattle.sp_around.specs.Heads.{unit_takes, function_takes, function_gives, types_of_unit, types_of_function, result_of}
 use Rattle.sp_around.specs.Arounds.{stored_by, unit_member, bit_member, width_type}
-use Rattle.sp_around.specs.inside.Kept.{IsKept, told_by}
+use Rattle.sp_around.specs.inside.Kept.{IsKept}
+use Rattle.sp_name_tables.specs.Tables.{told_by}
 use Rattle.sp_around.specs.inside.Tables.{IsUnit, IsFunction, IsBits, from_first}
 
 pub unit_some : (list : List Tree) (known : List (Option Ty)) (value : List Tree × List (Option Ty)) (units : List UnitTable) (n : ℕ) (table : UnitTable) (stored : ℕ → Option Ty) (x : List ℕ) (m : Option Member)

@@ -15,9 +15,9 @@ use sp_ast::{PathKind, Ref, TypeKind};
 use sp_base::{NoMemory, Span};
 use sp_method_types::{fill_method, method_of, method_takes, sink_method_takes, unit_method_takes};
 use sp_names::{DeclSort, Meaning};
-use sp_typed::{Expr, Leaf, LeafOp, ManyOp, NewOf, Standing, Written};
+use sp_typed::{Expr, LeafOp, ManyOp, NewOf, Standing, Written};
 use sp_types::{Level, Type, Word};
-use sp_typing::{Callable, Context, Member};
+use sp_typing::{Callable, Context, Member, leaf_at};
 use std::alloc::Global;
 
 /// What tells the types of constants, and the numbers of constant expressions.
@@ -44,12 +44,6 @@ pub struct Here<'a, K> {
     pub constants: &'a K,
     /// The number of the module.
     pub owner: u32,
-}
-
-fn leaf_at(span: Span, ty: Type, op: LeafOp) -> Expr
-    ensures { result ≡ leaf_at span ty op }
-{
-    Expr::leaf(Leaf { span, ty, op })
 }
 
 /// What is no value.

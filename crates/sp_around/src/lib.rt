@@ -3,12 +3,13 @@
 
 mod here;
 mod members;
-mod names;
 mod sources;
 mod tables;
+mod taken;
 mod written;
 
 pub use here::{Constants, Here};
 pub use sources::{Question, Source};
-pub use tables::Tables;
+pub use tables::{Tables, declaration_at, unit_in};
+pub use taken::differ;
 pub use written::{Place, misplaced_in, name_span, unnamed_in, written_in};

@@ -4,12 +4,12 @@ ghost use Rattle.sp_ast.specs.Trees.{trees};
 ghost use Rattle.sp_around.specs.Members.{named_in, named_among, field_member, members_of};
 ghost use Rattle.sp_around.specs.inside.Kept.{IsKept, Joins};
 
-use crate::names::{NameTable, declare, look_up, number};
 use sp_ast::{
     ArmKind, BodyKind, BodyView, FieldKind, ItemKind, ItemView, Members, PartKind, PartView, Ref,
     UnitKind,
 };
 use sp_base::NoMemory;
+use sp_name_tables::{NameTable, declare, look_up, number};
 use sp_typed_units::MemberKind;
 use std::alloc::Global;
 

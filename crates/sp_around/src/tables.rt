@@ -11,15 +11,16 @@ ghost use Rattle.sp_names.specs.Types.{bitfields, unknown, or_unknown};
 ghost use Rattle.sp_around.specs.Members.{UnitMember, unit_in, unit_members, members_of, numbered, first_member, range_name, range_number, bitfield_tree, bitfield_ranges, bitfield_width};
 ghost use Rattle.sp_around.specs.Heads.{parameter_types, types_of_unit, types_of_function, result_of, type_or_void, unit_takes, function_takes, function_gives};
 ghost use Rattle.sp_around.specs.Arounds.{width_type, stored_by, kind_type, kind_member, unit_member, bit_member};
-ghost use Rattle.sp_around.specs.inside.Kept.{IsKept, told_by};
+ghost use Rattle.sp_around.specs.inside.Kept.{IsKept};
+ghost use Rattle.sp_name_tables.specs.Tables.{told_by};
 ghost use Rattle.sp_around.specs.inside.Tables.{IsUnit, IsFunction, IsBits, from_first};
 
 use crate::members::{MemberTable, member_table, no_members};
-use crate::names::{NameTable, declare, look_up, number, sum};
 use sp_ast::{
     DeclKind, DeclView, Members, ParameterKind, RangeKind, Ref, TypeKind, TypeView, UnitKind,
 };
 use sp_base::{NoMemory, or_drop};
+use sp_name_tables::{NameTable, declare, look_up, number, sum};
 use sp_names::{Declaration, Names};
 use sp_numbers::Width;
 use sp_typed::OneOp;
@@ -80,7 +81,7 @@ fn parameter_types(
 }
 
 /// The declaration whose number stands at a place.
-fn declaration_at<'n, 'a>(
+pub fn declaration_at<'n, 'a>(
     names: &'n Names<'a>,
     numbers: &[u32],
     place: usize,
@@ -104,7 +105,7 @@ fn unit_in_type<'a>(tree: &Ref<'a, TypeKind>) -> Option<Ref<'a, UnitKind>>
 }
 
 /// The unit that a declaration declares.
-fn unit_in<'a>(tree: &Ref<'a, DeclKind>) -> Option<Ref<'a, UnitKind>>
+pub fn unit_in<'a>(tree: &Ref<'a, DeclKind>) -> Option<Ref<'a, UnitKind>>
     ensures some { IfSome result (λ u. unit_in (type_tree_of tree.now) ≡ u) }
     ensures none { IfNone result (unit_in (type_tree_of tree.now) ≡ absent) }
 {

@@ -9,6 +9,11 @@ abbrev pub optional_tree : Option Tree → Tree
 optional_tree None = absent
 optional_tree (Some t) = t
 
+-- a part that may be left out
+abbrev pub present : Tree → Option Tree
+present absent = None
+present t = Some t
+
 -- whether there is a first part, and it may stand there
 abbrev pub first_fits : Sort → List Tree → Bool
 first_fits sort [] = false

@@ -26,7 +26,7 @@ pub use kinds::{
     TargetKind, UnitKind,
 };
 pub use lent::{Level, Parts, TreeRef};
-pub use refs::{Members, Ref};
+pub use refs::{Members, Ref, is_present};
 pub use views::{
     ArmView, AttributeView, BaseView, BodyView, BranchView, CaseView, DeclView, ExprView,
     FieldView, GuardView, HookBodyView, HookView, ItemView, LabelView, ModuleView, PairView,

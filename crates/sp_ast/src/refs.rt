@@ -2,6 +2,7 @@
 ghost use Rattle.std.specs.Prelude.{◌≡◌, ◌==◌, ◌≤◌, ◌<◌, ◌∷◌, [], length, true, IfSome, IfNone};
 ghost use Rattle.std.proofs.Common.{get_or};
 ghost use Rattle.sp_ast.specs.Trees.{absent, span_of, tree, trees};
+ghost use Rattle.sp_ast.specs.Views.{optional_tree, present};
 ghost use Rattle.sp_ast.specs.Groups.{same_group, group, is_of, are_of};
 ghost use Rattle.sp_ast.specs.Heights.{IsLow};
 ghost use Rattle.sp_ast.specs.Slots.{slots, fill, is_formed};
@@ -118,6 +119,16 @@ impl<'a, K: Kind> Ref<'a, K> {
         ensures group { is_of K.group self.now ≡ true }
     {
         self.tree.is_sound();
+    }
+}
+
+/// The part that may be left out is the one that is lent, if it is. It does nothing; a caller's proof has the fact from it.
+pub fn is_present<K: Kind>(part: &Option<Ref<'_, K>>)
+    ensures { present (optional_tree part.now) ≡ part.now }
+{
+    match part {
+        Some(tree) => tree.is_sound(),
+        None => {}
     }
 }
 

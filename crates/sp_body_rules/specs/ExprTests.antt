@@ -27,12 +27,13 @@ use Rattle.sp_typed.specs.declared.words.Written.{Written}
 use Rattle.sp_typed.specs.Exprs.{Expr, Exprs, leaf, one, two, three, many, none, more, type_of, span_of, is_number}
 use Rattle.sp_operands.specs.declared.operators.OperatorSort.{OperatorSort}
 use Rattle.sp_operands.specs.declared.operators.OperatorSort.TheVariants as sort_is
-use Rattle.sp_operands.specs.Operands.{unknown, is_unsigned, is_signed, is_integer, is_enum, sort_of, stands_before, stands_behind, agree, stands_alone, has_size, key_of}
-use Rattle.sp_operands.specs.Literals.{is_over, seen}
+use Rattle.sp_operands.specs.Operands.{unknown, is_unsigned, is_signed, is_integer, is_enum, sort_of, stands_before, stands_behind, agree, stands_alone, has_size, key_of, is_valueless}
+use Rattle.sp_operands.specs.Literals.{is_over, seen, is_past}
 use Rattle.sp_body_rules.specs.declared.facts.Constancy.{Constancy}
 use Rattle.sp_body_rules.specs.declared.facts.Constancy.TheVariants as constancy_is
 use Rattle.sp_body_rules.specs.Known.{Known}
-use Rattle.sp_body_rules.specs.Values.{at, is_valueless, is_new, is_no_value, knows, is_past, value_goes, value_span, value_tests, wrong, right_tests, condition_tests, written_tests}
+use Rattle.sp_body_rules.specs.Values.{is_new, is_no_value, knows, value_goes, value_span, value_tests, wrong, right_tests, condition_tests, written_tests}
+use Rattle.sp_rules.specs.Faults.{at}
 
 abbrev pub is_unmeant : Standing → Bool
 is_unmeant stands.Unmeant = true

@@ -21,8 +21,9 @@ use Rattle.sp_typed.specs.Exprs.{Expr, Exprs, two, none, more, type_of, span_of}
 use Rattle.sp_typed.specs.Stmts.{Stmt, Branches, Cases, bare, valued, assign, print, block, branch, while_loop, for_loop, switch, no_branches, more_branches, no_cases, more_cases}
 use Rattle.sp_operands.specs.declared.operators.OperatorSort.TheVariants as sort_is
 use Rattle.sp_operands.specs.Operands.{is_integer, is_bytes, is_text, stands_before, agree}
-use Rattle.sp_operands.specs.Literals.{seen}
-use Rattle.sp_body_rules.specs.Values.{at, is_void, is_set, is_no_value, knows, is_past, value_span, wrong, right_tests, condition_tests, target_tests, written_tests}
+use Rattle.sp_operands.specs.Literals.{seen, is_past}
+use Rattle.sp_body_rules.specs.Values.{is_void, is_set, is_no_value, knows, value_span, wrong, right_tests, condition_tests, target_tests, written_tests}
+use Rattle.sp_rules.specs.Faults.{at}
 use Rattle.sp_body_rules.specs.Known.{Known}
 use Rattle.sp_body_rules.specs.ExprTests.{may_change}
 

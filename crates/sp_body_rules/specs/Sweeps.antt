@@ -10,7 +10,7 @@ use Rattle.sp_typed.specs.Nodes.{nodes}
 use Rattle.sp_typed.specs.Stmts.{Stmt}
 use Rattle.sp_typed.specs.StmtNodes.{stmt_nodes, stmts_in}
 use Rattle.sp_body_rules.specs.Known.{Known}
-use Rattle.sp_body_rules.specs.Values.{at}
+use Rattle.sp_rules.specs.Faults.{at}
 use Rattle.sp_body_rules.specs.ExprTests.{expr_tests}
 use Rattle.sp_body_rules.specs.StmtTests.{stmt_tests}
 use Rattle.sp_body_rules.specs.Ends.{ends_well}

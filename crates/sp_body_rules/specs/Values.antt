@@ -1,31 +1,20 @@
 -- What is no value, what type is asked of an expression, and whether a value goes to a target.
 use Rattle.std.specs.Prelude.{ℕ, Bool, true, false, not, ◌&&◌, ◌||◌, if◌then◌else◌, List, [], ◌∷◌, ◌++◌, Option, Some, None}
 use Rattle.sp_base.specs.declared.places.Span.{Span}
-use Rattle.sp_rules.specs.declared.rule.Rule.{Rule}
 use Rattle.sp_rules.specs.declared.rule.Rule.TheVariants as rule_is
 use Rattle.sp_rules.specs.declared.fault.Fault.{Fault}
 use Rattle.sp_types.specs.Types.{Ty, word, made, is_known, goes}
 use Rattle.sp_types.specs.declared.words.Word.TheVariants as word_is
 use Rattle.sp_types.specs.declared.words.Maker.TheVariants as maker_is
-use Rattle.sp_typed.specs.Exprs.{Expr, leaf, one, two, three, many, type_of, span_of, is_literal}
+use Rattle.sp_typed.specs.Exprs.{Expr, leaf, one, two, three, many, type_of, span_of}
 use Rattle.sp_typed.specs.declared.words.LeafOp.{LeafOp}
 use Rattle.sp_typed.specs.declared.words.LeafOp.TheVariants as leaf_is
 use Rattle.sp_typed.specs.declared.words.TwoOp.{TwoOp}
 use Rattle.sp_typed.specs.declared.words.TwoOp.TheVariants as two_is
 use Rattle.sp_typed.specs.declared.words.Written.{Written}
-use Rattle.sp_operands.specs.Operands.{is_boolean}
-use Rattle.sp_operands.specs.Literals.{is_over}
-
--- the fault of a rule in a module, on a slice of its text
-abbrev pub at : ℕ → Rule → Span → Fault
-at m rule span = record { rule = rule; «module» = m; span = span }
-
--- Types of what is no value: what a function without a result gives, a regular expression, and what a `connect` starts.
-abbrev pub is_valueless : Ty → Bool
-is_valueless (word word_is.Void) = true
-is_valueless (word word_is.Regex) = true
-is_valueless (word word_is.New) = true
-is_valueless _ = false
+use Rattle.sp_operands.specs.Operands.{is_boolean, is_valueless}
+use Rattle.sp_operands.specs.Literals.{is_past}
+use Rattle.sp_rules.specs.Faults.{at}
 
 abbrev pub is_regex : Ty → Bool
 is_regex (word word_is.Regex) = true
@@ -63,10 +52,6 @@ is_no_value (one h a) = is_valueless h.ty
 is_no_value (two h a b) = is_set_key h.op (type_of a) || is_valueless h.ty
 is_no_value (three h a b c) = is_valueless h.ty
 is_no_value (many h es) = is_valueless h.ty
-
--- a literal past the type of its place
-abbrev pub is_past : Expr → Bool
-is_past e = is_literal e && is_over e
 
 -- Whether the type of an expression is known. What breaks a rule has none, and so has a literal past its type; a number whose type
 -- is written before it has that type.

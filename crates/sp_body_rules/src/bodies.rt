@@ -4,16 +4,15 @@ ghost use Rattle.sp_rules.specs.Least.{better, checked};
 ghost use Rattle.sp_typed.specs.Stmts.{stmts, branch_row, case_row};
 ghost use Rattle.sp_typed.specs.StmtNodes.{stmt_nodes, stmts_nodes, branches_nodes, cases_nodes, stmts_in, stmts_in_all, stmts_in_branches, stmts_in_cases};
 ghost use Rattle.sp_body_rules.specs.Known.{Known};
-ghost use Rattle.sp_body_rules.specs.Values.{at};
+ghost use Rattle.sp_rules.specs.Faults.{at};
 ghost use Rattle.sp_body_rules.specs.Sweeps.{swept_nodes, swept_stmts, swept_body, end_tests};
 
 use crate::ends::ends_well;
 use crate::facts::Facts;
 use crate::stmts::note_one_stmt;
 use crate::sweep::{note_expr, note_exprs};
-use crate::values::note_at;
 use sp_base::{NoMemory, Span};
-use sp_rules::{Fault, Rule};
+use sp_rules::{Fault, Rule, note_at};
 use sp_typed::{Expr, Stmt, StmtNode};
 use sp_types::Type;
 use std::alloc::Global;

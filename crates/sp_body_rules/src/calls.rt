@@ -3,17 +3,15 @@ ghost use Rattle.std.specs.Prelude.{◌≡◌, IfOk, OnOk};
 ghost use Rattle.sp_rules.specs.Least.{better, checked};
 ghost use Rattle.sp_typed.specs.Exprs.{exprs};
 ghost use Rattle.sp_body_rules.specs.Known.{Known};
-ghost use Rattle.sp_body_rules.specs.Values.{at};
+ghost use Rattle.sp_rules.specs.Faults.{at};
 ghost use Rattle.sp_body_rules.specs.ExprTests.{argument_goes, argument_fits, arguments_fit, connects, argument_tests, call_tests, is_convertible, converts, convert_tests, changes_leaf, changes_one, is_element, is_tuple, may_change, is_of_self, itself_leaf, is_itself, receiver_tests, method_tests, uncalled_tests};
 
 use crate::facts::Facts;
 use crate::rows::note_values;
-use crate::values::{
-    is_new, is_no_value, is_past, is_valueless, knows, note_at, note_value, value_span,
-};
+use crate::values::{is_new, is_no_value, knows, note_value, value_span};
 use sp_base::{NoMemory, Span};
-use sp_operands::{is_integer, seen};
-use sp_rules::{Fault, Rule};
+use sp_operands::{is_integer, is_past, is_valueless, seen};
+use sp_rules::{Fault, Rule, note_at};
 use sp_typed::{Expr, ExprLevel, LeafOp, ManyOp, OneOp, SinkMethod, TwoOp, UnitMethod};
 use sp_types::{Level, Maker, Type};
 

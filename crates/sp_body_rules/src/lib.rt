@@ -12,7 +12,6 @@ mod printable;
 mod rows;
 mod stmts;
 mod sweep;
-mod types;
 mod values;
 
 pub use bodies::{note_body, note_end};
@@ -20,11 +19,11 @@ pub use calls::note_call;
 pub use ends::ends_well;
 pub use facts::{Constancy, Facts};
 pub use laws::least_of_broken;
+pub use nodes::is_not_constant;
 pub use rows::unlike;
 pub use stmts::{is_sink, is_unit, note_case};
 pub use sweep::note_expr;
-pub use types::{is_bytes, is_unsigned};
 pub use values::{
-    is_regex, note_at, note_condition, note_right, note_target, note_value, note_written,
-    value_goes, value_span,
+    is_regex, note_condition, note_right, note_target, note_value, note_written, value_goes,
+    value_span,
 };

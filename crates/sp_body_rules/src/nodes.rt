@@ -5,20 +5,21 @@ ghost use Rattle.sp_types.specs.Types.{is_key};
 ghost use Rattle.sp_typed.specs.Exprs.{type_of, span_of, exprs};
 ghost use Rattle.sp_operands.specs.Operands.{is_unsigned, stands_before, stands_behind};
 ghost use Rattle.sp_body_rules.specs.Known.{Known};
-ghost use Rattle.sp_body_rules.specs.Values.{at};
+ghost use Rattle.sp_rules.specs.Faults.{at};
 ghost use Rattle.sp_body_rules.specs.ExprTests.{is_unmeant, leaf_tests, negates, takes_no_cast, cast_tests, no_member_tests, one_tests, disagreeing, is_past_key, disagree, operand_tests, is_constant, is_not_constant, item_tests, key_tests, index_tests, two_tests, unlike, choice_tests, many_tests, expr_tests};
 
 use crate::calls::{note_call, note_convert, note_method, note_uncalled};
 use crate::facts::{Constancy, Facts};
 use crate::rows::{note_map, note_row, note_values, unlike};
-use crate::types::{is_enum, is_signed, is_unsigned};
 use crate::values::{
-    is_past, knows, note_at, note_condition, note_right, note_value, note_written, note_wrong,
-    value_goes, value_span,
+    knows, note_condition, note_right, note_value, note_written, note_wrong, value_goes, value_span,
 };
 use sp_base::{NoMemory, Span};
-use sp_operands::{OperatorSort, has_size, is_integer, is_over, sort_of, stands_alone};
-use sp_rules::{Fault, Rule};
+use sp_operands::{
+    OperatorSort, has_size, is_enum, is_integer, is_over, is_past, is_signed, is_unsigned, sort_of,
+    stands_alone,
+};
+use sp_rules::{Fault, Rule, note_at};
 use sp_typed::{Expr, ExprLevel, LeafOp, Many, ManyOp, One, OneOp, Standing, Two, TwoOp, Written};
 use sp_types::{Level, Maker, Type, Word};
 use sp_words::UnaryOp;
@@ -150,7 +151,8 @@ fn is_constant(constancy: Constancy) -> bool
     matches!(constancy, Constancy::Constant)
 }
 
-fn is_not_constant(constancy: Constancy) -> bool
+/// Whether a constancy is that of what is not constant.
+pub fn is_not_constant(constancy: Constancy) -> bool
     ensures { result ≡ is_not_constant constancy }
 {
     matches!(constancy, Constancy::NotConstant)

@@ -2,12 +2,12 @@
 ghost use Rattle.std.specs.Prelude.{◌≡◌, if◌then◌else◌, true};
 ghost use Rattle.sp_rules.specs.Least.{better, checked};
 ghost use Rattle.sp_typed.specs.Exprs.{exprs};
-ghost use Rattle.sp_body_rules.specs.Values.{at};
+ghost use Rattle.sp_rules.specs.Faults.{at};
 ghost use Rattle.sp_body_rules.specs.ExprTests.{unlike, all_value_tests, element_tests, elements_tests, row_tests, entries_tests, map_tests};
 
-use crate::values::{knows, note_at, note_value, note_wrong, value_span};
+use crate::values::{knows, note_value, note_wrong, value_span};
 use sp_base::Span;
-use sp_rules::{Fault, Rule};
+use sp_rules::{Fault, Rule, note_at};
 use sp_typed::Expr;
 
 /// Whether two are of known types that are not the same.

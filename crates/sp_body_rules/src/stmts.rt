@@ -8,21 +8,21 @@ ghost use Rattle.sp_typed.specs.Exprs.{type_of};
 ghost use Rattle.sp_operands.specs.Operands.{stands_before};
 ghost use Rattle.sp_operands.specs.declared.operators.OperatorSort.TheVariants as sort_is;
 ghost use Rattle.sp_body_rules.specs.Known.{Known};
-ghost use Rattle.sp_body_rules.specs.Values.{at, right_tests};
+ghost use Rattle.sp_body_rules.specs.Values.{right_tests};
+ghost use Rattle.sp_rules.specs.Faults.{at};
 ghost use Rattle.sp_body_rules.specs.StmtTests.{is_unit, is_sink, is_map, holds_none, bare_local_tests, local_tests, bare_op_tests, return_tests, has_changed_keys, key_change_tests, change_tests, alone_tests, valued_op_tests, takes_target, assign_tests, print_tests, branches_tests, is_sequence, differs, case_tests, cases_tests, stmt_tests};
 ghost use Rattle.sp_typed.specs.StmtViews.{stmt_of};
 
 use crate::calls::may_change;
 use crate::facts::Facts;
 use crate::printable::is_printable;
-use crate::types::{is_bytes, is_text};
 use crate::values::{
-    is_no_value, is_past, is_set, is_void, knows, note_at, note_condition, note_right, note_target,
-    note_written, note_wrong, value_span,
+    is_no_value, is_set, is_void, knows, note_condition, note_right, note_target, note_written,
+    note_wrong, value_span,
 };
 use sp_base::{NoMemory, Span};
-use sp_operands::{OperatorSort, is_integer, seen};
-use sp_rules::{Fault, Rule};
+use sp_operands::{OperatorSort, is_bytes, is_integer, is_past, is_text, seen};
+use sp_rules::{Fault, Rule, note_at};
 use sp_typed::{BareOp, Expr, ExprLevel, Local, Stmt, StmtNode, TwoOp, ValuedOp, Written};
 use sp_types::{Level, Maker, Type, Word};
 use sp_words::AssignOp;

@@ -6,16 +6,15 @@ ghost use Rattle.sp_typed.specs.Nodes.{nodes, all_nodes};
 ghost use Rattle.sp_typed.specs.Stmts.{stmts, branch_row, case_row};
 ghost use Rattle.sp_typed.specs.StmtNodes.{stmt_nodes, stmts_nodes, branches_nodes, cases_nodes, stmts_in, stmts_in_all, stmts_in_branches, stmts_in_cases};
 ghost use Rattle.sp_body_rules.specs.Known.{Known};
-ghost use Rattle.sp_body_rules.specs.Values.{at};
+ghost use Rattle.sp_rules.specs.Faults.{at};
 ghost use Rattle.sp_body_rules.specs.Sweeps.{swept_nodes, swept_expr};
 
 use crate::ends::ends_well;
 use crate::facts::Facts;
 use crate::nodes::note_node;
 use crate::stmts::note_one_stmt;
-use crate::values::note_at;
 use sp_base::{NoMemory, Span};
-use sp_rules::{Fault, Rule};
+use sp_rules::{Fault, Rule, note_at};
 use sp_typed::{Expr, ExprLevel, Stmt, StmtNode};
 use sp_types::Type;
 use std::alloc::Global;

@@ -1,32 +1,15 @@
 // What is no value, what type is asked of an expression, and whether a value goes to a target.
 ghost use Rattle.std.specs.Prelude.{◌≡◌, if◌then◌else◌};
 ghost use Rattle.sp_rules.specs.Least.{better, checked};
-ghost use Rattle.sp_body_rules.specs.Values.{at, is_valueless, is_regex, is_void, is_new, is_set, names_no_value, is_set_key, is_no_value, knows, is_past, value_goes, value_span, value_tests, wrong, right_tests, condition_tests, target_tests, misplaced_at, written_tests};
+ghost use Rattle.sp_body_rules.specs.Values.{is_regex, is_void, is_new, is_set, names_no_value, is_set_key, is_no_value, knows, value_goes, value_span, value_tests, wrong, right_tests, condition_tests, target_tests, written_tests};
+ghost use Rattle.sp_operands.specs.Literals.{is_past};
+ghost use Rattle.sp_operands.specs.Operands.{is_valueless};
 
-use crate::types::is_boolean;
 use sp_base::Span;
-use sp_operands::is_over;
-use sp_rules::{Fault, Rule, note_if};
+use sp_operands::{is_boolean, is_past, is_valueless};
+use sp_rules::{Fault, Rule, note_at};
 use sp_typed::{Expr, ExprLevel, LeafOp, TwoOp, Written};
 use sp_types::{Level, Maker, Type, Word};
-
-/// Notes a rule that is broken where the test holds, on a slice of the text of a module.
-pub fn note_at(test: bool, owner: u32, rule: Rule, span: Span, least: &mut Option<Fault>)
-    ensures { least.new ≡ (if test then better least.old (at owner rule span) else least.old) }
-{
-    let fault = Fault {
-        rule,
-        module: owner,
-        span,
-    };
-    note_if(test, least, fault);
-}
-
-pub(crate) fn is_valueless(t: &Type) -> bool
-    ensures { result ≡ is_valueless t.now }
-{
-    matches!(t.level(), Level::Word(Word::Void | Word::Regex | Word::New))
-}
 
 /// Whether a type is that of a regular expression.
 pub fn is_regex(t: &Type) -> bool
@@ -90,13 +73,6 @@ pub(crate) fn knows(e: &Expr) -> bool
     ensures { result ≡ knows e.now }
 {
     e.ty().is_known() && !is_past(e)
-}
-
-/// Whether it is a literal past the type of its place.
-pub(crate) fn is_past(e: &Expr) -> bool
-    ensures { result ≡ is_past e.now }
-{
-    e.is_literal() && is_over(e)
 }
 
 /// Whether a value goes to a target of a type.

@@ -3,7 +3,7 @@ ghost use Rattle.std.specs.Prelude.{◌≡◌, None, IfOk, IfErr, OnOk};
 ghost use Rattle.sp_rules.specs.Least.{IsLeast, checked};
 ghost use Rattle.sp_list_rules.specs.Told.{values_of};
 ghost use Rattle.sp_list_rules.specs.Wholes.{list_tests};
-ghost use Rattle.sp_scope.specs.Rules.{IsRefused};
+ghost use Rattle.sp_scope.specs.Refusals.{IsRefused};
 ghost use Rattle.sp_check_expr.specs.Broken.{BreaksBody};
 
 use sp_base::NoMemory;

@@ -1,11 +1,11 @@
 // What a list of modules is in which no rule is broken.
 ghost use Rattle.std.specs.Prelude.{◌≡◌, IsTrue, None, drop};
 ghost use Rattle.sp_rules.specs.Least.{IsLeast};
-ghost use Rattle.sp_scope.specs.Rules.{IsTyped};
+ghost use Rattle.sp_checked_list.specs.NameRules.{IsTyped};
 ghost use Rattle.sp_unbuilt.specs.First.{IsFirst};
 ghost use Rattle.sp_unbuilt.specs.Places.{IsUnbuilt};
 ghost use Rattle.sp_unbuilt.specs.Unbuilt.{first_unbuilt};
-ghost use Rattle.sp_check_unit.specs.Rules.{Breaks};
+ghost use Rattle.sp_checked_list.specs.Rules.{Breaks};
 ghost use Rattle.sp_check_unit.specs.Parsers.{have_numbers, takes_nothing, is_parser, is_named, parser_from, first_from, where_none, only_from};
 
 use sp_ast::Module;

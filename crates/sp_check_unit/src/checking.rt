@@ -1,8 +1,9 @@
 // All rules over a list of modules.
 ghost use Rattle.std.specs.Prelude.{◌≡◌, ◌++◌, None, IfOk, IfErr, OnOk};
 ghost use Rattle.sp_rules.specs.Least.{IsLeast, checked};
-ghost use Rattle.sp_scope.specs.Rules.{IsTyped, IsRefused};
-ghost use Rattle.sp_check_unit.specs.Rules.{typed_tests, limits_from, Breaks, IsAsked};
+ghost use Rattle.sp_checked_list.specs.NameRules.{IsTyped};
+ghost use Rattle.sp_scope.specs.Refusals.{IsRefused};
+ghost use Rattle.sp_checked_list.specs.Rules.{typed_tests, limits_from, Breaks, IsAsked};
 
 use crate::checked::{Checked, have_numbers};
 use crate::limits::note_all_limits;

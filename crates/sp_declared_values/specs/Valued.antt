@@ -13,7 +13,7 @@ use Rattle.sp_names.specs.declared.sort.Meaning.TheVariants as meaning_is
 use Rattle.sp_names.specs.Declarations.{rows, all_of, sort_of, sort_at, number_at, type_tree_of, library_enums}
 use Rattle.sp_names.specs.Names.{declaration_of, enum_labels, own_labels, path_means}
 use Rattle.sp_names.specs.Types.{type_in, one_or_none}
-use Rattle.sp_typing_units.specs.Attributes.{present}
+use Rattle.sp_ast.specs.Views.{present}
 use Rattle.sp_declared_values.specs.declared.valued.Valued.{Valued}
 use Rattle.sp_declared_values.specs.declared.valued.Valued.TheVariants as is
 

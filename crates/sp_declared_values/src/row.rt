@@ -5,16 +5,16 @@ ghost use Rattle.sp_names.specs.declared.sort.DeclSort.TheVariants as sort_is;
 ghost use Rattle.sp_names.specs.Declarations.{all_of, sort_of};
 ghost use Rattle.sp_names.specs.Names.{declaration_of, labels_of};
 ghost use Rattle.sp_names.specs.Tables.{Each};
-ghost use Rattle.sp_typing_units.specs.Attributes.{present};
-ghost use Rattle.sp_declared_values.specs.Valued.{if_constant, constants_among, constants, number_tree, label_of, labels_from, declared_labels, labels_before, labels, valued, constant_place, own_place, label_place};
+ghost use Rattle.sp_ast.specs.Views.{present};
+ghost use Rattle.sp_declared_values.specs.Valued.{if_constant, constants_among, constants, number_tree, label_of, labels_from, declared_labels, labels, valued, constant_place, own_place, label_place};
 ghost use Rattle.sp_declared_values.specs.inside.Places.{IsEnumPlace, AreValued};
 
-use crate::tell::{is_present, labels_of, written_type};
+use crate::tell::written_type;
 use crate::valued::Valued;
-use sp_around::Tables;
-use sp_ast::{DeclView, LabelKind, Members, Ref};
+use sp_around::{Tables, declaration_at};
+use sp_ast::{DeclView, LabelKind, Members, Ref, is_present};
 use sp_base::{NoMemory, or_drop};
-use sp_names::{Declaration, LIBRARY_ENUMS, Names};
+use sp_names::{Declaration, LIBRARY_ENUMS, Names, labels_of};
 use sp_types::Type;
 use std::alloc::Global;
 use std::marker::Model;
@@ -180,20 +180,6 @@ fn add_declared<'a>(
     match row {
         Some(row) => add_enum(list, owner, row),
         None => Ok(0),
-    }
-}
-
-/// The declaration whose number stands at a place.
-fn declaration_at<'n, 'a>(
-    names: &'n Names<'a>,
-    numbers: &[u32],
-    place: usize,
-) -> Option<&'n Declaration<'a>>
-    ensures { option_copied result ≡ declaration_of names.now (slice_get numbers.now place) }
-{
-    match numbers.get(place) {
-        Some(declaration) => names.rows().get(*declaration as usize),
-        None => None,
     }
 }
 

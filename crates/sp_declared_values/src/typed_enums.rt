@@ -2,18 +2,17 @@
 ghost use Rattle.std.specs.Prelude.{◌≡◌, ◌++◌, Some, IfOk, OnOk};
 ghost use Rattle.sp_ast.specs.Trees.{span_of};
 ghost use Rattle.sp_solver.specs.Told.{told};
-ghost use Rattle.sp_names.specs.Declarations.{name_of, module_name, module_at, type_tree_of, all_of};
+ghost use Rattle.sp_names.specs.Declarations.{name_of, module_name, type_tree_of, all_of};
 ghost use Rattle.sp_names.specs.declared.sort.DeclSort.TheVariants as sort_is;
 ghost use Rattle.sp_names.specs.Names.{declaration_of, enum_labels};
 ghost use Rattle.sp_declared_values.specs.TypedRows.{declared_name_tree, number_in, shown_number, or_past, number_expr, own_number, number_at, declared_label, labels_of_enum, declared_enum, own_enums, typed_enums};
 
 use crate::known::Known;
 use crate::library::{library_enums, name_in_module};
-use crate::tell::{is_present, labels_of};
-use sp_ast::{DeclKind, DeclView, ExprKind, LabelKind, Members, Module, Ref};
+use sp_ast::{DeclKind, DeclView, ExprKind, LabelKind, Members, Ref, is_present};
 use sp_base::{NoMemory, Span, Text, or_drop};
 use sp_constants::Outcome;
-use sp_names::{Declaration, LIBRARY_ENUMS, Names};
+use sp_names::{Declaration, LIBRARY_ENUMS, labels_of};
 use sp_typed::Expr;
 use sp_typed_units::{Enum, Label, LabelNumber, Row};
 use sp_value::{Level, Value};
@@ -69,22 +68,6 @@ fn declared_span(tree: &Ref<'_, DeclKind>) -> Span
     match tree.view() {
         DeclView::Type { name, .. } | DeclView::Const { name, .. } => name.span(),
         _ => Span { from: 0, to: 0 },
-    }
-}
-
-fn module_name(whole: &Module) -> &str
-    ensures { result.now ≡ module_name whole.now }
-{
-    whole.root().view().name.text()
-}
-
-/// The name of the module of a number.
-fn name_of_module<'n>(names: &'n Names<'_>, owner: u32) -> &'n str
-    ensures { result.now ≡ module_name (module_at names.now owner) }
-{
-    match names.modules().get(owner as usize) {
-        Some(whole) => module_name(whole),
-        None => "",
     }
 }
 
@@ -210,7 +193,7 @@ impl<'a> Known<'a> {
         ensures { IfOk result (λ e. e ≡ declared_enum self.now.row.now.0
             (told self.now.row.now.1) (told self.now.answers.now) owner (Some row.now)) }
     {
-        let home = name_of_module(self.row.tables().names(), row.module);
+        let home = self.row.tables().names().module_name(row.module);
         let path = name_in_module(alloc, home, declared_name(&row.tree))?;
         let span = declared_span(&row.tree);
         let labels = or_drop!(self.labels_declared(alloc, owner, row); path);

@@ -7,9 +7,9 @@ ghost use Rattle.sp_declared_values.specs.Answers.{constant_type, constant_value
 ghost use Rattle.sp_declared_values.specs.TypedRows.{shown_value, maybe_written, constant_row, declared_constant, next_constant, if_declared, typed_constants};
 
 use crate::known::{Known, value_at};
-use crate::tell::{is_present, written_type};
+use crate::tell::written_type;
 use sp_around::written_in;
-use sp_ast::{DeclView, ExprKind, Ref, TypeKind};
+use sp_ast::{DeclView, ExprKind, Ref, TypeKind, is_present};
 use sp_base::{NoMemory, Span, or_drop};
 use sp_constants::Outcome;
 use sp_names::Declaration;

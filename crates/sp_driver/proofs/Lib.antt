@@ -1,5 +1,6 @@
 pub mod Causing
 pub mod Puts
+pub mod ReadModules
 pub mod Readying
 pub mod Runs
 pub mod Says

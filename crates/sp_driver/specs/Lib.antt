@@ -2,6 +2,7 @@ pub mod Causes
 pub mod Driver
 pub mod Lines
 pub mod Lists
+pub mod LoadedLists
 pub mod Options
 pub mod Parts
 pub mod Rows

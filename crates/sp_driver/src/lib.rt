@@ -5,6 +5,7 @@ mod compile;
 mod driver;
 mod exits;
 mod laws;
+mod loaded_lists;
 mod loading;
 mod options;
 mod pieces;

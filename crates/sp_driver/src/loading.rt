@@ -5,13 +5,13 @@ ghost use Rattle.sp_read_file.specs.Loads.{UnreadCause};
 ghost use Rattle.sp_front.specs.declared.entries.ModuleFile.{ModuleFile as File};
 ghost use Rattle.sp_front.specs.inside.Follow.{IsRefusedBy};
 ghost use Rattle.sp_load.specs.Loads.{IsLoaded, IsLoadRefused, sources_of, trees_of};
-ghost use Rattle.sp_scope.specs.Rules.{IsTyped};
+ghost use Rattle.sp_checked_list.specs.NameRules.{IsTyped};
 ghost use Rattle.sp_driver.specs.inside.Ready.{PassesWhereBuilt};
 
+use crate::loaded_lists::loaded_lists_pass;
 use sp_base::Text;
 use sp_command::directories_of;
 use sp_io::Modules;
-use sp_list_laws::loaded_lists_pass;
 use sp_load::{Loaded, load};
 use sp_read_file::Unread;
 use std::alloc::Global;

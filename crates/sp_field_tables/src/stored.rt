@@ -5,6 +5,7 @@ ghost use Rattle.sp_around.specs.Taken.{differ};
 ghost use Rattle.sp_field_tables.specs.inside.Seen.{entry_differs, stored_with, kept_differs, number_told};
 
 use indexmap::IndexMap;
+use sp_around::differ;
 use sp_base::NoMemory;
 use sp_types::Type;
 use std::alloc::Global;
@@ -30,12 +31,6 @@ pub(crate) fn nothing_stored(alloc: Global) -> StoredTable
     StoredTable {
         of: IndexMap::new(alloc),
     }
-}
-
-fn differ(a: &Type, b: &Type) -> bool
-    ensures { result ≡ differ a.now b.now }
-{
-    a.is_known() && (b.is_known() && !a.same(b))
 }
 
 fn entry_differs(entry: &Stored, ty: &Type) -> bool

@@ -1,7 +1,5 @@
 // A unit of a list: what its names mean, and what its fields store.
 ghost use Rattle.std.specs.Prelude.{◌≡◌, IfOk};
-ghost use Rattle.sp_ast.specs.Trees.{trees};
-ghost use Rattle.sp_typing_units.specs.Readings.{counted_read};
 ghost use Rattle.sp_around.specs.Taken.{member_number};
 ghost use Rattle.sp_typing_units.specs.Fields.{field_type};
 ghost use Rattle.sp_field_tables.specs.FieldTables.{unit_of};
@@ -9,12 +7,12 @@ ghost use Rattle.sp_field_tables.specs.inside.Numbers.{number_of};
 
 use crate::naming::Naming;
 use sp_around::Tables;
-use sp_ast::{BaseKind, CountKind, FieldKind, Members, Ref};
+use sp_ast::{FieldKind, Ref};
 use sp_base::NoMemory;
 use sp_typed::OneOp;
 use sp_types::Type;
 use sp_typing::{Context, Member};
-use sp_typing_units::{Constants, Read, converted, counted_read};
+use sp_typing_units::{Constants, converted, read_type};
 use std::alloc::Global;
 
 /// A unit of a list, with what stands round its expressions and what constants are worth there.
@@ -78,23 +76,6 @@ fn member_number(tables: &Tables<'_>, unit: u32, name: &str) -> Result<Option<u3
     let number = number_of(&member);
     drop(member);
     Ok(number)
-}
-
-/// The type of what is read.
-fn read_type<C: Context, V: Constants>(
-    alloc: Global,
-    context: &C,
-    constants: &V,
-    base: &Ref<'_, BaseKind>,
-    counts: &Members<'_, CountKind>,
-) -> Result<Type, NoMemory>
-    ensures { IfOk result (λ t. t ≡ (counted_read (C.around context.now) (V.values constants.now)
-        base.now (trees counts.now)).ty) }
-{
-    let read = counted_read(alloc, context, constants, base, counts)?;
-    let Read { spec, ty, kind: _ } = read;
-    drop(spec);
-    Ok(ty)
 }
 
 /// The type of what a field stores.

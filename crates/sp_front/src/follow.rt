@@ -10,11 +10,12 @@ ghost use Rattle.sp_front.specs.inside.Seen.{AreSeen};
 
 use crate::entries::{Entry, Import};
 use crate::imports::{missing, read_import};
-use crate::named::{MOST_MODULES, is_reserved, push_entry, refusal_at};
+use crate::named::{MOST_MODULES, push_entry, refusal_at};
 use crate::seen::Seen;
 use sp_base::{MKind, NoMemory, Text};
 use sp_command::Refusal;
 use sp_io::Modules;
+use sp_names::is_reserved;
 use sp_read_file::Unread;
 use std::alloc::Global;
 

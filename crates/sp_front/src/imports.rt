@@ -1,6 +1,5 @@
 // The imports of a file whose modules are missing, and the file of one.
 ghost use Rattle.std.specs.Prelude.{◌≡◌, ◌<◌, ◌-◌, ◌^◌, List, ◌++◌, IfOk, IfErr, OnOk, MatchResult};
-ghost use Rattle.sp_names.specs.Declarations.{module_declarations};
 ghost use Rattle.sp_read_file.specs.Loads.{UnreadCause};
 ghost use Rattle.sp_front.specs.declared.entries.Entry.{Entry};
 ghost use Rattle.sp_front.specs.Imports.{import_of, imports_of};
@@ -9,12 +8,13 @@ ghost use Rattle.sp_front.specs.inside.Files.{IsImport, IsNoRefusal};
 ghost use Rattle.sp_front.specs.inside.Seen.{AreSeen};
 
 use crate::entries::{Entry, Import, ModuleFile};
-use crate::named::{file_of, is_reserved, name_of};
+use crate::named::file_of;
 use crate::paths::find;
 use crate::seen::Seen;
-use sp_ast::{DeclKind, DeclView, Members, Module, Ref};
+use sp_ast::{DeclKind, DeclView, Ref};
 use sp_base::{NoMemory, Text};
 use sp_io::Modules;
+use sp_names::{declarations_of, is_reserved, name_of};
 use sp_read_file::Unread;
 use std::alloc::Global;
 
@@ -37,13 +37,6 @@ fn note_import(
         }
     }
     Ok(())
-}
-
-/// The declarations of a module.
-fn declarations_of(whole: &Module) -> Members<'_, DeclKind>
-    ensures { result ≡ module_declarations whole.now }
-{
-    whole.root().view().declarations
 }
 
 /// The imports of a file whose modules are missing, in the order of the text.

@@ -1,7 +1,6 @@
 // The named files, and what a text is as a file.
 ghost use Rattle.std.specs.Prelude.{◌≡◌, ◌≤◌, ◌<◌, ◌+◌, ◌-◌, ◌^◌, ◌++◌, ◌∷◌, [], length, List, None, Some, IfOk, IfErr, OnOk, MatchResult};
 ghost use Rattle.sp_command.specs.Files.{Holds};
-ghost use Rattle.sp_names.specs.Declarations.{module_name};
 ghost use Rattle.sp_names.specs.Faults.{is_reserved};
 ghost use Rattle.sp_read_file.specs.Loads.{UnreadCause};
 ghost use Rattle.sp_read_file.specs.Files.{refused_at};
@@ -19,25 +18,12 @@ use sp_ast::Module;
 use sp_base::{ByteList, MKind, NoMemory, Place, Text};
 use sp_command::Refusal;
 use sp_io::Modules;
+use sp_names::{is_reserved, name_of};
 use sp_read_file::{Unread, read_text};
 use std::alloc::Global;
 
 /// A list has at most so many modules.
 pub(crate) const MOST_MODULES: usize = 256;
-
-/// The name of a module.
-pub(crate) fn name_of(whole: &Module) -> &str
-    ensures { result.now ≡ module_name whole.now }
-{
-    whole.root().view().name.text()
-}
-
-/// Whether the library has a module of the name.
-pub(crate) fn is_reserved(name: &str) -> bool
-    ensures { result ≡ is_reserved name.now }
-{
-    name == "spicy" || name == "filter"
-}
 
 /// A refusal at a place in the text of a file.
 pub(crate) fn refusal_at(file: &ModuleFile, from: u32, kind: MKind) -> Result<Refusal, NoMemory>

@@ -1,5 +1,5 @@
 // The file of an import: it is looked for at one path after another.
-ghost use Rattle.std.specs.Prelude.{◌≡◌, ◌<◌, ◌-◌, ◌^◌, ◌++◌, codes, string_bytes, IfOk, IfErr, OnOk, MatchResult};
+ghost use Rattle.std.specs.Prelude.{◌≡◌, ◌<◌, ◌-◌, ◌^◌, ◌++◌, codes, string_bytes, IfOk, IfErr, MatchResult};
 ghost use Rattle.sp_read_file.specs.Loads.{UnreadCause};
 ghost use Rattle.sp_front.specs.Imports.{file_name, paths_of};
 ghost use Rattle.sp_front.specs.inside.Files.{IsRead, IsFound, IsNoRefusal};

@@ -9,6 +9,7 @@ use sp_ast::{
     PartKind, PartView, Ref, TypeKind, TypeView,
 };
 use sp_base::{NoMemory, or_drop};
+use sp_name_tables::number;
 use sp_names::Names;
 use std::alloc::Global;
 
@@ -193,13 +194,6 @@ fn add_declaration<'a>(
         DeclView::Type { type_, .. } => add_type(sites, module, unit, &type_),
         _ => Ok(()),
     }
-}
-
-/// A count as a number. Lists of more trees than numbers don't fit into memory.
-fn number(count: usize) -> Result<u32, NoMemory>
-    ensures { IfOk result (λ n. n ≡ count) }
-{
-    u32::try_from(count).map_err(|_| NoMemory)
 }
 
 /// All places of hooks of a list of modules: module by module, each in the order of its text. It takes time that grows with

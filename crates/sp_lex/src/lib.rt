@@ -22,5 +22,6 @@ pub use laws::{
     numbers_are_longest, only_blanks_stand_between, words_are_longest,
 };
 pub use lexer::lex;
+pub use literals::byte_at;
 pub use numbers::number_of;
 pub use tokens::{ReadFault, Token, Tokens};

@@ -36,7 +36,7 @@ impl Form {
 }
 
 /// The byte at a place; behind the end 0, which no opening, escape or number has.
-pub(crate) fn byte_at(text: &[u8], at: usize) -> u8
+pub fn byte_at(text: &[u8], at: usize) -> u8
     ensures value { result ≡ slice_index text.now at }
     ensures there { result ≢ 0 → at < length text.now }
 {

@@ -4,8 +4,8 @@ use Rattle.std.proofs.lemmas.List.{at_drop_more}
 use Rattle.sp_ast.specs.Trees.{Tree, absent}
 use Rattle.sp_names.specs.Names.{declaration_of}
 use Rattle.sp_typed.specs.declared.words.Standing.TheVariants as standing_is
-use Rattle.sp_typing_heads.specs.Parameters.{with_parameters}
-use Rattle.sp_typing_units.specs.Decorators.{with_self}
+use Rattle.sp_surroundings.specs.Parameters.{with_parameters}
+use Rattle.sp_surroundings.specs.Decorators.{with_self}
 use Rattle.sp_declared_values.specs.declared.answer.Answer.{Answer}
 use Rattle.sp_types.specs.Types.{Ty, word}
 use Rattle.sp_types.specs.declared.words.Word.TheVariants as word_is

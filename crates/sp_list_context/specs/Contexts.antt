@@ -11,8 +11,8 @@ use Rattle.sp_names.specs.declared.rows.Declaration.{Declaration}
 use Rattle.sp_names.specs.declared.sort.DeclSort.TheVariants as sort_is
 use Rattle.sp_names.specs.Declarations.{all_of, type_tree_of}
 use Rattle.sp_typing.specs.Contexts.{Around}
-use Rattle.sp_typing_units.specs.Decorators.{with_self}
-use Rattle.sp_typing_heads.specs.Parameters.{parameters_in, with_parameters}
+use Rattle.sp_surroundings.specs.Decorators.{with_self}
+use Rattle.sp_surroundings.specs.Parameters.{parameters_in, with_parameters}
 use Rattle.sp_names.specs.Names.{declaration_of}
 use Rattle.sp_around.specs.Members.{unit_in}
 use Rattle.sp_around.specs.Arounds.{Facts, stored_by, around}

@@ -6,10 +6,10 @@ use Rattle.sp_solver.specs.Told.{told}
 use Rattle.sp_typing.specs.Contexts.{Around}
 use Rattle.sp_around.specs.declared.here.Here.{Here}
 use Rattle.sp_around.specs.Holds.{around_here}
-use Rattle.sp_typing_heads.specs.declared.parameters.WithParameters.{WithParameters}
-use Rattle.sp_typing_heads.specs.Parameters.{with_parameters}
-use Rattle.sp_typing_units.specs.declared.itself.WithSelf.{WithSelf}
-use Rattle.sp_typing_units.specs.Decorators.{with_self}
+use Rattle.sp_surroundings.specs.declared.parameters.WithParameters.{WithParameters}
+use Rattle.sp_surroundings.specs.Parameters.{with_parameters}
+use Rattle.sp_surroundings.specs.declared.itself.WithSelf.{WithSelf}
+use Rattle.sp_surroundings.specs.Decorators.{with_self}
 use Rattle.sp_declared_values.specs.declared.known.Known.{Known}
 use Rattle.sp_declared_values.specs.Answers.{constant_type, number_of}
 

@@ -5,4 +5,6 @@ mod modules;
 mod units;
 
 pub use modules::in_modules;
-pub use units::{all_parameters, homes, in_units, parameter_tables, seeing_parameters, unit_types};
+pub use units::{
+    all_parameters, declared, homes, in_units, parameter_tables, seeing_parameters, unit_types,
+};

@@ -1,54 +1,31 @@
 // What stands round the expressions of units, and their parameters.
-ghost use Rattle.std.specs.Prelude.{◌≡◌, ◌++◌, ◌∷◌, [], false, Some, map, option_copied, IfOk, OnOk, IfSome, IfNone};
-ghost use Rattle.sp_ast.specs.Trees.{absent};
+ghost use Rattle.std.specs.Prelude.{◌≡◌, ◌++◌, ◌∷◌, [], false, Some, map, option_copied, IfOk, OnOk};
 ghost use Rattle.sp_names.specs.declared.sort.DeclSort.TheVariants as sort_is;
-ghost use Rattle.sp_names.specs.Declarations.{all_of, type_tree_of};
+ghost use Rattle.sp_names.specs.Declarations.{all_of};
 ghost use Rattle.sp_names.specs.Names.{declaration_of};
 ghost use Rattle.sp_around.specs.Members.{unit_in};
 ghost use Rattle.sp_solver.specs.Told.{told};
 ghost use Rattle.sp_typed.specs.declared.words.Standing.TheVariants as standing_is;
-ghost use Rattle.sp_typing_heads.specs.Parameters.{parameters_in, with_parameters};
-ghost use Rattle.sp_typing_units.specs.Decorators.{with_self};
+ghost use Rattle.sp_surroundings.specs.Parameters.{parameters_in, with_parameters};
+ghost use Rattle.sp_surroundings.specs.Decorators.{with_self};
 ghost use Rattle.sp_list_context.specs.Contexts.{module_of, parameter_trees, parameters_of, all_parameters, homes, seeing, unit_types, being};
 ghost use Rattle.sp_list_context.specs.Holds.{here_told, seeing_told, unit_told};
 
 use crate::modules::{add_module, in_module, names_of, next};
-use sp_around::Here;
-use sp_ast::{DeclKind, DeclView, Ref, TypeKind, TypeView, UnitKind};
+use sp_around::{Here, unit_in};
+use sp_ast::{Ref, UnitKind};
 use sp_base::{NoMemory, or_drop};
 use sp_declared_values::Known;
 use sp_names::{Declaration, Names};
+use sp_surroundings::{Parameters, WithParameters, WithSelf, parameters_in};
 use sp_typed::Standing;
 use sp_typed_units::{Parameter, Row};
 use sp_types::{Type, Word};
 use sp_typing::Context;
-use sp_typing_heads::{Parameters, WithParameters, parameters_in};
-use sp_typing_units::WithSelf;
 use std::alloc::Global;
 
-fn unit_in_type<'a>(tree: &Ref<'a, TypeKind>) -> Option<Ref<'a, UnitKind>>
-    ensures some { IfSome result (λ u. unit_in tree.now ≡ u) }
-    ensures none { IfNone result (unit_in tree.now ≡ absent) }
-{
-    match tree.view() {
-        TypeView::Unit(unit) => Some(unit),
-        _ => None,
-    }
-}
-
-/// The unit that a declaration declares.
-fn unit_in<'a>(tree: &Ref<'a, DeclKind>) -> Option<Ref<'a, UnitKind>>
-    ensures some { IfSome result (λ u. unit_in (type_tree_of tree.now) ≡ u) }
-    ensures none { IfNone result (unit_in (type_tree_of tree.now) ≡ absent) }
-{
-    match tree.view() {
-        DeclView::Type { type_, .. } => unit_in_type(&type_),
-        _ => None,
-    }
-}
-
 /// The declaration of a number.
-fn declared<'n, 'a>(names: &'n Names<'a>, declaration: u32) -> Option<&'n Declaration<'a>>
+pub fn declared<'n, 'a>(names: &'n Names<'a>, declaration: u32) -> Option<&'n Declaration<'a>>
     ensures { option_copied result ≡ declaration_of names.now (Some declaration) }
 {
     names.rows().get(declaration as usize)

@@ -16,4 +16,3 @@ pub mod known_kinds_lemmas
 pub mod known_statements_lemmas
 pub mod field_places_lemmas
 pub mod passing_list_lemmas
-pub mod loaded_lists_lemmas

@@ -14,6 +14,5 @@ pub mod known_kinds
 pub mod known_statements
 pub mod field_places
 pub mod passing_list
-pub mod loaded_lists
 pub mod known_hooks
 pub mod known_units

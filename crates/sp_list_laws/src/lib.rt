@@ -17,7 +17,6 @@ mod known_statements;
 mod known_types;
 mod known_units;
 mod known_values;
-mod loaded_lists;
 mod made_nodes;
 mod passing_list;
 mod unbroken_list;
@@ -44,7 +43,6 @@ pub use known_statements::{locals_are_full, statements_pass, typing_makes_statem
 pub use known_types::{formed_is_expr, types_are_known, unbroken_is_clear, values_in_bodies};
 pub use known_units::units_are_known;
 pub use known_values::operators_are_told;
-pub use loaded_lists::loaded_lists_pass;
 pub use made_nodes::nodes_hold;
 pub use passing_list::{
     bodies_are_built, bodies_pass, constants_fit, lists_are_built, lists_pass, units_are_built,

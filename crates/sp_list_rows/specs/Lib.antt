@@ -1,3 +1,4 @@
 pub mod Aliases
 pub mod Bitfields
 pub mod Rows
+pub mod FunctionsAndOrders

@@ -31,7 +31,8 @@ use Rattle.sp_operands.specs.Operands.{unknown, is_unsigned}
 use Rattle.sp_operands.specs.Literals.{is_negative, number_of}
 use Rattle.sp_constants.specs.Known.{Known as Values}
 use Rattle.sp_body_rules.specs.Known.{Known}
-use Rattle.sp_body_rules.specs.Values.{at, is_regex, value_span, value_tests, right_tests, condition_tests, target_tests, written_tests}
+use Rattle.sp_body_rules.specs.Values.{is_regex, value_span, value_tests, right_tests, condition_tests, target_tests, written_tests}
+use Rattle.sp_rules.specs.Faults.{at}
 use Rattle.sp_body_rules.specs.ExprTests.{unlike, expr_tests, is_not_constant}
 use Rattle.sp_body_rules.specs.StmtTests.{stmt_tests, is_unit}
 use Rattle.sp_body_rules.specs.Sweeps.{end_tests}

@@ -26,13 +26,15 @@ use Rattle.sp_typing_units.specs.declared.roles.Kind.{Kind}
 use Rattle.sp_typing_units.specs.declared.roles.Kind.TheVariants as kind_is
 use Rattle.sp_typing_units.specs.declared.roles.Role.{Role}
 use Rattle.sp_typing_units.specs.declared.roles.Role.TheVariants as role_is
-use Rattle.sp_typing_units.specs.Roles.{role_of, grouped}
+use Rattle.sp_typing_units.specs.Roles.{role_of}
 use Rattle.sp_body_rules.specs.Known.{Known}
-use Rattle.sp_body_rules.specs.Values.{at, value_goes, value_span, value_tests, right_tests, condition_tests, written_tests}
+use Rattle.sp_body_rules.specs.Values.{value_goes, value_span, value_tests, right_tests, condition_tests, written_tests}
+use Rattle.sp_rules.specs.Faults.{at}
 use Rattle.sp_body_rules.specs.ExprTests.{call_tests}
 use Rattle.sp_body_rules.specs.StmtTests.{is_sink, case_tests}
 use Rattle.sp_list_rules.specs.Lists.{all_tests, option_tests}
 use Rattle.sp_list_rules.specs.Bodies.{inside_tests, constant_tests, is_enum_of}
+use Rattle.sp_typing_units.specs.Kinds.{kind_of}
 
 -- what can't be read, and a number that is to be matched, past the type that is written before it
 abbrev pub broken_tests : ℕ → ReadOp → List (Bool × Fault)
@@ -66,29 +68,6 @@ abbrev pub reads_void : Spec → Bool
 reads_void (read h) = is_void_op h.op
 reads_void (group_read span s l) = reads_void s
 reads_void _ = false
-
--- what is read, by the attributes that can stand on it
-abbrev pub token_kind : TokenOp → Kind
-token_kind (token_is.Number n) = kind_is.TypedLiteral
-token_kind _ = kind_is.Literal
-
-abbrev pub op_kind : ReadOp → Kind
-op_kind read_is.Int = kind_is.Integer
-op_kind (read_is.Bits n) = kind_is.Bitfield
-op_kind read_is.Bytes = kind_is.Bytes
-op_kind (read_is.Token token constant) = token_kind token
-op_kind read_is.Void = kind_is.Void
-op_kind (read_is.Broken w) = kind_is.Broken
-
-abbrev pub count_kind : Option Expr → Kind
-count_kind None = kind_is.Open
-count_kind (Some n) = kind_is.Counted
-
-abbrev pub kind_of : Spec → Kind
-kind_of (read h) = op_kind h.op
-kind_of (unit_read h es) = kind_is.Unit
-kind_of (list_read span s n) = count_kind n
-kind_of (group_read span s l) = grouped (kind_of s)
 
 -- values that are asked for: a number of bytes or elements, a truth, a plain value, bytes, a place in the input
 abbrev pub asked_tests : Known → ℕ → Bool → Expr → List (Bool × Fault)

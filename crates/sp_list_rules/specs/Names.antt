@@ -27,7 +27,7 @@ use Rattle.sp_typed_units.specs.declared.declarations.Constant.{Constant}
 use Rattle.sp_typed_units.specs.declared.declarations.Label.{Label}
 use Rattle.sp_typed_units.specs.declared.declarations.Enum.{Enum}
 use Rattle.sp_typed_units.specs.declared.declarations.Typed.{Typed}
-use Rattle.sp_body_rules.specs.Values.{at}
+use Rattle.sp_rules.specs.Faults.{at}
 use Rattle.sp_list_rules.specs.Lists.{all_tests, option_tests}
 
 -- a path of which an identifier names nothing

@@ -8,11 +8,9 @@ ghost use Rattle.sp_list_rules.specs.Fields.{asked_tests, amount_tests, truth_te
 use crate::inside::{note_constant_value, note_inside};
 use crate::units::is_enum_of;
 use sp_base::NoMemory;
-use sp_body_rules::{
-    Facts, is_bytes, note_at, note_condition, note_right, note_value, value_goes, value_span,
-};
-use sp_operands::is_integer;
-use sp_rules::{Fault, Rule};
+use sp_body_rules::{Facts, note_condition, note_right, note_value, value_goes, value_span};
+use sp_operands::{is_bytes, is_integer};
+use sp_rules::{Fault, Rule, note_at};
 use sp_typed::Expr;
 use sp_typed_units::Attribute;
 use sp_types::{Level, Type, Word};

@@ -8,11 +8,10 @@ use crate::functions::note_plain;
 use crate::inside::note_inside;
 use sp_base::NoMemory;
 use sp_body_rules::{
-    Facts, is_regex, is_unsigned, note_at, note_condition, note_target, note_value, note_written,
-    unlike, value_span,
+    Facts, is_regex, note_condition, note_target, note_value, note_written, unlike, value_span,
 };
-use sp_operands::{is_negative, number_of};
-use sp_rules::{Fault, Rule};
+use sp_operands::{is_negative, is_unsigned, number_of};
+use sp_rules::{Fault, Rule, note_at};
 use sp_typed::{Expr, ExprLevel, Written};
 use sp_typed_units::{Alias, Constant, ConstantValue, EndlessConversion, Enum, Label, LabelNumber};
 use sp_types::Type;

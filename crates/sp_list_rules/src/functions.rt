@@ -6,9 +6,9 @@ ghost use Rattle.sp_list_rules.specs.Bodies.{parameter_suits, parameter_tests, p
 
 use crate::inside::note_own_body;
 use sp_base::NoMemory;
-use sp_body_rules::{is_unit, note_at, note_end, note_written};
+use sp_body_rules::{is_unit, note_end, note_written};
 use sp_constants::Constants;
-use sp_rules::{Fault, Rule};
+use sp_rules::{Fault, Rule, note_at};
 use sp_typed::Written;
 use sp_typed_units::{Function, Parameter, Typed};
 use sp_types::Type;

@@ -9,9 +9,9 @@ ghost use Rattle.sp_list_rules.specs.Bodies.{inside_tests, body_tests, constant_
 use crate::slots::ForSlots;
 use crate::told::Told;
 use sp_base::NoMemory;
-use sp_body_rules::{Constancy, Facts, note_at, note_body, note_expr, note_right};
+use sp_body_rules::{Facts, is_not_constant, note_body, note_expr, note_right};
 use sp_constants::Constants;
-use sp_rules::{Fault, Rule};
+use sp_rules::{Fault, Rule, note_at};
 use sp_typed::{Expr, Stmt};
 use sp_typed_units::Typed;
 use sp_types::Type;
@@ -89,12 +89,6 @@ pub(crate) fn note_own_body<C: Constants>(
 {
     let slots = ForSlots::of(alloc, body)?;
     note_body_in(alloc, typed, constants, &slots, wanted, owner, body, least)
-}
-
-fn is_not_constant(constancy: Constancy) -> bool
-    ensures { result ≡ is_not_constant constancy }
-{
-    matches!(constancy, Constancy::NotConstant)
 }
 
 /// Notes what is wrong with a value that has to be constant, and whose type is right or not.

@@ -6,8 +6,7 @@ ghost use Rattle.sp_list_rules.specs.Names.{variable_names, sink_names, order_na
 
 use crate::part_names::{note_option_names, note_parts_names};
 use crate::stmt_names::{note_expr_names, note_stmt_names};
-use sp_body_rules::note_at;
-use sp_rules::{Fault, Rule};
+use sp_rules::{Fault, Rule, note_at};
 use sp_typed_units::{
     Constant, Enum, Function, Hook, HookOf, Label, OrderProperty, Sink, Typed, Unit, Variable,
 };

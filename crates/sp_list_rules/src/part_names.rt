@@ -7,8 +7,7 @@ ghost use Rattle.sp_list_rules.specs.Lists.{all_tests, option_tests};
 ghost use Rattle.sp_list_rules.specs.Names.{expr_names, attribute_names, spec_names, field_names, part_names, parts_names, arms_names};
 
 use crate::stmt_names::{note_expr_names, note_exprs_names};
-use sp_body_rules::note_at;
-use sp_rules::{Fault, Rule};
+use sp_rules::{Fault, Rule, note_at};
 use sp_typed::Expr;
 use sp_typed_units::{Arm, Attribute, Field, Part, PartNode, Spec, SpecNode};
 

@@ -9,13 +9,14 @@ ghost use Rattle.sp_list_rules.specs.Fields.{truth_tests, is_bytes_op, reads_byt
 
 use crate::attributes::{note_asked, note_attributes, note_truth};
 use crate::inside::note_inside;
-use crate::readings::{kind_of, note_spec};
+use crate::readings::note_spec;
 use sp_base::NoMemory;
-use sp_body_rules::{Facts, is_bytes, is_sink, note_at, note_case, note_value};
-use sp_operands::OperatorSort;
-use sp_rules::{Fault, Rule};
+use sp_body_rules::{Facts, is_sink, note_case, note_value};
+use sp_operands::{OperatorSort, is_bytes};
+use sp_rules::{Fault, Rule, note_at};
 use sp_typed::Expr;
 use sp_typed_units::{Arm, Field, Part, PartNode, ReadOp, Spec, SpecNode};
+use sp_typing_units::kind_of;
 use std::alloc::Global;
 
 fn is_bytes_op(op: &ReadOp) -> bool

@@ -1,23 +1,22 @@
 // The rules of bodies over how fields, elements and groups are read.
-ghost use Rattle.std.specs.Prelude.{◌≡◌, ◌-◌, ◌^◌, not, false, OnOk};
-ghost use Rattle.sp_numbers.specs.Numbers.{width_bits};
+ghost use Rattle.std.specs.Prelude.{◌≡◌, ◌-◌, false, OnOk};
 ghost use Rattle.sp_rules.specs.Least.{checked};
 ghost use Rattle.sp_typed.specs.Exprs.{exprs};
 ghost use Rattle.sp_operands.specs.Literals.{has_number, type_has};
-ghost use Rattle.sp_typing_units.specs.Roles.{grouped};
 ghost use Rattle.sp_typed_units.specs.Specs.{unit_read};
-ghost use Rattle.sp_list_rules.specs.Fields.{broken_tests, is_past_token, reads_past, reading_tests, spec_span, is_void_op, reads_void, token_kind, op_kind, count_kind, kind_of, exprs_inside, spec_tests};
+ghost use Rattle.sp_list_rules.specs.Fields.{broken_tests, is_past_token, reads_past, reading_tests, spec_span, is_void_op, reads_void, exprs_inside, spec_tests};
+ghost use Rattle.sp_typing_units.specs.Kinds.{kind_of};
 
 use crate::attributes::{note_attributes, note_count};
 use crate::inside::note_inside;
 use sp_base::{NoMemory, Span};
-use sp_body_rules::{Facts, note_at, note_call, note_written};
-use sp_numbers::Width;
-use sp_rules::{Fault, Rule};
+use sp_body_rules::{Facts, note_call, note_written};
+use sp_operands::past_signed;
+use sp_rules::{Fault, Rule, note_at};
 use sp_typed::{Expr, ManyOp, NewOf};
 use sp_typed_units::{ReadOp, Reading, Spec, SpecNode, TokenOp, UnitOf};
 use sp_types::{Level, Type, Word};
-use sp_typing_units::Kind;
+use sp_typing_units::kind_of;
 use std::alloc::Global;
 
 fn note_broken(owner: u32, op: &ReadOp, least: &mut Option<Fault>)
@@ -25,18 +24,6 @@ fn note_broken(owner: u32, op: &ReadOp, least: &mut Option<Fault>)
 {
     if let ReadOp::Broken(written) = op {
         note_written(owner, written, least);
-    }
-}
-
-/// The least number that is past a signed type of this width.
-fn past_signed(width: Width) -> u64
-    ensures { result ≡ 2 ^ (width_bits width - 1) }
-{
-    match width {
-        Width::W8 => 0x80,
-        Width::W16 => 0x8000,
-        Width::W32 => 0x8000_0000,
-        Width::W64 => 0x8000_0000_0000_0000,
     }
 }
 
@@ -111,61 +98,6 @@ fn reads_void(spec: &Spec) -> bool
         SpecNode::Read(head) => is_void_op(&head.op),
         SpecNode::Group(_, inner, _) => reads_void(inner),
         SpecNode::Unit(..) | SpecNode::List(..) => false,
-    }
-}
-
-fn token_kind(token: &TokenOp) -> Kind
-    ensures { result ≡ token_kind token.now }
-{
-    match token {
-        TokenOp::Number(_) => Kind::TypedLiteral,
-        TokenOp::Bytes(_) | TokenOp::Regex(_) => Kind::Literal,
-    }
-}
-
-fn op_kind(op: &ReadOp) -> Kind
-    ensures { result ≡ op_kind op.now }
-{
-    match op {
-        ReadOp::Int => Kind::Integer,
-        ReadOp::Bits(_) => Kind::Bitfield,
-        ReadOp::Bytes => Kind::Bytes,
-        ReadOp::Token(token, _) => token_kind(token),
-        ReadOp::Void => Kind::Void,
-        ReadOp::Broken(_) => Kind::Broken,
-    }
-}
-
-fn count_kind(count: &Option<Expr>) -> Kind
-    ensures { result ≡ count_kind count.now }
-{
-    match count {
-        None => Kind::Open,
-        Some(_) => Kind::Counted,
-    }
-}
-
-fn grouped(kind: Kind) -> Kind
-    ensures { result ≡ grouped kind }
-{
-    match kind {
-        Kind::Literal | Kind::TypedLiteral => Kind::Literal,
-        Kind::Void => Kind::Void,
-        Kind::Broken => Kind::Broken,
-        _ => Kind::Unit,
-    }
-}
-
-/// What is read, by the attributes that can stand on it.
-#[cycle(kinds)]
-pub(crate) fn kind_of(spec: &Spec) -> Kind
-    ensures { result ≡ kind_of spec.now }
-{
-    match spec.level() {
-        SpecNode::Read(head) => op_kind(&head.op),
-        SpecNode::Unit(..) => Kind::Unit,
-        SpecNode::List(_, _, count) => count_kind(count),
-        SpecNode::Group(_, inner, _) => grouped(kind_of(inner)),
     }
 }
 

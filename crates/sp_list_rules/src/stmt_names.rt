@@ -5,8 +5,7 @@ ghost use Rattle.sp_typed.specs.Exprs.{exprs};
 ghost use Rattle.sp_typed.specs.Stmts.{stmts, branch_row, case_row};
 ghost use Rattle.sp_list_rules.specs.Names.{leaf_names, expr_names, exprs_names, bare_names, valued_names, stmt_names, stmts_names, branches_names, cases_names};
 
-use sp_body_rules::note_at;
-use sp_rules::{Fault, Rule};
+use sp_rules::{Fault, Rule, note_at};
 use sp_typed::{BareOp, Expr, ExprLevel, LeafOp, Stmt, StmtNode, ValuedOp};
 
 fn note_leaf(owner: u32, op: &LeafOp, least: &mut Option<Fault>)

@@ -1,19 +1,10 @@
 // The bytes that the characters of a literal stand for.
-ghost use Rattle.std.specs.Prelude.{◌≡◌, ◌≤◌, ◌<◌, length, slice_index, IfOk};
+ghost use Rattle.std.specs.Prelude.{◌≡◌, ◌≤◌, ◌<◌, length, IfOk};
 ghost use Rattle.sp_literals.specs.Values.{hex_digit, escaped, char_value, char_size, decoded};
 
 use sp_base::{ByteList, NoMemory};
+use sp_lex::byte_at;
 use std::alloc::Global;
-
-/// The byte at a place; behind the end 0.
-fn byte_at(text: &[u8], at: usize) -> u8
-    ensures { result ≡ slice_index text.now at }
-{
-    match text.get(at) {
-        Some(byte) => *byte,
-        None => 0,
-    }
-}
 
 fn hex_digit(byte: u8) -> u8
     ensures value { result ≡ hex_digit byte }

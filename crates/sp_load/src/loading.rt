@@ -4,7 +4,7 @@ ghost use Rattle.sp_read_file.specs.Loads.{UnreadCause};
 ghost use Rattle.sp_front.specs.declared.entries.ModuleFile.{ModuleFile as File};
 ghost use Rattle.sp_front.specs.inside.Follow.{IsRefusedBy};
 ghost use Rattle.sp_load.specs.Loads.{sources_of, trees_of, IsLoaded, IsLoadRefused, IsVerdict};
-ghost use Rattle.sp_scope.specs.Rules.{IsTyped};
+ghost use Rattle.sp_checked_list.specs.NameRules.{IsTyped};
 
 use crate::loaded::{Loaded, parts_of};
 use crate::sources::refusal_of;

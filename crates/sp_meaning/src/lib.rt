@@ -3,4 +3,4 @@
 
 mod stand;
 
-pub use stand::Stand;
+pub use stand::{Stand, copy_of};

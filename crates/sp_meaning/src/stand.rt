@@ -24,7 +24,8 @@ impl Stand {
     }
 }
 
-fn copy_of(error: &ParseError) -> Result<ParseError, NoMemory>
+/// An equal error.
+pub fn copy_of(error: &ParseError) -> Result<ParseError, NoMemory>
     ensures { IfOk result (λ copy. copy ≡ error.now) }
 {
     let text = match &error.text {

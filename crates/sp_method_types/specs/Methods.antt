@@ -17,8 +17,8 @@ use Rattle.sp_typed.specs.declared.words.ManyOp.TheVariants as many_is
 use Rattle.sp_typed.specs.declared.words.LeafOp.TheVariants as leaf_is
 use Rattle.sp_typed.specs.Exprs.{Expr}
 use Rattle.sp_typing.specs.declared.context.Callable.{Callable}
-use Rattle.sp_operands.specs.Operands.{unknown, first_type}
-use Rattle.sp_typing.specs.Typing.{leaf_at, second_type}
+use Rattle.sp_operands.specs.Operands.{unknown, first_type, second_type}
+use Rattle.sp_typing.specs.Typing.{leaf_at}
 
 abbrev pub number : Ty
 number = word (word_is.Uint W64)

@@ -1,14 +1,15 @@
 // The methods of values: which there are, what they take and give, and what stands for arguments that are left out.
 ghost use Rattle.std.specs.Prelude.{◌≡◌, ◌∷◌, ◌++◌, [], slice_get, IfOk, OnOk};
 ghost use Rattle.sp_words.specs.declared.methods.Method.TheVariants as method_is;
-ghost use Rattle.sp_types.specs.Types.{tys, made};
+ghost use Rattle.sp_types.specs.Types.{made};
 ghost use Rattle.sp_types.specs.Types as types;
-ghost use Rattle.sp_operands.specs.Operands.{first_type};
-ghost use Rattle.sp_typing.specs.Typing.{leaf_at, second_type};
+ghost use Rattle.sp_operands.specs.Operands.{first_type, second_type};
+ghost use Rattle.sp_typing.specs.Typing.{leaf_at};
 ghost use Rattle.sp_method_types.specs.Methods.{told, is_order, begins_with_order, by_order, bytes_methods, text_methods, vector_methods, map_methods, are_two, get_method, write_method, library_method, element, mapped, method_gives, method_takes, unit_methods, unit_method_gives, unit_method_takes, sink_methods, sink_method_takes, library_call, unit_call, sink_call, method_of, left_out_of};
 
 use sp_base::{NoMemory, Span, or_drop};
 use sp_numbers::Width;
+use sp_operands::{first_type, second_type};
 use sp_typed::{Expr, Leaf, LeafOp, ManyOp, SinkMethod, UnitMethod};
 use sp_types::{Level, Maker, Type, Word};
 use sp_typing::Callable;
@@ -131,24 +132,6 @@ fn library_method(of: &Type, name: &str, arguments: &[Type]) -> Option<Method>
         Level::Made(Maker::Vector, _) => vector_method(name),
         Level::Made(Maker::Map, _) => map_method(name, arguments),
         _ => None,
-    }
-}
-
-fn first_type(parts: &[Type]) -> Result<Type, NoMemory>
-    ensures { IfOk result (λ t. t ≡ first_type (tys parts.now)) }
-{
-    match parts.first() {
-        Some(first) => first.copy(),
-        None => Ok(Type::word(Word::Unknown)),
-    }
-}
-
-fn second_type(parts: &[Type]) -> Result<Type, NoMemory>
-    ensures { IfOk result (λ t. t ≡ second_type (tys parts.now)) }
-{
-    match parts.split_first() {
-        Some((_, others)) => first_type(others),
-        None => Ok(Type::word(Word::Unknown)),
     }
 }
 

@@ -5,7 +5,7 @@ ghost use Rattle.sp_ast.specs.Trees.{absent, span_of, trees};
 ghost use Rattle.sp_rules.specs.Least.{checked};
 ghost use Rattle.sp_solver.specs.Told.{told};
 ghost use Rattle.sp_names.specs.Declarations.{name_of};
-ghost use Rattle.sp_names.specs.Tables.{told_by};
+ghost use Rattle.sp_name_tables.specs.Tables.{told_by};
 ghost use Rattle.sp_names.specs.Faults.{nothing_fault, path_parts, path_faults, name_part, name_fault, with_name, repeated, first_row, second_row, twice_faults, faults_in, faults_among, is_reserved, is_later, module_faults, module_name_tree, name_faults, IsSeen};
 
 use sp_ast::{
@@ -13,7 +13,8 @@ use sp_ast::{
     TypeKind, TypeView,
 };
 use sp_base::{NoMemory, Span};
-use sp_names::{Meaning, NameTable, Names, look_up, name_of, note_name, number};
+use sp_name_tables::{NameTable, look_up, number};
+use sp_names::{Meaning, Names, is_reserved, name_of, note_name};
 use sp_rules::{Fault, Rule, note, note_if};
 use sp_types::Type;
 use std::alloc::Global;
@@ -195,12 +196,6 @@ fn note_twice(
         ) => note_second_row(alloc, owner, parts, least),
         _ => Ok(()),
     }
-}
-
-fn is_reserved(name: &str) -> bool
-    ensures { result ≡ is_reserved name.now }
-{
-    name == "spicy" || name == "filter"
 }
 
 fn is_later(first: Option<u32>, owner: u32) -> bool

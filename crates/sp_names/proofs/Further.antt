@@ -9,7 +9,8 @@ use Rattle.sp_names.specs.declared.sort.DeclSort.TheVariants as sort_is
 use Rattle.sp_names.specs.declared.table.ModuleNames.{ModuleNames}
 use Rattle.sp_names.specs.Declarations.{rows_of, rows_from, base, tree_or, module_at, module_declarations, is_sort, sort_of, all_from, number_in, sort_or, library_enums}
 use Rattle.sp_names.specs.Names.{first_named, declared_name, import_name}
-use Rattle.sp_names.specs.Tables.{told_by, IsTable, IsOf, IsNumber, AreSorted, grown, grown_by, number_by}
+use Rattle.sp_names.specs.Tables.{IsTable, IsOf, IsNumber, AreSorted, grown, grown_by, number_by}
+use Rattle.sp_name_tables.specs.Tables.{told_by}
 use Rattle.sp_names.proofs.Lists.{here}
 
 length_rows_of : (m : ℕ) (ds : List Tree) → length (rows_of m ds) ≡ length ds

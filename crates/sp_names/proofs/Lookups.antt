@@ -6,10 +6,11 @@ use Rattle.sp_ast.specs.Trees.{Tree}
 use Rattle.sp_names.specs.declared.rows.Declaration.{Declaration}
 use Rattle.sp_names.specs.declared.sort.DeclSort.TheVariants as sort_is
 use Rattle.sp_names.specs.declared.table.ModuleNames.{ModuleNames}
-use Rattle.sp_names.specs.declared.table.NameTable.{NameTable}
+use Rattle.sp_name_tables.specs.declared.tables.NameTable.{NameTable}
 use Rattle.sp_names.specs.Declarations.{rows, all_of, base, tree_or, module_declarations, library_enums}
 use Rattle.sp_names.specs.Names.{first_named, declared_name, import_name, label_name, declared, is_imported, declaration_of, own_labels, labels_of, label_in, place_among, library_labels}
-use Rattle.sp_names.specs.Tables.{Each, told_by, IsOf, IsLabels, declaration_in}
+use Rattle.sp_names.specs.Tables.{Each, IsOf, IsLabels, declaration_in}
+use Rattle.sp_name_tables.specs.Tables.{told_by}
 use Rattle.sp_names.proofs.Lists.{here}
 
 none_some : {A : Type 0} (a : A) → None ≡ Some a → ⊥

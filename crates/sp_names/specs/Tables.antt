@@ -1,11 +1,12 @@
 -- What tables of names hold.
 use Rattle.std.specs.Prelude.{ℕ, ◌≡◌, ◌+◌, ◌==◌, nat_eq, length, Bool, true, false, is_some, if◌then◌else◌, List, [], ◌∷◌, ◌++◌, Option, Some, None, slice_get}
-use Rattle.indexmap.specs.IndexMap.{get, get_by_text}
+use Rattle.indexmap.specs.IndexMap.{get}
 use Rattle.sp_ast.specs.Trees.{Tree}
 use Rattle.sp_names.specs.declared.rows.Declaration.{Declaration}
 use Rattle.sp_names.specs.declared.sort.DeclSort.{DeclSort}
 use Rattle.sp_names.specs.declared.sort.DeclSort.TheVariants as sort_is
-use Rattle.sp_names.specs.declared.table.NameTable.{NameTable}
+use Rattle.sp_name_tables.specs.declared.tables.NameTable.{NameTable}
+use Rattle.sp_name_tables.specs.Tables.{told_by}
 use Rattle.sp_names.specs.declared.table.ModuleNames.{ModuleNames}
 use Rattle.sp_names.specs.declared.passes.Sorted.{Sorted}
 use Rattle.sp_names.specs.declared.rows.Bitfield.{Bitfield}
@@ -13,10 +14,6 @@ use Rattle.sp_names.specs.declared.bitfields.PlaceTable.{PlaceTable}
 use Rattle.sp_names.specs.Types.{bitfields, bitfield_number, first_placed}
 use Rattle.sp_names.specs.Declarations.{rows, library_enums, sort_number, all_from, number_in, sort_or}
 use Rattle.sp_names.specs.Names.{is_name, first_named, declared, is_imported, label_name, name_of_module, labels_of}
-
--- what a table tells of a name
-abbrev pub told_by : NameTable → List ℕ → Option ℕ
-told_by table x = get_by_text table.first x
 
 -- the first of two answers that is there
 abbrev pub earlier : Option ℕ → Option ℕ → Option ℕ

@@ -1,7 +1,6 @@
 -- The types that are written: what each is in its module, and which declarations it names.
 use Rattle.std.specs.Prelude.{ℕ, ◌==◌, suc, Bool, ◌&&◌, if◌then◌else◌, List, [], ◌∷◌, ◌++◌, take, length, Option, Some, None, slice_get}
 use Rattle.sp_base.specs.declared.places.Span.{Span}
-use Rattle.sp_words.specs.declared.words.IntWord.{IntWord}
 use Rattle.sp_words.specs.declared.words.IntWord.TheVariants as int
 use Rattle.sp_numbers.specs.declared.width.Width.TheVariants as width
 use Rattle.sp_ast.specs.Trees.{Tree, Trees, absent, row, node, none, more, span_of}
@@ -10,7 +9,6 @@ use Rattle.sp_ast.specs.declared.forms.Form.TheVariants as form_is
 use Rattle.sp_ast.specs.declared.forms.TypeForm.TheVariants as type_is
 use Rattle.sp_types.specs.Types.{Ty, Tys, word, made, is_key, is_plain, are_plain}
 use Rattle.sp_types.specs.Types as types
-use Rattle.sp_types.specs.declared.words.Word.{Word}
 use Rattle.sp_types.specs.declared.words.Word.TheVariants as word_is
 use Rattle.sp_types.specs.declared.words.Maker.{Maker}
 use Rattle.sp_types.specs.declared.words.Maker.TheVariants as maker_is
@@ -21,6 +19,7 @@ use Rattle.sp_names.specs.declared.sort.Meaning.TheVariants as meaning_is
 use Rattle.sp_names.specs.declared.rows.Bitfield.{Bitfield}
 use Rattle.sp_names.specs.Declarations.{module_at}
 use Rattle.sp_names.specs.Names.{declared, visible, path_names, path_means}
+use Rattle.sp_types.specs.Integers.{int_word}
 
 -- a tree where it is the type of a bitfield
 abbrev pub if_bitfield : Tree → List Tree
@@ -62,17 +61,6 @@ first_placed p k (t ∷ ts) = if (span_of t).from == p then Some k else first_pl
 -- the number of the bitfield that begins at a place of a module
 abbrev pub bitfield_number : List Tree → ℕ → ℕ → Option ℕ
 bitfield_number list m p = first_placed p (length (bitfields (take m list))) (bitfields_in (module_at list m))
-
--- the type that is a word of integers
-abbrev pub int_word : IntWord → Word
-int_word int.Uint8 = word_is.Uint width.W8
-int_word int.Uint16 = word_is.Uint width.W16
-int_word int.Uint32 = word_is.Uint width.W32
-int_word int.Uint64 = word_is.Uint width.W64
-int_word int.Int8 = word_is.Int width.W8
-int_word int.Int16 = word_is.Int width.W16
-int_word int.Int32 = word_is.Int width.W32
-int_word int.Int64 = word_is.Int width.W64
 
 abbrev pub unknown : Ty
 unknown = word word_is.Unknown

@@ -4,11 +4,11 @@ ghost use Rattle.sp_ast.specs.Trees.{trees};
 ghost use Rattle.sp_names.specs.Types.{if_bitfield, bitfields, bitfields_of, bitfields_in, bitfields_among};
 ghost use Rattle.sp_names.specs.Tables.{ArePlaced, Each, IsPlaced, IsPlaces, placed_by, trees_of};
 
-use crate::passes::number;
 use crate::rows::Bitfield;
 use indexmap::IndexMap;
 use sp_ast::{Form, Level, Module, Parts, Ref, TreeRef, TypeForm};
 use sp_base::NoMemory;
+use sp_name_tables::number;
 use std::alloc::Global;
 
 /// The number of the first bitfield whose type begins at each place of a module's text.

@@ -12,8 +12,8 @@ mod tell;
 mod types;
 
 pub use names::Names;
-pub use passes::{LIBRARY_ENUMS, number};
+pub use passes::LIBRARY_ENUMS;
 pub use rows::{Bitfield, Declaration};
 pub use sort::{DeclSort, Meaning, Scope};
-pub use table::{NameTable, look_up, note_name};
-pub use tell::{name_of, sort_of};
+pub use table::note_name;
+pub use tell::{declarations_of, is_reserved, labels_of, name_of, sort_of};

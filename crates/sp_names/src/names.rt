@@ -1,6 +1,6 @@
 // The names of a list of modules.
 ghost use Rattle.std.specs.Prelude.{◌≡◌, IfOk, slice_get};
-ghost use Rattle.sp_names.specs.Declarations.{rows, all_of, sort_at, number_at};
+ghost use Rattle.sp_names.specs.Declarations.{rows, all_of, sort_at, number_at, module_name, module_at};
 ghost use Rattle.sp_names.specs.declared.sort.DeclSort.TheVariants as sort_is;
 ghost use Rattle.sp_names.specs.Names.{byte_orders, bit_orders, charsets, strategies, library_names, library_labels, place_among, module_named, declared, is_imported, imported_scope, visible, label_in, named_in, own_name, is_name};
 ghost use Rattle.sp_names.specs.Types.{bitfields, bitfield_number};
@@ -9,10 +9,11 @@ use crate::bitfields::{PlaceTable, all_bitfields, number_at};
 use crate::passes::{LIBRARY_ENUMS, Sorted, all_labels, all_names, all_rows, all_sorted};
 use crate::rows::{Bitfield, Declaration};
 use crate::sort::{DeclSort, Meaning, Scope};
-use crate::table::{ModuleNames, NameTable, look_up, module_table};
+use crate::table::{ModuleNames, module_table};
 use crate::tell::{name_of, sort_of};
 use sp_ast::Module;
 use sp_base::NoMemory;
+use sp_name_tables::{NameTable, look_up};
 use std::alloc::Global;
 use std::marker::Model;
 
@@ -160,6 +161,16 @@ impl<'a> Names<'a> {
         ensures { result.now ≡ self.now }
     {
         self.modules
+    }
+
+    /// The name of the module of a number; of none it is empty.
+    pub fn module_name(&self, number: u32) -> &'a str
+        ensures { result.now ≡ module_name (module_at self.now number) }
+    {
+        match self.modules.get(number as usize) {
+            Some(whole) => name_of(whole),
+            None => "",
+        }
     }
 
     /// All declarations, in the order of their numbers.

@@ -3,25 +3,20 @@ ghost use Rattle.std.specs.Prelude.{◌≡◌, ◌++◌, true, length, slice_get
 ghost use Rattle.sp_names.specs.Declarations.{rows, rows_of};
 ghost use Rattle.sp_names.specs.Names.{label_name, labels_of};
 ghost use Rattle.sp_names.specs.declared.sort.DeclSort.TheVariants as sort_is;
-ghost use Rattle.sp_names.specs.Tables.{Each, IsOf, IsLabels, IsNumber, IsTable, AreSorted, grown, grown_by, number_by, told_by};
+ghost use Rattle.sp_names.specs.Tables.{Each, IsOf, IsLabels, IsNumber, IsTable, AreSorted, grown, grown_by, number_by};
+ghost use Rattle.sp_name_tables.specs.Tables.{told_by};
 
 use crate::rows::Declaration;
 use crate::sort::DeclSort;
-use crate::table::{ModuleNames, NameTable, label_table, module_names, sum};
+use crate::table::{ModuleNames, label_table, module_names};
 use crate::tell::{declarations_of, labels_of, sort_of};
 use sp_ast::{DeclKind, Members, Module};
 use sp_base::NoMemory;
+use sp_name_tables::{NameTable, number, sum};
 use std::alloc::Global;
 
 /// How many enums the library has. Their numbers are the first.
 pub const LIBRARY_ENUMS: u32 = 4;
-
-/// A count as a number.
-pub fn number(count: usize) -> Result<u32, NoMemory>
-    ensures { IfOk result (λ n. n ≡ count) }
-{
-    u32::try_from(count).map_err(|_| NoMemory)
-}
 
 fn add_rows<'a>(
     rows: &mut Vec<Declaration<'a>>,

@@ -1,31 +1,14 @@
 // Tables of names: the number of the first tree that gives each.
-ghost use Rattle.std.specs.Prelude.{◌≡◌, ◌+◌, ℕ, List, Some, None, cond, is_some, option_copied, IfOk, OnOk};
-ghost use Rattle.std.specs.Str.{bytes_eq};
+ghost use Rattle.std.specs.Prelude.{Some, None, option_copied, IfOk, OnOk};
 ghost use Rattle.sp_names.specs.Names.{declared_name, import_name, label_name, name_of_module};
-ghost use Rattle.sp_names.specs.Tables.{IsNoted, IsTable, told_by};
+ghost use Rattle.sp_names.specs.Tables.{IsNoted, IsTable};
+ghost use Rattle.sp_name_tables.specs.Tables.{told_by};
 
 use crate::tell::{declared_name, import_name, label_name, name_of};
-use indexmap::IndexMap;
 use sp_ast::{DeclKind, LabelKind, Members, Module};
 use sp_base::NoMemory;
+use sp_name_tables::{NameTable, declare, sum};
 use std::alloc::Global;
-
-/// The number of the first tree that gives each name.
-#[derive(Drop)]
-pub struct NameTable {
-    first: IndexMap<String, u32>,
-}
-
-impl NameTable {
-    /// A table without names.
-    pub fn new(alloc: Global) -> NameTable
-        ensures { (x : List ℕ) → told_by result x ≡ None }
-    {
-        NameTable {
-            first: IndexMap::new(alloc),
-        }
-    }
-}
 
 /// The names of one module.
 #[derive(Drop)]
@@ -34,33 +17,6 @@ pub(crate) struct ModuleNames {
     pub(crate) declared: NameTable,
     /// The number of the first import of each name.
     pub(crate) imported: NameTable,
-}
-
-/// The sum of two numbers. Lists of more trees than numbers don't fit into memory.
-pub(crate) fn sum(a: u32, b: u32) -> Result<u32, NoMemory>
-    ensures { IfOk result (λ n. n ≡ a + b) }
-{
-    a.checked_add(b).ok_or(NoMemory)
-}
-
-/// The number of a name.
-pub fn look_up(table: &NameTable, name: &str) -> Option<u32>
-    ensures { result ≡ told_by table.now name.now }
-{
-    table.first.get(name).copied()
-}
-
-/// Notes the number of a name, unless it has one.
-fn declare(alloc: Global, table: &mut NameTable, name: &str, number: u32) -> Result<(), NoMemory>
-    ensures { OnOk result ((x : List ℕ) → told_by table.new x
-        ≡ cond (is_some (told_by table.old name.now)) (told_by table.old x)
-        (cond (bytes_eq x name.now) (Some number) (told_by table.old x))) }
-{
-    if look_up(table, name).is_some() {
-        return Ok(());
-    }
-    table.first.insert(String::from_str(alloc, name)?, number)?;
-    Ok(())
 }
 
 /// The numbers of modules, from 0, by their names.

@@ -1,6 +1,7 @@
 // What declarations tell: which name they give, and what they declare.
 ghost use Rattle.std.specs.Prelude.{◌≡◌, [], option_copied, IfSome, IfNone};
 ghost use Rattle.sp_names.specs.Declarations.{sort_of, type_sort, type_tree_of, module_name, module_declarations};
+ghost use Rattle.sp_names.specs.Faults.{is_reserved};
 ghost use Rattle.sp_names.specs.Names.{declared_name, import_name, label_name, enum_labels};
 
 use crate::sort::DeclSort;
@@ -60,7 +61,7 @@ pub fn sort_of(tree: &Ref<'_, DeclKind>) -> DeclSort
 }
 
 /// The declarations of a module.
-pub(crate) fn declarations_of(whole: &Module) -> Members<'_, DeclKind>
+pub fn declarations_of(whole: &Module) -> Members<'_, DeclKind>
     ensures { result ≡ module_declarations whole.now }
 {
     whole.root().view().declarations
@@ -85,7 +86,7 @@ fn labels_in<'a>(tree: &Ref<'a, TypeKind>) -> Option<Members<'a, LabelKind>>
 }
 
 /// The labels of a declaration of an enum.
-pub(crate) fn labels_of<'a>(tree: &Ref<'a, DeclKind>) -> Option<Members<'a, LabelKind>>
+pub fn labels_of<'a>(tree: &Ref<'a, DeclKind>) -> Option<Members<'a, LabelKind>>
     ensures some { IfSome result (λ ls. enum_labels (type_tree_of tree.now) ≡ ls) }
     ensures none { IfNone result (enum_labels (type_tree_of tree.now) ≡ []) }
 {
@@ -93,4 +94,11 @@ pub(crate) fn labels_of<'a>(tree: &Ref<'a, DeclKind>) -> Option<Members<'a, Labe
         DeclView::Type { type_, .. } => labels_in(&type_),
         _ => None,
     }
+}
+
+/// Whether the library has a module of the name.
+pub fn is_reserved(name: &str) -> bool
+    ensures { result ≡ is_reserved name.now }
+{
+    name == "spicy" || name == "filter"
 }

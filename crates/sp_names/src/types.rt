@@ -4,31 +4,15 @@ ghost use Rattle.sp_ast.specs.Trees.{trees};
 ghost use Rattle.sp_types.specs.Types.{tys, made, none, more};
 ghost use Rattle.sp_types.specs.declared.words.Maker.TheVariants as maker_is;
 ghost use Rattle.sp_solver.specs.Told.{told};
-ghost use Rattle.sp_names.specs.Types.{int_word, or_unknown, meaning_type, bitfield_word, whole_type, plain_or_unknown, type_in, types_in};
+ghost use Rattle.sp_names.specs.Types.{or_unknown, meaning_type, bitfield_word, whole_type, plain_or_unknown, type_in, types_in};
+ghost use Rattle.sp_types.specs.Integers.{int_word};
 
 use crate::names::Names;
 use crate::sort::Meaning;
 use sp_ast::{Members, Ref, TypeKind, TypeView};
 use sp_base::{NoMemory, or_drop};
-use sp_numbers::Width;
-use sp_types::{Maker, Type, Word};
-use sp_words::IntWord;
+use sp_types::{Maker, Type, Word, int_word};
 use std::alloc::Global;
-
-fn int_word(word: IntWord) -> Word
-    ensures { result ≡ int_word word }
-{
-    match word {
-        IntWord::Uint8 => Word::Uint(Width::W8),
-        IntWord::Uint16 => Word::Uint(Width::W16),
-        IntWord::Uint32 => Word::Uint(Width::W32),
-        IntWord::Uint64 => Word::Uint(Width::W64),
-        IntWord::Int8 => Word::Int(Width::W8),
-        IntWord::Int16 => Word::Int(Width::W16),
-        IntWord::Int32 => Word::Int(Width::W32),
-        IntWord::Int64 => Word::Int(Width::W64),
-    }
-}
 
 /// The type of a declaration; `Unknown` where it has no answer.
 fn known_type(known: &[Option<Type>], declaration: u32) -> Result<Type, NoMemory>

@@ -59,6 +59,11 @@ abbrev pub first_type : Tys → Ty
 first_type none = unknown
 first_type (more t ts) = t
 
+-- an element of a vector, the value of a key of a map, the key of a set, and a member of a tuple at a constant place
+abbrev pub second_type : Tys → Ty
+second_type (more s ts) = first_type ts
+second_type none = unknown
+
 -- the type of the keys of a set or a map, and unknown where it is neither
 abbrev pub key_of : Ty → Ty
 key_of (made maker_is.Set ts) = first_type ts

@@ -61,7 +61,7 @@ pub fn taken(to: &Type, e: Expr) -> Expr
 }
 
 /// The least number that is past a signed type of this width.
-fn past_signed(width: Width) -> u64
+pub fn past_signed(width: Width) -> u64
     ensures { result ≡ 2 ^ (width_bits width - 1) }
 {
     match width {

@@ -2,7 +2,7 @@
 ghost use Rattle.std.specs.Prelude.{◌≡◌, ◌&&◌, IfOk};
 ghost use Rattle.sp_types.specs.Types.{tys};
 ghost use Rattle.sp_operands.specs.declared.operators.OperatorSort.TheVariants as takes;
-ghost use Rattle.sp_operands.specs.Operands.{sort_of, stands_before, stands_behind, agree, result_type, stands_alone, unary_type, has_size, can_cast, of_one_sign, is_valueless, is_unsigned, is_signed, is_integer, is_boolean, is_bytes, is_text, is_iterator, is_enum, has_keys, key_of, first_type, wider_type, sum_type};
+ghost use Rattle.sp_operands.specs.Operands.{sort_of, stands_before, stands_behind, agree, result_type, stands_alone, unary_type, has_size, can_cast, of_one_sign, is_valueless, is_unsigned, is_signed, is_integer, is_boolean, is_bytes, is_text, is_iterator, is_enum, has_keys, key_of, first_type, wider_type, sum_type, second_type};
 
 use sp_base::NoMemory;
 use sp_types::{Level, Maker, Type, Word, wider};
@@ -30,19 +30,21 @@ pub enum OperatorSort {
 }
 
 /// Whether a type is that of what is no value.
-pub(crate) fn is_valueless(t: &Type) -> bool
+pub fn is_valueless(t: &Type) -> bool
     ensures { result ≡ is_valueless t.now }
 {
     matches!(t.level(), Level::Word(Word::Void | Word::Regex | Word::New))
 }
 
-fn is_unsigned(t: &Type) -> bool
+/// Whether a type is that of unsigned integers.
+pub fn is_unsigned(t: &Type) -> bool
     ensures { result ≡ is_unsigned t.now }
 {
     matches!(t.level(), Level::Word(Word::Uint(_)))
 }
 
-fn is_signed(t: &Type) -> bool
+/// Whether a type is that of signed integers.
+pub fn is_signed(t: &Type) -> bool
     ensures { result ≡ is_signed t.now }
 {
     matches!(t.level(), Level::Word(Word::Int(_)))
@@ -55,19 +57,22 @@ pub fn is_integer(t: &Type) -> bool
     is_unsigned(t) || is_signed(t)
 }
 
-fn is_boolean(t: &Type) -> bool
+/// Whether a type is that of truth values.
+pub fn is_boolean(t: &Type) -> bool
     ensures { result ≡ is_boolean t.now }
 {
     matches!(t.level(), Level::Word(Word::Bool))
 }
 
-fn is_bytes(t: &Type) -> bool
+/// Whether a type is that of bytes.
+pub fn is_bytes(t: &Type) -> bool
     ensures { result ≡ is_bytes t.now }
 {
     matches!(t.level(), Level::Word(Word::Bytes))
 }
 
-fn is_text(t: &Type) -> bool
+/// Whether a type is that of text.
+pub fn is_text(t: &Type) -> bool
     ensures { result ≡ is_text t.now }
 {
     matches!(t.level(), Level::Word(Word::String))
@@ -79,7 +84,8 @@ fn is_iterator(t: &Type) -> bool
     matches!(t.level(), Level::Word(Word::Iterator))
 }
 
-fn is_enum(t: &Type) -> bool
+/// Whether a type is that of an enum.
+pub fn is_enum(t: &Type) -> bool
     ensures { result ≡ is_enum t.now }
 {
     matches!(t.level(), Level::Word(Word::Enum(_)))
@@ -203,6 +209,16 @@ pub fn first_type(parts: &[Type]) -> Result<Type, NoMemory>
 {
     match parts.first() {
         Some(first) => first.copy(),
+        None => Ok(Type::word(Word::Unknown)),
+    }
+}
+
+/// The second of some types.
+pub fn second_type(parts: &[Type]) -> Result<Type, NoMemory>
+    ensures { IfOk result (λ t. t ≡ second_type (tys parts.now)) }
+{
+    match parts.split_first() {
+        Some((_, others)) => first_type(others),
         None => Ok(Type::word(Word::Unknown)),
     }
 }

@@ -1,6 +1,7 @@
 // Broken rules, and the least of them.
 ghost use Rattle.std.specs.Prelude.{◌≡◌, if◌then◌else◌};
 ghost use Rattle.sp_rules.specs.Rules.{diag_of, rule_number};
+ghost use Rattle.sp_rules.specs.Faults.{at};
 ghost use Rattle.sp_rules.specs.Least.{precedes, better};
 
 use crate::rule::Rule;
@@ -66,4 +67,16 @@ pub fn note_if(test: bool, least: &mut Option<Fault>, fault: Fault)
     if test {
         note(least, fault);
     }
+}
+
+/// Notes a rule that is broken where the test holds, on a slice of the text of a module.
+pub fn note_at(test: bool, owner: u32, rule: Rule, span: Span, least: &mut Option<Fault>)
+    ensures { least.new ≡ (if test then better least.old (at owner rule span) else least.old) }
+{
+    let fault = Fault {
+        rule,
+        module: owner,
+        span,
+    };
+    note_if(test, least, fault);
 }

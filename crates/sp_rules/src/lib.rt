@@ -6,6 +6,6 @@ mod fault;
 mod laws;
 mod rule;
 
-pub use fault::{Fault, note, note_if};
+pub use fault::{Fault, note, note_at, note_if};
 pub use laws::{least_of_checked, least_of_groups, least_of_noted};
 pub use rule::{Rule, RuleGroup};

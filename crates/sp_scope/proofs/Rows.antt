@@ -12,8 +12,8 @@ use Rattle.sp_hook_rows.specs.declared.sites.Site.{Site}
 use Rattle.sp_hook_rows.specs.declared.rows.HookRow.{HookRow}
 use Rattle.sp_hook_rows.specs.Sites.{sites}
 use Rattle.sp_hook_rows.specs.HookRows.{rows_of, hook_rows}
-use Rattle.sp_typed_list.specs.Lists.{list_in, typed_list}
-use Rattle.sp_scope.specs.Rules.{tests_at, tests_of}
+use Rattle.sp_checked_list.specs.Lists.{list_in, typed_list}
+use Rattle.sp_checked_list.specs.NameRules.{tests_at, tests_of}
 
 module _ (list : List Tree) (f : ℕ → Option Ty) (known : ℕ → Option Answer) (stored : List (Option Ty)) where
   list_same : (ss : List Site) (rs : List HookRow) → ss ≡ sites list → rs ≡ rows_of list f ss → list_in list f known stored ss rs ≡ typed_list list f known stored

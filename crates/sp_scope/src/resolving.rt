@@ -7,9 +7,10 @@ ghost use Rattle.sp_hook_rows.specs.Sites.{sites};
 ghost use Rattle.sp_hook_rows.specs.HookRows.{rows_of};
 ghost use Rattle.sp_around.specs.Sources.{questions};
 ghost use Rattle.sp_stored_types.specs.Tries.{AreStored};
-ghost use Rattle.sp_typed_list.specs.Lists.{list_in, typed_list};
-ghost use Rattle.sp_typed_list.specs.Settled.{AreValued, first_contexts, worth};
-ghost use Rattle.sp_scope.specs.Rules.{IsTyped, IsAnswered, tests_at, tests_of, BreaksName, IsRefused};
+ghost use Rattle.sp_checked_list.specs.Lists.{list_in, typed_list};
+ghost use Rattle.sp_checked_list.specs.Settled.{AreValued, first_contexts, worth};
+ghost use Rattle.sp_checked_list.specs.NameRules.{IsTyped, IsAnswered, tests_at, tests_of, BreaksName};
+ghost use Rattle.sp_scope.specs.Refusals.{IsRefused};
 
 use crate::fault::CheckFault;
 use crate::kept_values::kept;

@@ -1,5 +1,5 @@
 // How a unit ends, as it is told.
-ghost use Rattle.std.specs.Prelude.{◌≡◌, IfOk};
+ghost use Rattle.std.specs.Prelude.{IfOk};
 ghost use Rattle.sp_code.specs.Programs.{names_of};
 ghost use Rattle.sp_session.specs.Telling.{IsOfFiber};
 
@@ -7,6 +7,7 @@ use sp_base::{NoMemory, ParseError};
 use sp_code::Program;
 use sp_events::Tree;
 use sp_fiber::{Fiber, Stand};
+use sp_meaning::copy_of;
 use sp_tell::value_tree;
 use std::alloc::Global;
 
@@ -19,21 +20,6 @@ pub enum Ending {
     Gives(Tree),
     /// It failed.
     Fails(ParseError),
-}
-
-/// An equal error.
-pub(crate) fn copy_of(error: &ParseError) -> Result<ParseError, NoMemory>
-    ensures { IfOk result (λ copy. copy ≡ error.now) }
-{
-    let text = match &error.text {
-        Some(text) => Some(text.copy()?),
-        None => None,
-    };
-    Ok(ParseError {
-        kind: error.kind,
-        offset: error.offset,
-        text,
-    })
 }
 
 /// How the unit of a fiber ends.

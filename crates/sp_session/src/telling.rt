@@ -5,12 +5,12 @@ ghost use Rattle.sp_meaning.specs.Meaning.{told};
 ghost use Rattle.sp_session.specs.Units.{of_flow};
 ghost use Rattle.sp_session.specs.Telling.{last_by, stand_by, IsFront, IsToldOn, IsToldInPart};
 
-use crate::ending::{Ending, copy_of, ending_of};
+use crate::ending::{Ending, ending_of};
 use sp_base::NoMemory;
 use sp_code::Program;
 use sp_events::{Event, Events, Path, What};
 use sp_fiber::Fiber;
-use sp_meaning::Stand;
+use sp_meaning::{Stand, copy_of};
 use std::alloc::Global;
 
 /// Appends an event of the flow itself, or changes nothing.

@@ -9,7 +9,8 @@ use Rattle.sp_stored_types.specs.declared.tables.SourceTable.{SourceTable}
 use Rattle.sp_ast.specs.Trees.{Tree, trees}
 use Rattle.std.proofs.lemmas.Slice.Eq.{bytes_eq-Decides}
 use Rattle.sp_around.specs.Sources.{Named, has_name, firsts, numbered, sources_of, declared_in, declared_among}
-use Rattle.sp_stored_types.specs.inside.Tables.{joined, all_joined, Holds, Joins, LeadsOn, told_by}
+use Rattle.sp_stored_types.specs.inside.Tables.{joined, all_joined, Holds, Joins, LeadsOn}
+use Rattle.sp_name_tables.specs.Tables.{told_by}
 
 pub bytes_decide : (x y : List ℕ) → bytes_eq x y ≡ true → x ≡ y
 bytes_decide x y e = (bytes_eq-Decides x y).0 e

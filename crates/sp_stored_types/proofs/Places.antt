@@ -12,7 +12,7 @@ use Rattle.sp_typed.specs.declared.words.Standing.TheVariants as standing_is
 use Rattle.sp_typing.specs.Contexts.{Around}
 use Rattle.sp_operands.specs.Operands.{unknown}
 use Rattle.sp_typing_units.specs.Values.{Values}
-use Rattle.sp_typing_units.specs.Decorators.{with_self}
+use Rattle.sp_surroundings.specs.Decorators.{with_self}
 use Rattle.sp_solver.specs.declared.attempt.Attempt.{Attempt}
 use Rattle.sp_solver.specs.declared.attempt.Attempt.TheVariants.{Done}
 use Rattle.sp_stored_types.specs.Tries.{try_in, try_unit}

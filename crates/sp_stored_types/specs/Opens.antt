@@ -13,7 +13,7 @@ use Rattle.sp_typing.specs.Contexts.{Around}
 use Rattle.sp_operands.specs.Literals.{seen}
 use Rattle.sp_typing.specs.Typing.{typed}
 use Rattle.sp_typing_units.specs.Values.{Values}
-use Rattle.sp_typing_units.specs.Decorators.{meant}
+use Rattle.sp_surroundings.specs.Decorators.{meant}
 use Rattle.sp_typing_units.specs.Attributes.{conversion}
 use Rattle.sp_typing_units.specs.Readings.{counted_read}
 use Rattle.sp_around.specs.Members.{first_member}

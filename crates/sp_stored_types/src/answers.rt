@@ -4,7 +4,7 @@ ghost use Rattle.sp_solver.specs.Told.{told};
 ghost use Rattle.sp_types.specs.Types.{word};
 ghost use Rattle.sp_types.specs.declared.words.Word.TheVariants as word_is;
 ghost use Rattle.sp_typed.specs.declared.words.Standing.TheVariants as standing_is;
-ghost use Rattle.sp_typing_units.specs.Decorators.{with_self};
+ghost use Rattle.sp_surroundings.specs.Decorators.{with_self};
 ghost use Rattle.sp_around.specs.Sources.{questions};
 ghost use Rattle.sp_stored_types.specs.Opens.{with_members};
 ghost use Rattle.sp_stored_types.specs.Tries.{tries, try_in, try_unit, AreStored};
@@ -15,10 +15,11 @@ use crate::rows::MemberRows;
 use sp_around::{Question, Tables};
 use sp_base::NoMemory;
 use sp_solver::{Attempt, Questions, answers};
+use sp_surroundings::WithSelf;
 use sp_typed::Standing;
 use sp_types::{Type, Word};
 use sp_typing::Context;
-use sp_typing_units::{Constants, WithSelf};
+use sp_typing_units::Constants;
 use std::alloc::Global;
 
 /// A question for each member: what is the type of what is stored there?

@@ -4,22 +4,23 @@ ghost use Rattle.sp_solver.specs.Told.{told};
 ghost use Rattle.sp_types.specs.Types.{word};
 ghost use Rattle.sp_types.specs.declared.words.Word.TheVariants as word_is;
 ghost use Rattle.sp_typed.specs.declared.words.Standing.TheVariants as standing_is;
-ghost use Rattle.sp_typing_units.specs.Decorators.{with_self};
+ghost use Rattle.sp_surroundings.specs.Decorators.{with_self};
 ghost use Rattle.sp_around.specs.Sources.{questions};
 ghost use Rattle.sp_stored_types.specs.Opens.{with_members};
 ghost use Rattle.sp_stored_types.specs.Endless.{span_if, conversion_place, base_place, field_place, source_place, unit_place, endless_row, unless_known, endless_of, endless};
 
-use crate::fields::{conversion, conversion_open, read_type};
+use crate::fields::conversion_open;
 use crate::members::WithMembers;
 use crate::rows::MemberRows;
 use sp_around::{Question, Source, Tables};
 use sp_ast::{BaseKind, BaseView, ExprKind, FieldKind, Ref};
 use sp_base::{NoMemory, Span, or_drop};
+use sp_surroundings::WithSelf;
 use sp_typed::Standing;
 use sp_typed_units::EndlessConversion;
 use sp_types::{Type, Word};
 use sp_typing::Context;
-use sp_typing_units::{Constants, WithSelf};
+use sp_typing_units::{Constants, conversion, read_type};
 use std::alloc::Global;
 
 fn span_if(member: Option<usize>, span: Span) -> Option<Span>

@@ -1,66 +1,30 @@
 // The type of a field, or the member for which it waits.
 ghost use Rattle.std.specs.Prelude.{◌≡◌, Option, None, length, IfOk};
-ghost use Rattle.sp_ast.specs.Trees.{trees};
-ghost use Rattle.sp_ast.specs.Views.{optional_tree};
 ghost use Rattle.sp_solver.specs.Told.{told};
-ghost use Rattle.sp_typing_units.specs.Attributes.{present, if_convert, conversion_of, or_next, conversion, converted};
+ghost use Rattle.sp_typing_units.specs.Attributes.{conversion, converted};
 ghost use Rattle.sp_typing.specs.Typing.{typed};
-ghost use Rattle.sp_typing_units.specs.Decorators.{meant};
-ghost use Rattle.sp_typing_units.specs.Readings.{counted_read};
+ghost use Rattle.sp_surroundings.specs.Decorators.{meant};
 ghost use Rattle.sp_around.specs.Sources.{questions};
-ghost use Rattle.sp_stored_types.specs.Opens.{or_else, conversion_open, base_open, field_open};
+ghost use Rattle.sp_stored_types.specs.Opens.{conversion_open, base_open, field_open};
 ghost use Rattle.sp_typing_units.specs.Fields.{field_type};
 ghost use Rattle.sp_stored_types.specs.Tries.{when_open, try_in};
 
 use crate::opens::open_in;
 use crate::rows::MemberRows;
 use sp_around::Source;
-use sp_ast::{AttributeKind, BaseKind, BaseView, CountKind, ExprKind, FieldKind, Members, Ref};
+use sp_ast::{
+    AttributeKind, BaseKind, BaseView, CountKind, ExprKind, FieldKind, Members, Ref, is_present,
+};
 use sp_base::{NoMemory, or_drop};
 use sp_operands::seen;
 use sp_solver::Attempt;
+use sp_surroundings::WithCurrent;
 use sp_typed::{Expr, Standing};
 use sp_types::{Type, Word};
 use sp_typing::Context;
 use sp_typing_exprs::typed;
-use sp_typing_units::{Constants, Read, WithCurrent, counted_read};
-use sp_words::AttributeName;
+use sp_typing_units::{Constants, conversion, read_type};
 use std::alloc::Global;
-
-/// The part that may be left out is the one that is lent, if it is.
-fn is_present(part: &Option<Ref<'_, ExprKind>>)
-    ensures { present (optional_tree part.now) ≡ part.now }
-{
-    match part {
-        Some(tree) => tree.is_sound(),
-        None => {}
-    }
-}
-
-/// The value of an attribute that is `&convert`.
-fn conversion_of<'a>(attribute: &Ref<'a, AttributeKind>) -> Option<Ref<'a, ExprKind>>
-    ensures { result ≡ conversion_of attribute.now }
-{
-    let view = attribute.view();
-    is_present(&view.value);
-    match view.name {
-        AttributeName::Convert => view.value,
-        _ => None,
-    }
-}
-
-/// The value of the first `&convert` that has one.
-pub(crate) fn conversion<'a>(list: &Members<'a, AttributeKind>) -> Option<Ref<'a, ExprKind>>
-    ensures { result ≡ conversion (trees list.now) }
-{
-    for attribute in list.again() {
-        let value = conversion_of(&attribute);
-        if value.is_some() {
-            return value;
-        }
-    }
-    None
-}
 
 /// An expression where `$$` is of a type.
 fn typed_with<C: Context>(
@@ -100,23 +64,6 @@ pub(crate) fn conversion_open<C: Context>(
         }
         None => Ok(None),
     }
-}
-
-/// The type of what is read, with what stands behind it.
-pub(crate) fn read_type<C: Context, V: Constants>(
-    alloc: Global,
-    context: &C,
-    constants: &V,
-    base: &Ref<'_, BaseKind>,
-    counts: &Members<'_, CountKind>,
-) -> Result<Type, NoMemory>
-    ensures { IfOk result (λ t. t ≡ (counted_read (C.around context.now) (V.values constants.now)
-        base.now (trees counts.now)).ty) }
-{
-    let read = counted_read(alloc, context, constants, base, counts)?;
-    let Read { spec, ty, kind: _ } = read;
-    drop(spec);
-    Ok(ty)
 }
 
 /// A member without a type on which the conversions of groups hang, from the inside.

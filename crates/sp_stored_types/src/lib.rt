@@ -6,7 +6,6 @@ mod endless;
 mod fields;
 mod laws;
 mod members;
-mod names;
 mod opens;
 mod rows;
 mod tables;

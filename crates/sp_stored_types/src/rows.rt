@@ -1,57 +1,19 @@
 // The members of all units of a list of modules, in one row.
-ghost use Rattle.std.specs.Prelude.{◌≡◌, ◌++◌, List, Option, Some, length, option_copied, slice_get, IfOk, OnOk, IfSome, IfNone};
-ghost use Rattle.sp_ast.specs.Trees.{absent};
+ghost use Rattle.std.specs.Prelude.{◌≡◌, ◌++◌, List, Option, Some, length, option_copied, slice_get, IfOk, OnOk};
 ghost use Rattle.sp_names.specs.declared.sort.DeclSort.TheVariants as sort_is;
-ghost use Rattle.sp_names.specs.Declarations.{all_of, type_tree_of};
-ghost use Rattle.sp_names.specs.Names.{declaration_of};
-ghost use Rattle.sp_around.specs.Members.{unit_in, unit_declaration, first_member};
+ghost use Rattle.sp_names.specs.Declarations.{type_tree_of};
+ghost use Rattle.sp_around.specs.Members.{unit_in, unit_declaration};
 ghost use Rattle.sp_around.specs.Sources.{unit_sources, asked, questions_of, questions, units, firsts_before};
 ghost use Rattle.sp_stored_types.specs.Endless.{module_of};
 ghost use Rattle.sp_stored_types.specs.inside.Tables.{AreRows};
 
-use crate::names::number;
 use crate::tables::{SourceTable, source_table};
-use sp_around::{Question, Source};
-use sp_ast::{DeclKind, DeclView, Ref, TypeKind, TypeView, UnitKind};
+use sp_around::{Question, Source, declaration_at, unit_in};
 use sp_base::NoMemory;
+use sp_name_tables::number;
 use sp_names::{Declaration, Names};
 use std::alloc::Global;
 use std::marker::Model;
-
-/// The declaration whose number stands at a place.
-fn declaration_at<'n, 'a>(
-    names: &'n Names<'a>,
-    numbers: &[u32],
-    place: usize,
-) -> Option<&'n Declaration<'a>>
-    ensures { option_copied result ≡ declaration_of names.now (slice_get numbers.now place) }
-{
-    match numbers.get(place) {
-        Some(declaration) => names.rows().get(*declaration as usize),
-        None => None,
-    }
-}
-
-fn unit_in_type<'a>(tree: &Ref<'a, TypeKind>) -> Option<Ref<'a, UnitKind>>
-    ensures some { IfSome result (λ u. unit_in tree.now ≡ u) }
-    ensures none { IfNone result (unit_in tree.now ≡ absent) }
-{
-    match tree.view() {
-        TypeView::Unit(unit) => Some(unit),
-        _ => None,
-    }
-}
-
-/// The unit that a declaration declares.
-fn unit_in<'a>(tree: &Ref<'a, DeclKind>) -> Option<Ref<'a, UnitKind>>
-    ensures some { IfSome result (λ u. unit_in (type_tree_of tree.now) ≡ u) }
-    ensures none { IfNone result (unit_in (type_tree_of tree.now) ≡ absent) }
-{
-    match tree.view() {
-        DeclView::Type { type_, .. } => unit_in_type(&type_),
-        _ => None,
-    }
-}
 
 /// Adds the members of a unit, each as a question.
 #[tactic(auto, using(crate::proofs::Places::asked_step))]

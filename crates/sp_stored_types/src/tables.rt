@@ -5,13 +5,13 @@ ghost use Rattle.sp_around.specs.Members.{unit_items};
 ghost use Rattle.sp_around.specs.Sources.{declared_in, declared_among, field_named, firsts};
 ghost use Rattle.sp_stored_types.specs.inside.Tables.{Holds, Joins};
 
-use crate::names::{NameTable, declare, look_up, number};
 use sp_around::Source;
 use sp_ast::{
     ArmKind, BodyKind, BodyView, FieldKind, ItemKind, ItemView, Members, PartKind, PartView, Ref,
     UnitKind,
 };
 use sp_base::NoMemory;
+use sp_name_tables::{NameTable, declare, look_up, number};
 use std::alloc::Global;
 
 /// The members of a unit: the number of each name, and what gives each number its type.

@@ -17,7 +17,7 @@ use Rattle.sp_declared_values.specs.Laws.{hangs}
 use Rattle.sp_typing.specs.Contexts.{Around}
 use Rattle.sp_typing_units.specs.Values.{Values}
 use Rattle.sp_stored_types.specs.Tries.{tries as stored_tries, AreStored}
-use Rattle.sp_typed_list.specs.Settled.{AreValued, first_contexts, worth, Answers}
+use Rattle.sp_checked_list.specs.Settled.{AreValued, first_contexts, worth, Answers}
 
 got_done : {A : Type 0} (t : Attempt A) (a : A) → got t ≡ Some a → t ≡ Done a
 got_done (Done b) a e = cc

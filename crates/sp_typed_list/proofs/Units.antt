@@ -15,7 +15,7 @@ use Rattle.sp_hook_rows.specs.declared.sites.Site.{Site}
 use Rattle.sp_hook_rows.specs.declared.rows.HookRow.{HookRow}
 use Rattle.sp_unit_calls.specs.HookCalling.{callers}
 use Rattle.sp_unit_rows.specs.UnitRows.{unit_row}
-use Rattle.sp_typed_list.specs.Lists.{by_keys, calls_of, units_from}
+use Rattle.sp_checked_list.specs.Lists.{by_keys, calls_of, units_from}
 use Rattle.sp_typed_list.specs.inside.Units.{units_by}
 
 -- a step of a loop over what stands round each

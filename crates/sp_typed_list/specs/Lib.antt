@@ -1,4 +1,1 @@
-pub mod Rows
-pub mod Lists
-pub mod Settled
 pub mod inside

@@ -1,7 +1,7 @@
 // There is one typed list.
 ghost use Rattle.std.specs.Prelude.{◌≡◌, List};
 ghost use Rattle.sp_ast.specs.Trees.{Tree};
-ghost use Rattle.sp_typed_list.specs.Settled.{Answers};
+ghost use Rattle.sp_checked_list.specs.Settled.{Answers};
 
 use sp_stored_types::tries_are_fair;
 

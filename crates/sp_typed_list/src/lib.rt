@@ -1,10 +1,7 @@
 //! The typed list of a list of modules, where its names, constants, labels and members are answered.
 #![tactic(auto)]
 
-mod function_rows;
 mod laws;
-mod order_rows;
-mod ranks;
 mod typed;
 
 pub use laws::answers_are_one;

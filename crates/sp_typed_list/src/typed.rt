@@ -6,7 +6,6 @@ ghost use Rattle.sp_names.specs.Declarations.{all_of};
 ghost use Rattle.sp_typed.specs.declared.words.UnitMethod.TheVariants as method_is;
 ghost use Rattle.sp_declared_values.specs.Answers.{values};
 ghost use Rattle.sp_unit_calls.specs.HookCalling.{callers, has};
-ghost use Rattle.sp_stored_types.specs.Endless.{endless};
 ghost use Rattle.sp_around.specs.Sources.{questions};
 ghost use Rattle.sp_hook_rows.specs.HookRows.{keys_of};
 ghost use Rattle.sp_types.specs.Types.{Ty};
@@ -16,13 +15,10 @@ ghost use Rattle.sp_typing_hooks.specs.inside.Tables.{Tells};
 ghost use Rattle.sp_unit_rows.specs.UnitRows.{unit_row};
 ghost use Rattle.sp_list_context.specs.Contexts.{in_modules, homes, seeing, unit_types, being, seeing_parameters};
 ghost use Rattle.sp_list_context.specs.Holds.{here_told};
-ghost use Rattle.sp_typed_list.specs.Rows.{ranks};
+ghost use Rattle.sp_list_rows.specs.FunctionsAndOrders.{ranks};
 ghost use Rattle.sp_typed_list.specs.inside.Units.{units_by};
-ghost use Rattle.sp_typed_list.specs.Lists.{hooks_in, units_from, list_in};
+ghost use Rattle.sp_checked_list.specs.Lists.{hooks_in, units_from, list_in};
 
-use crate::function_rows::functions;
-use crate::order_rows::orders;
-use crate::ranks::SignedNumbers;
 use sp_around::Here;
 use sp_base::{NoMemory, or_drop};
 use sp_declared_values::Known;
@@ -31,12 +27,12 @@ use sp_hook_rows::{HookRow, Site, keys_of};
 use sp_list_context::{
     all_parameters, homes, in_modules, in_units, parameter_tables, seeing_parameters, unit_types,
 };
-use sp_list_rows::{aliases, bitfields};
-use sp_stored_types::{MemberRows, endless_conversions};
+use sp_list_rows::{SignedNumbers, aliases, bitfields, conversions, functions, orders};
+use sp_name_tables::number;
+use sp_surroundings::Parameters;
 use sp_typed::UnitMethod;
-use sp_typed_units::{EndlessConversion, Hook, Row, Typed, Unit};
+use sp_typed_units::{Hook, Row, Typed, Unit};
 use sp_types::Type;
-use sp_typing_heads::Parameters;
 use sp_typing_hooks::{FieldTypes, ranks_of, typed_hooks};
 use sp_unit_calls::HookCalls;
 use sp_unit_rows::{UnitCalls, UnitRows};
@@ -130,13 +126,6 @@ fn calls_of(calls: &Calls, unit: u32) -> UnitCalls
     }
 }
 
-/// A count as a number. Lists of more units than numbers don't fit into memory.
-fn number(count: usize) -> Result<u32, NoMemory>
-    ensures { IfOk result (λ n. n ≡ count) }
-{
-    u32::try_from(count).map_err(|_| NoMemory)
-}
-
 /// The unit of a number, where this stands round the expressions of its module.
 fn unit_at(
     alloc: Global,
@@ -218,27 +207,6 @@ fn units_in(
     units_with(alloc, known, &units, &calls, &homes)
 }
 
-/// What conversions are made of themselves.
-fn conversions_in(
-    alloc: Global,
-    known: &Known<'_>,
-    stored: &[Option<Type>],
-) -> Result<Vec<EndlessConversion>, NoMemory>
-    requires { length stored.now ≡ length (questions known.now.row.now.0) }
-    ensures { IfOk result (λ v. v.items ≡ endless known.now.row.now.0
-        (seeing_parameters known.now.row.now.0 (told known.now.row.now.1)
-        (told known.now.answers.now) (told [])) (values known.now.row.now.0
-        (told known.now.row.now.1) (told known.now.answers.now)) stored.now) }
-{
-    let tables = known.row.tables();
-    let parameters = all_parameters(alloc, known, &[])?;
-    let seen = parameter_tables(alloc, &parameters)?;
-    let homes = homes(alloc, known, &[])?;
-    let contexts = seeing_parameters(alloc, &homes, &seen)?;
-    let members = MemberRows::new(alloc, tables.names())?;
-    endless_conversions(alloc, &members, tables, &contexts, known, stored)
-}
-
 /// The typed list of a list of modules, where its type declarations, constants and labels are answered, `stored` tells the types
 /// of the members of its units, and its hooks are these. It is linear in the text, apart from looking names up.
 pub fn typed_list(
@@ -280,7 +248,7 @@ pub fn typed_list(
         hooks, units, functions, constants, enums, bitfields
     );
     let conversions = or_drop!(
-        conversions_in(alloc, known, stored);
+        conversions(alloc, known, stored);
         hooks, units, functions, constants, enums, bitfields, aliases
     );
     let orders = or_drop!(

@@ -3,4 +3,5 @@ pub mod SpecHeights
 pub mod SpecViews
 pub mod Parts
 pub mod PartViews
+pub mod Hooks
 pub mod inside

@@ -4,6 +4,7 @@
 
 mod attributes;
 mod declarations;
+mod hooks;
 mod items;
 mod readings;
 mod rows;
@@ -14,6 +15,7 @@ pub use declarations::{
     HookOf, Label, LabelNumber, Member, MemberKind, OrderProperty, Parameter, Sink, Typed, Unit,
     Variable,
 };
+pub use hooks::unit_of;
 pub use items::{Arm, Field, Part, PartNode};
 pub use readings::{ReadOp, Reading, Spec, SpecNode, TokenOp, UnitOf};
 pub use rows::Row;

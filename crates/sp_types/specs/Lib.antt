@@ -1,4 +1,5 @@
 pub mod Types
 pub mod Views
 pub mod Levels
+pub mod Integers
 pub mod inside

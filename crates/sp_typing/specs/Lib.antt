@@ -1,3 +1,4 @@
+pub mod Names
 pub mod Contexts
 pub mod Typing
 pub mod Rows

@@ -4,14 +4,12 @@ use Rattle.sp_base.specs.declared.places.Span.{Span}
 use Rattle.sp_words.specs.declared.operators.BinaryOp.{BinaryOp}
 use Rattle.sp_words.specs.declared.operators.UnaryOp.{UnaryOp}
 use Rattle.sp_words.specs.declared.operators.UnaryOp.TheVariants as unary_is
-use Rattle.sp_words.specs.declared.words.IntWord.{IntWord}
 use Rattle.sp_words.specs.declared.words.IntWord.TheVariants as int
 use Rattle.sp_numbers.specs.declared.width.Width.TheVariants as width
-use Rattle.sp_ast.specs.Trees.{Tree, Trees, absent, row, node, none, more}
+use Rattle.sp_ast.specs.Trees.{Tree, Trees, row, node, none, more}
 use Rattle.sp_ast.specs.Trees as read
 use Rattle.sp_ast.specs.declared.forms.Form.TheVariants as form_is
 use Rattle.sp_ast.specs.declared.forms.ExprForm.TheVariants as expr_is
-use Rattle.sp_types.specs.declared.words.Word.{Word}
 use Rattle.sp_types.specs.declared.words.Word.TheVariants as word_is
 use Rattle.sp_types.specs.declared.words.Maker.{Maker}
 use Rattle.sp_types.specs.declared.words.Maker.TheVariants as maker_is
@@ -36,9 +34,10 @@ use Rattle.sp_typing.specs.declared.calls.Callee.TheVariants as callee_is
 use Rattle.sp_typing.specs.declared.context.Member.{Member}
 use Rattle.sp_typing.specs.declared.context.Callable.{Callable}
 use Rattle.sp_typing.specs.Contexts.{Around}
-use Rattle.sp_operands.specs.Operands.{unknown, boolean, is_integer, sort_of, result_type, unary_type, key_of, first_type}
+use Rattle.sp_operands.specs.Operands.{unknown, boolean, is_integer, sort_of, result_type, unary_type, key_of, first_type, second_type}
 use Rattle.sp_operands.specs.Literals.{taken, seen, is_negative, literal_word, unsigned_literal, signed_literal}
 use Rattle.sp_operands.specs.Wholes.{row_type, map_type}
+use Rattle.sp_types.specs.Integers.{int_word}
 
 -- nodes on a slice of the text, of a type
 abbrev pub leaf_at : Span → Ty → LeafOp → Expr
@@ -59,17 +58,6 @@ many_at span t op es = many (record { span = span; ty = t; op = op }) (exprs es)
 -- what stands for a tree that is no expression; no module has one
 abbrev pub no_expr : Expr
 no_expr = leaf_at (record { from = 0; to = 0 }) unknown leaf_is.Name
-
--- the type that is a word of integers
-abbrev pub int_word : IntWord → Word
-int_word int.Uint8 = word_is.Uint width.W8
-int_word int.Uint16 = word_is.Uint width.W16
-int_word int.Uint32 = word_is.Uint width.W32
-int_word int.Uint64 = word_is.Uint width.W64
-int_word int.Int8 = word_is.Int width.W8
-int_word int.Int16 = word_is.Int width.W16
-int_word int.Int32 = word_is.Int width.W32
-int_word int.Int64 = word_is.Int width.W64
 
 abbrev pub size_type : Ty
 size_type = word unsigned_literal
@@ -212,11 +200,6 @@ set_member_at span name (Some m) e = one_at span boolean (set_op m.op name) e
 
 abbrev pub set_member_of : Around → Span → Tree → Expr → Expr
 set_member_of g span name e = set_member_at span (read.span_of name) (g.member (seen e) (name_of name)) e
-
--- an element of a vector, the value of a key of a map, the key of a set, and a member of a tuple at a constant place
-abbrev pub second_type : Tys → Ty
-second_type (types.more s ts) = first_type ts
-second_type types.none = unknown
 
 abbrev pub part_at : Tys → ℕ → Option Ty
 part_at types.none n = None

@@ -3,6 +3,10 @@
 
 mod calls;
 mod context;
+mod names;
+mod nodes;
 
 pub use calls::Callee;
 pub use context::{Callable, Context, Member};
+pub use names::{path_of, single_name};
+pub use nodes::leaf_at;

@@ -1,33 +1,23 @@
 // Elements, calls, methods and what a `connect` starts.
-ghost use Rattle.std.specs.Prelude.{◌≡◌, ◌∷◌, [], ◌++◌, map, length, IfOk};
+ghost use Rattle.std.specs.Prelude.{◌≡◌, map, IfOk};
 ghost use Rattle.sp_types.specs.Types.{tys};
 ghost use Rattle.sp_ast.specs.Trees.{span_of};
 ghost use Rattle.sp_typed.specs.declared.words.OneOp.TheVariants.{NoMember};
 ghost use Rattle.sp_typed.specs.declared.words.TwoOp.TheVariants.{Index};
 ghost use Rattle.sp_typed.specs.declared.words.ManyOp.TheVariants.{Call};
-ghost use Rattle.sp_typing.specs.Contexts.{Around};
 ghost use Rattle.sp_operands.specs.Literals.{seen};
-ghost use Rattle.sp_operands.specs.Operands.{first_type, unknown};
-ghost use Rattle.sp_typing.specs.Typing.{one_at, two_at, to_target, second_type, part_at, item_of, item_at, index_at, indexed, no_call, call_of, callee_of, call_at, method_found, method_at, started, new_at, name_of};
+ghost use Rattle.sp_operands.specs.Operands.{first_type, unknown, second_type};
+ghost use Rattle.sp_typing.specs.Typing.{one_at, two_at, to_target, part_at, item_at, index_at, indexed, no_call, call_of, callee_of, call_at, method_found, method_at, started, new_at, name_of};
 
 use crate::nodes::{many_at, one_at, to_target, two_at};
 use crate::rows::{add_each, all_seen};
 use sp_ast::{NameKind, Ref};
 use sp_base::{NoMemory, Span, or_drop};
-use sp_operands::{first_type, seen};
+use sp_operands::{first_type, second_type, seen};
 use sp_typed::{Expr, ExprLevel, LeafOp, ManyOp, NewOf, OneOp, TwoOp};
 use sp_types::{Level, Maker, Type, Word};
 use sp_typing::{Callable, Callee, Context};
 use std::alloc::Global;
-
-fn second_type(parts: &[Type]) -> Result<Type, NoMemory>
-    ensures { IfOk result (λ t. t ≡ second_type (tys parts.now)) }
-{
-    match parts.split_first() {
-        Some((_, others)) => first_type(others),
-        None => Ok(Type::word(Word::Unknown)),
-    }
-}
 
 fn part_at(parts: &[Type], n: u32) -> Result<Option<Type>, NoMemory>
     ensures { IfOk result (λ t. t ≡ part_at (tys parts.now) n) }

@@ -2,8 +2,7 @@
 ghost use Rattle.std.specs.Prelude.{◌≡◌, IfOk};
 ghost use Rattle.sp_operands.specs.Literals.{seen};
 ghost use Rattle.sp_operands.specs.Operands.{sort_of, result_type, key_of, unary_type};
-ghost use Rattle.sp_typing.specs.Contexts.{Around};
-ghost use Rattle.sp_typing.specs.Typing.{leaf_at, one_at, two_at, many_at, int_word, widened, to_target, alike, agreeing, both_written, or_else, unary_op, signed_type, unary_at, joined, binary_at, cast_type, choice_type, choice_at, member_at, member_of, set_op, set_member_at, set_member_of};
+ghost use Rattle.sp_typing.specs.Typing.{one_at, two_at, many_at, widened, to_target, alike, agreeing, both_written, or_else, unary_op, signed_type, unary_at, joined, binary_at, cast_type, choice_type, choice_at, member_at, member_of, set_op, set_member_at, set_member_of};
 
 use sp_ast::{NameKind, Ref};
 use sp_base::{NoMemory, Span, or_drop};
@@ -11,17 +10,11 @@ use sp_numbers::Width;
 use sp_operands::{
     OperatorSort, is_integer, is_negative, key_of, literal_word, seen, sort_of, taken, unary_type,
 };
-use sp_typed::{Expr, Leaf, LeafOp, Many, ManyOp, One, OneOp, Three, Two, TwoOp, Written};
-use sp_types::{Maker, Type, Word};
+use sp_typed::{Expr, Many, ManyOp, One, OneOp, Three, Two, TwoOp, Written};
+use sp_types::{Type, Word};
 use sp_typing::{Context, Member};
-use sp_words::{BinaryOp, IntWord, UnaryOp};
+use sp_words::{BinaryOp, UnaryOp};
 use std::alloc::Global;
-
-pub(crate) fn leaf_at(span: Span, ty: Type, op: LeafOp) -> Expr
-    ensures { result ≡ leaf_at span ty op }
-{
-    Expr::leaf(Leaf { span, ty, op })
-}
 
 pub(crate) fn one_at(
     alloc: Global,
@@ -52,22 +45,6 @@ pub(crate) fn many_at(span: Span, ty: Type, op: ManyOp, parts: Vec<Expr>) -> Res
     ensures { IfOk result (λ e. e ≡ many_at span ty op parts.items) }
 {
     Expr::many(Many { span, ty, op }, parts)
-}
-
-/// The type that is a word of integers.
-pub(crate) fn int_word(word: IntWord) -> Word
-    ensures { result ≡ int_word word }
-{
-    match word {
-        IntWord::Uint8 => Word::Uint(Width::W8),
-        IntWord::Uint16 => Word::Uint(Width::W16),
-        IntWord::Uint32 => Word::Uint(Width::W32),
-        IntWord::Uint64 => Word::Uint(Width::W64),
-        IntWord::Int8 => Word::Int(Width::W8),
-        IntWord::Int16 => Word::Int(Width::W16),
-        IntWord::Int32 => Word::Int(Width::W32),
-        IntWord::Int64 => Word::Int(Width::W64),
-    }
 }
 
 fn widened(alloc: Global, to: &Type, e: Expr) -> Result<Expr, NoMemory>

@@ -14,8 +14,7 @@ ghost use Rattle.sp_typing.specs.Typing.{typed, typed_all, pairs_typed, is_membe
 
 use crate::calls::{call_at, indexed, method_at, new_at};
 use crate::nodes::{
-    binary_at, both_written, cast_type, choice_at, int_word, leaf_at, member_of, one_at,
-    set_member_of, unary_at,
+    binary_at, both_written, cast_type, choice_at, member_of, one_at, set_member_of, unary_at,
 };
 use crate::rows::{led, map_at, row_at, tuple_at};
 use sp_ast::{ExprKind, ExprView, Members, NameKind, PairKind, PathKind, Ref, TypeKind};
@@ -23,8 +22,8 @@ use sp_base::{ByteList, NoMemory, Span, Text, or_drop};
 use sp_numbers::Width;
 use sp_operands::{made_of_one, made_of_two};
 use sp_typed::{Expr, LeafOp, ManyOp, OneOp};
-use sp_types::{Maker, Type, Word};
-use sp_typing::Context;
+use sp_types::{Maker, Type, Word, int_word};
+use sp_typing::{Context, leaf_at};
 use sp_words::BinaryOp;
 use std::alloc::Global;
 

@@ -9,14 +9,11 @@ use Rattle.sp_typed.specs.Stmts.{Stmt, block, no_stmts}
 use Rattle.sp_typed_units.specs.declared.declarations.Parameter.{Parameter}
 use Rattle.sp_typed_units.specs.declared.declarations.Function.{Function}
 use Rattle.sp_typing.specs.Contexts.{Around}
+use Rattle.sp_typing.specs.Names.{path_of}
 use Rattle.sp_typing.specs.Typing.{name_of}
 use Rattle.sp_typing_stmts.specs.declared.body.Body.{Body}
 use Rattle.sp_typing_stmts.specs.Statements.{written_type, written_of, typed_body}
-use Rattle.sp_typing_heads.specs.Parameters.{parameters_in, with_parameters}
-
--- a name behind that of its module, as `M::f`
-abbrev pub path_of : List ℕ → List ℕ → List ℕ
-path_of m x = m ++ 58 ∷ 58 ∷ x
+use Rattle.sp_surroundings.specs.Parameters.{parameters_in, with_parameters}
 
 -- the type of a result: void where nothing is written
 abbrev pub or_void : Option Ty → Ty

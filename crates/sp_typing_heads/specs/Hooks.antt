@@ -16,13 +16,13 @@ use Rattle.sp_typed_units.specs.declared.declarations.HookOf.TheVariants as hook
 use Rattle.sp_typing.specs.Contexts.{Around}
 use Rattle.sp_operands.specs.Literals.{taken}
 use Rattle.sp_typing.specs.Typing.{typed}
-use Rattle.sp_typing_units.specs.Attributes.{present}
-use Rattle.sp_typing_units.specs.Decorators.{with_current, with_self}
+use Rattle.sp_ast.specs.Views.{present}
+use Rattle.sp_surroundings.specs.Decorators.{with_current, with_self}
 use Rattle.sp_typing_stmts.specs.declared.body.Body.{Body}
 use Rattle.sp_typing_stmts.specs.Statements.{typed_body}
 use Rattle.sp_typing_heads.specs.declared.site.Site.{Site}
 use Rattle.sp_typing_heads.specs.Events.{is_of_sink, is_of_elements, fits}
-use Rattle.sp_typing_heads.specs.Parameters.{parameters_in, with_parameters}
+use Rattle.sp_surroundings.specs.Parameters.{parameters_in, with_parameters}
 
 -- `self` is the unit, which a hook of a sink can't see. In a hook of nothing nothing is known of it.
 abbrev pub self_type : HookOf → Ty

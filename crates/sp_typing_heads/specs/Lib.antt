@@ -1,6 +1,4 @@
-pub mod Parameters
 pub mod Functions
 pub mod Events
 pub mod Hooks
 pub mod Rows
-pub mod inside

@@ -34,7 +34,7 @@ use Rattle.sp_operands.specs.Operands.{unknown}
 use Rattle.sp_typing.specs.Typing.{leaf_at}
 use Rattle.sp_typing_stmts.specs.Statements.{bare_at, valued_at}
 use Rattle.sp_typing_heads.specs.declared.site.Site.{Site}
-use Rattle.sp_typing_heads.specs.Parameters.{parameters_in, with_parameters}
+use Rattle.sp_surroundings.specs.Parameters.{parameters_in, with_parameters}
 use Rattle.sp_typing_heads.specs.Functions.{function_of}
 use Rattle.sp_typing_heads.specs.Events.{fits}
 use Rattle.sp_typing_heads.specs.Hooks.{hook_on, hook_behind}

@@ -1,62 +1,22 @@
 // Functions: their heads and bodies.
-ghost use Rattle.std.specs.Prelude.{◌≡◌, ◌++◌, IfOk};
+ghost use Rattle.std.specs.Prelude.{◌≡◌, IfOk};
 ghost use Rattle.sp_ast.specs.Trees.{span_of};
 ghost use Rattle.sp_ast.specs.Views.{optional_tree};
-ghost use Rattle.sp_typing.specs.Contexts.{Around};
 ghost use Rattle.sp_typing.specs.Typing.{name_of};
 ghost use Rattle.sp_typing_stmts.specs.Statements.{written_type, written_of};
-ghost use Rattle.sp_typing_heads.specs.Functions.{path_of, or_void, body_giving, function_body, function_with, no_function, function_of};
+ghost use Rattle.sp_typing_heads.specs.Functions.{or_void, function_body, no_function, function_of};
+ghost use Rattle.sp_typing.specs.Names.{path_of};
 
-use crate::parameters::{Parameters, WithParameters, parameters_in};
 use sp_ast::{BlockKind, DeclKind, DeclView, NameKind, Ref, TypeKind};
 use sp_base::{NoMemory, Span, Text, or_drop};
+use sp_surroundings::{Parameters, WithParameters, parameters_in};
 use sp_typed::{Stmt, StmtNode, Written};
 use sp_typed_units::{Function, Parameter, Row};
 use sp_types::{Type, Word};
-use sp_typing::Context;
+use sp_typing::{Context, path_of};
 use sp_typing_bodies::typed_body;
-use sp_typing_stmts::Body;
+use sp_typing_stmts::{Body, written_of, written_type};
 use std::alloc::Global;
-
-/// A name behind that of its module.
-fn path_of(alloc: Global, owner: &str, name: &str) -> Result<Text, NoMemory>
-    ensures { IfOk result (λ t. t ≡ path_of owner.now name.now) }
-{
-    let mut text = String::from_str(alloc, owner)?;
-    or_drop!(text.push_str("::"); text);
-    or_drop!(text.push_str(name); text);
-    Text::from_string(text)
-}
-
-/// The type that is written, if one is.
-fn written_type<C: Context>(
-    alloc: Global,
-    context: &C,
-    tree: &Option<Ref<'_, TypeKind>>,
-) -> Result<Option<Type>, NoMemory>
-    ensures { IfOk result (λ t. t
-        ≡ written_type (C.around context.now) (optional_tree tree.now)) }
-{
-    match tree {
-        Some(tree) => {
-            tree.is_sound();
-            Ok(Some(context.type_in(alloc, tree)?))
-        }
-        None => Ok(None),
-    }
-}
-
-fn written_of<C: Context>(context: &C, tree: &Option<Ref<'_, TypeKind>>) -> Option<Written>
-    ensures { result ≡ written_of (C.around context.now) (optional_tree tree.now) }
-{
-    match tree {
-        Some(tree) => {
-            tree.is_sound();
-            Some(context.written(tree))
-        }
-        None => None,
-    }
-}
 
 fn or_void(written: Option<Type>) -> Type
     ensures { result ≡ or_void written }

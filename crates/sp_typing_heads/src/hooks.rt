@@ -1,39 +1,25 @@
 // Hooks: their parameters, their priorities and their bodies.
-ghost use Rattle.std.specs.Prelude.{◌≡◌, [], length, map, IfOk};
-ghost use Rattle.sp_ast.specs.Views.{optional_tree};
-ghost use Rattle.sp_typing.specs.Contexts.{Around};
-ghost use Rattle.sp_typing_units.specs.Attributes.{present};
+ghost use Rattle.std.specs.Prelude.{◌≡◌, [], IfOk};
 ghost use Rattle.sp_typing_heads.specs.Events.{is_of_sink, is_of_elements, fits};
-ghost use Rattle.sp_typing_heads.specs.Hooks.{self_type, self_standing, current_type, current_standing, hook_around, hook_body, priority_around, priority_in, rank_of, hook_with, no_hook, hook_of_body, hook_behind, hook_on};
+ghost use Rattle.sp_typing_heads.specs.Hooks.{self_type, self_standing, current_type, current_standing, hook_around, hook_body, priority_around, priority_in, rank_of, hook_with, hook_of_body, hook_behind, hook_on};
 ghost use Rattle.sp_typing_stmts.specs.Statements.{typed_body};
 
 use crate::events::{fits, is_of_elements, is_of_sink};
-use crate::parameters::{Parameters, WithParameters, parameters_in};
 use crate::ranks::Ranks;
 use crate::site::Site;
-use sp_ast::{BlockKind, ExprKind, HookBodyKind, HookKind, Kind, Ref};
+use sp_ast::{BlockKind, ExprKind, HookBodyKind, HookKind, Ref, is_present};
 use sp_base::{NoMemory, or_drop};
 use sp_numbers::Width;
 use sp_operands::taken;
-use sp_typed::{Expr, Standing, Stmt, StmtNode};
+use sp_surroundings::{Parameters, WithCurrent, WithParameters, WithSelf, parameters_in};
+use sp_typed::{Expr, Standing, Stmt};
 use sp_typed_units::{Hook, HookOf, Parameter, Row};
 use sp_types::{Type, Word};
 use sp_typing::Context;
 use sp_typing_bodies::typed_body;
 use sp_typing_exprs::typed;
 use sp_typing_stmts::Body;
-use sp_typing_units::{WithCurrent, WithSelf};
 use std::alloc::Global;
-
-/// The part that may be left out is the one that is lent, if it is. It does nothing; a caller's proof has the fact from it.
-fn is_present<K: Kind>(part: &Option<Ref<'_, K>>)
-    ensures { present (optional_tree part.now) ≡ part.now }
-{
-    match part {
-        Some(tree) => tree.is_sound(),
-        None => {}
-    }
-}
 
 /// The type of `self`.
 fn self_type(of: HookOf) -> Type

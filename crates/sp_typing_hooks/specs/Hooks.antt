@@ -16,6 +16,7 @@ use Rattle.sp_hook_order.specs.Order.{rank_or}
 use Rattle.sp_hook_rows.specs.declared.rows.HookRow.{HookRow}
 use Rattle.sp_hook_rows.specs.HookRows.{key_of}
 use Rattle.sp_typing_hooks.specs.Fields.{mark_of}
+use Rattle.sp_typed_units.specs.Hooks.{unit_of}
 
 -- what a hook sees of its field, if it is of one
 abbrev pub seen_at : (ℕ × ℕ × ℕ → Option Ty × Option Ty) → Option (ℕ × ℕ × ℕ) → Option Ty × Option Ty
@@ -42,15 +43,6 @@ site_of seen r = record {
   container = is_some seen.1;
   current = current_of r.of seen.0 seen.1;
 }
-
--- the unit of which a hook is
-abbrev pub unit_of : HookOf → Option ℕ
-unit_of of_is.Nothing = None
-unit_of (of_is.Unit n h) = Some n
-unit_of (of_is.Field n k) = Some n
-unit_of (of_is.Elements n k) = Some n
-unit_of (of_is.Anonymous n) = Some n
-unit_of (of_is.AnonymousElements n) = Some n
 
 -- the parameters of a unit, where those of each unit are these; a hook of nothing sees none
 abbrev pub or_none : Option (List Parameter) → List Parameter

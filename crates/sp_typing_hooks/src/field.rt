@@ -2,17 +2,15 @@
 ghost use Rattle.std.specs.Prelude.{◌≡◌, map, slice_get, IfOk};
 ghost use Rattle.sp_ast.specs.Trees.{trees};
 ghost use Rattle.sp_typing_units.specs.Attributes.{element_of, converted, conversion};
-ghost use Rattle.sp_hook_rows.specs.HookRows.{is_some_tree};
 ghost use Rattle.sp_typing_hooks.specs.Fields.{nothing_known, field_types, types_in, holder_types, is_container, holds_container};
 
 use crate::contexts::context_at;
 use sp_ast::{AttributeKind, FieldKind, Members, Ref};
 use sp_base::{NoMemory, or_drop};
 use sp_hook_rows::{Holder, Site};
-use sp_operands::first_type;
-use sp_types::{Level, Maker, Type, Word};
+use sp_types::{Type, Word};
 use sp_typing::Context;
-use sp_typing_units::{Constants, converted, counted_read};
+use sp_typing_units::{Constants, converted, counted_read, element_of};
 use std::alloc::Global;
 
 /// What `$$` is in the hooks of a field.
@@ -30,16 +28,6 @@ fn nothing_known() -> FieldType
     FieldType {
         stored: Type::word(Word::Unknown),
         element: Type::word(Word::Unknown),
-    }
-}
-
-/// The type of the elements of a container.
-fn element_of(of: &Type) -> Result<Type, NoMemory>
-    ensures { IfOk result (λ t. t ≡ element_of of.now) }
-{
-    match of.level() {
-        Level::Made(Maker::Vector, parts) => first_type(parts),
-        _ => Ok(Type::word(Word::Unknown)),
     }
 }
 

@@ -3,7 +3,8 @@ ghost use Rattle.std.specs.Prelude.{◌≡◌, ℕ, [], Option, map, slice_get, 
 ghost use Rattle.sp_hook_rows.specs.HookRows.{keys_of};
 ghost use Rattle.sp_typing_heads.specs.Hooks.{no_hook};
 ghost use Rattle.sp_types.specs.Types.{Ty};
-ghost use Rattle.sp_typing_hooks.specs.Hooks.{seen_by, site_of, unit_of, parameters_of, written_hook, seen_hook, hook_of, hook_in, typed_hooks};
+ghost use Rattle.sp_typing_hooks.specs.Hooks.{seen_by, site_of, parameters_of, written_hook, hook_of, hook_in, typed_hooks};
+ghost use Rattle.sp_typed_units.specs.Hooks.{unit_of};
 ghost use Rattle.sp_typing_hooks.specs.inside.Tables.{seen_told, Tells};
 
 use crate::contexts::context_at;
@@ -11,25 +12,12 @@ use crate::row::site_of;
 use crate::table::FieldTypes;
 use sp_base::{NoMemory, or_drop};
 use sp_hook_rows::HookRow;
+use sp_surroundings::Parameters;
 use sp_typed::{Stmt, StmtNode};
-use sp_typed_units::{Hook, HookOf, Row};
+use sp_typed_units::{Hook, Row, unit_of};
 use sp_typing::Context;
-use sp_typing_heads::{Parameters, Ranks, Site, fits, hook_behind, hook_on};
+use sp_typing_heads::{Ranks, Site, fits, hook_behind, hook_on};
 use std::alloc::Global;
-
-/// The unit of which a hook is.
-fn unit_of(of: HookOf) -> Option<u32>
-    ensures { result ≡ unit_of of }
-{
-    match of {
-        HookOf::Nothing => None,
-        HookOf::Unit(unit, _)
-        | HookOf::Field(unit, _)
-        | HookOf::Elements(unit, _)
-        | HookOf::Anonymous(unit)
-        | HookOf::AnonymousElements(unit) => Some(unit),
-    }
-}
 
 /// A hook that is written with `on`, or stands behind a field, in a unit of these parameters.
 fn written_hook<C: Context, R: Ranks>(

@@ -9,7 +9,7 @@ ghost use Rattle.sp_typing_hooks.specs.inside.Tables.{has_mark, type_told, is_an
 use crate::field::{FieldType, holder_types, holds_container};
 use crate::marks::{Mark, Marks, asked, site_mark};
 use indexmap::IndexMap;
-use sp_around::Tables;
+use sp_around::{Tables, differ};
 use sp_base::{NoMemory, or_drop};
 use sp_hook_order::HookKey;
 use sp_hook_rows::Site;
@@ -62,12 +62,6 @@ pub struct FieldTypes {
     pub(crate) elements: TypeTable,
     /// Where another one has elements of another type.
     pub(crate) mixed: Marks,
-}
-
-fn differ(a: &Type, b: &Type) -> bool
-    ensures { result ≡ differ a.now b.now }
-{
-    a.is_known() && (b.is_known() && !a.same(b))
 }
 
 /// Whether the type that stands at a mark is another one, where both are known.

@@ -1,18 +1,12 @@
 -- What is seen from a body that has locals.
 use Rattle.std.specs.Prelude.{ℕ, List, Option, Some, None}
 use Rattle.sp_base.specs.declared.places.Span.{Span}
-use Rattle.sp_ast.specs.Trees.{Tree, node, none, more}
-use Rattle.sp_ast.specs.declared.forms.Form.TheVariants as form_is
 use Rattle.sp_typed.specs.Exprs.{Expr}
 use Rattle.sp_typed.specs.declared.words.LeafOp.TheVariants as leaf_is
 use Rattle.sp_typing.specs.Contexts.{Around}
+use Rattle.sp_typing.specs.Names.{single_name}
 use Rattle.sp_typing.specs.Typing.{leaf_at}
 use Rattle.sp_typing_stmts.specs.Scopes.{Local, found}
-
--- the name that a path is, where it is one name
-abbrev pub single_name : Tree → Option (List ℕ)
-single_name (node form_is.Path span (more (node (form_is.Name x) at none) none)) = Some x
-single_name _ = None
 
 abbrev pub found_maybe : Option (List ℕ) → List Local → Option Local
 found_maybe None ls = None

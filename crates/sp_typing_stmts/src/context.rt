@@ -1,6 +1,7 @@
 // What stands round an expression in a body that has locals.
 ghost use Rattle.std.specs.Prelude.{◌≡◌, option_copied, IfOk};
-ghost use Rattle.sp_typing_stmts.specs.Visible.{single_name, found_maybe, local_or, with_locals};
+ghost use Rattle.sp_typing_stmts.specs.Visible.{found_maybe, local_or, with_locals};
+ghost use Rattle.sp_typing.specs.Names.{single_name};
 ghost use Rattle.sp_typing_stmts.specs.inside.Tables.{known};
 
 use crate::locals::{Known, Locals};
@@ -8,7 +9,7 @@ use sp_ast::{PathKind, Ref, TypeKind};
 use sp_base::{NoMemory, Span};
 use sp_typed::{Expr, Leaf, LeafOp, ManyOp, Written};
 use sp_types::Type;
-use sp_typing::{Callable, Context, Member};
+use sp_typing::{Callable, Context, Member, single_name};
 use std::alloc::Global;
 
 /// What stands round an expression in a body: its locals, and what is outside of it.
@@ -16,18 +17,6 @@ use std::alloc::Global;
 pub struct WithLocals<'a, C: Context> {
     pub outside: &'a C,
     pub locals: &'a Locals,
-}
-
-/// The name that a path is, where it is one name.
-fn single_name<'a>(path: &Ref<'a, PathKind>) -> Option<&'a str>
-    ensures { option_copied result ≡ single_name path.now }
-{
-    let (first, others) = path.names().split_first()?;
-    let text = first.text();
-    match others.split_first() {
-        Some(_) => None,
-        None => Some(text),
-    }
 }
 
 impl<'a, C: Context> WithLocals<'a, C> {

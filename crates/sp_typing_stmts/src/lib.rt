@@ -16,6 +16,6 @@ pub use owners::{keep_owner, keep_owners, owner};
 pub use scope::Scope;
 pub use simple::{
     add_in, assign_in, bare_at, delete_in, element_type, local_in, loop_head, return_in, text_in,
-    valued_in,
+    valued_in, written_of, written_type,
 };
 pub use values::{value_in, values_in};

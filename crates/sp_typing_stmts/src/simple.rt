@@ -39,7 +39,8 @@ fn valued_at(span: Span, op: ValuedOp, e: Expr) -> Result<Stmt, NoMemory>
 
 /// The type that is written, if one is.
 #[tactic(auto, using(crate::proofs::Lefts::written_type_is))]
-fn written_type<C: Context>(
+/// The type that is written, if one is.
+pub fn written_type<C: Context>(
     alloc: Global,
     context: &C,
     tree: &Option<Ref<'_, TypeKind>>,
@@ -57,7 +58,8 @@ fn written_type<C: Context>(
 }
 
 #[tactic(auto, using(crate::proofs::Lefts::written_of_is))]
-fn written_of<C: Context>(context: &C, tree: &Option<Ref<'_, TypeKind>>) -> Option<Written>
+/// Which type is written, if one is.
+pub fn written_of<C: Context>(context: &C, tree: &Option<Ref<'_, TypeKind>>) -> Option<Written>
     ensures { result ≡ written_of (C.around context.now) (optional_tree tree.now) }
 {
     match tree {

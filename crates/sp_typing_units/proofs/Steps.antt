@@ -3,14 +3,14 @@ use Rattle.std.proofs.Common.{ℕ, ◌+◌, ◌≤◌, ◌≡◌, List, [], ◌�
 use Rattle.sp_base.specs.declared.places.Span.{Span}
 use Rattle.sp_words.specs.declared.words.AttributeName.{AttributeName}
 use Rattle.sp_ast.specs.Trees.{Tree, tree, trees, span_of, tree_size, trees_size}
-use Rattle.sp_ast.specs.Views.{optional_tree}
+use Rattle.sp_ast.specs.Views.{optional_tree, present}
 use Rattle.sp_ast.specs.declared.forms.Form.TheVariants as form_is
 use Rattle.sp_typed_units.specs.declared.attributes.Attribute.{Attribute}
 use Rattle.sp_typing.specs.Contexts.{Around}
 use Rattle.sp_typing_units.specs.declared.attributes.Site.{Site}
 use Rattle.sp_typing_units.specs.Roles.{role_of}
 use Rattle.sp_typing_units.specs.Values.{Values}
-use Rattle.sp_typing_units.specs.Attributes.{present, attribute_by, attributes}
+use Rattle.sp_typing_units.specs.Attributes.{attribute_by, attributes}
 
 pub attributes_step : (g : Around) (v : Values) (s : Site) (all new : List Attribute) (left behind : List Tree) (t : Tree) (name : AttributeName) (span : Span) (value : Option Tree) (a : Attribute) (whole : List Attribute)
     → left ≡ t ∷ behind → span ≡ span_of t → tree (form_is.Attribute name) (span_of t) (optional_tree value ∷ []) ≡ t → present (optional_tree value) ≡ value

@@ -3,7 +3,7 @@ use Rattle.std.specs.Prelude.{ℕ, List, [], ◌∷◌, Option, Some, None}
 use Rattle.sp_base.specs.declared.places.Span.{Span}
 use Rattle.sp_words.specs.declared.words.AttributeName.{AttributeName}
 use Rattle.sp_words.specs.declared.words.AttributeName.TheVariants as name_is
-use Rattle.sp_ast.specs.Trees.{Tree, Trees, absent, node, none, more}
+use Rattle.sp_ast.specs.Trees.{Tree, Trees, node, none, more}
 use Rattle.sp_ast.specs.declared.forms.Form.TheVariants as form_is
 use Rattle.sp_types.specs.Types.{Ty, made}
 use Rattle.sp_types.specs.declared.words.Maker.TheVariants as maker_is
@@ -18,12 +18,8 @@ use Rattle.sp_typing_units.specs.declared.roles.Role.{Role}
 use Rattle.sp_typing_units.specs.declared.roles.Role.TheVariants as role_is
 use Rattle.sp_typing_units.specs.Roles.{role_of}
 use Rattle.sp_typing_units.specs.Values.{Values}
-use Rattle.sp_typing_units.specs.Decorators.{meant}
-
--- a part that may be left out
-abbrev pub present : Tree → Option Tree
-present absent = None
-present t = Some t
+use Rattle.sp_surroundings.specs.Decorators.{meant}
+use Rattle.sp_ast.specs.Views.{present}
 
 -- its typed expression
 abbrev pub maybe_typed : Around → Option Tree → Option Expr

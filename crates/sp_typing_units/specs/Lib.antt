@@ -1,5 +1,5 @@
 pub mod Roles
-pub mod Decorators
+pub mod Kinds
 pub mod Values
 pub mod Attributes
 pub mod Readings

@@ -17,7 +17,8 @@ use Rattle.sp_typing.specs.Contexts.{Around}
 use Rattle.sp_typing.specs.Typing.{typed_all, name_of}
 use Rattle.sp_typing_units.specs.declared.readings.Read.{Read}
 use Rattle.sp_typing_units.specs.Values.{Values}
-use Rattle.sp_typing_units.specs.Attributes.{present, maybe_typed, attributes, conversion, converted}
+use Rattle.sp_typing_units.specs.Attributes.{maybe_typed, attributes, conversion, converted}
+use Rattle.sp_ast.specs.Views.{present}
 use Rattle.sp_typing_units.specs.Readings.{counted_read}
 
 -- What a unit knows of its fields.

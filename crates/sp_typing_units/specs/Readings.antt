@@ -26,13 +26,15 @@ use Rattle.sp_typed_units.specs.Specs.{Spec, unit_read, list_read, group_read}
 use Rattle.sp_typed_units.specs.Specs as spec_is
 use Rattle.sp_operands.specs.Operands.{unknown}
 use Rattle.sp_typing.specs.Contexts.{Around}
-use Rattle.sp_typing.specs.Typing.{typed_all, each_to, int_word, number_in, made_of}
+use Rattle.sp_typing.specs.Typing.{typed_all, each_to, number_in, made_of}
+use Rattle.sp_types.specs.Integers.{int_word}
 use Rattle.sp_typing_units.specs.declared.readings.Read.{Read}
 use Rattle.sp_typing_units.specs.declared.roles.Kind.{Kind}
 use Rattle.sp_typing_units.specs.declared.roles.Kind.TheVariants as kind_is
 use Rattle.sp_typing_units.specs.Roles.{grouped}
 use Rattle.sp_typing_units.specs.Values.{Values}
-use Rattle.sp_typing_units.specs.Attributes.{present, maybe_typed, attributes, conversion, converted}
+use Rattle.sp_typing_units.specs.Attributes.{maybe_typed, attributes, conversion, converted}
+use Rattle.sp_ast.specs.Views.{present}
 
 -- what is wrong with what can't be read: nothing of its own, a name that names nothing, or a type that can't stand there
 abbrev pub fine : Span → Written

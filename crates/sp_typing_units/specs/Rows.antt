@@ -35,7 +35,7 @@ use Rattle.sp_operands.specs.Operands.{unknown, boolean}
 use Rattle.sp_typing.specs.Typing.{typed, leaf_at, name_of}
 use Rattle.sp_typing_units.specs.declared.roles.Kind.TheVariants as kind_is
 use Rattle.sp_typing_units.specs.Values.{Values}
-use Rattle.sp_typing_units.specs.Decorators.{with_current, with_self}
+use Rattle.sp_surroundings.specs.Decorators.{with_current, with_self}
 use Rattle.sp_typing_units.specs.Readings.{counted_read, word_read, simple, broken, literal, fine, unnamed, misplaced, in_vain}
 use Rattle.sp_typing_units.specs.Parts.{Fields, part_of}
 

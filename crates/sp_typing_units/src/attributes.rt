@@ -3,17 +3,16 @@ ghost use Rattle.std.specs.Prelude.{◌≡◌, IfOk};
 ghost use Rattle.sp_ast.specs.Trees.{trees};
 ghost use Rattle.sp_ast.specs.Views.{optional_tree};
 ghost use Rattle.sp_typing.specs.Typing.{typed};
-ghost use Rattle.sp_typing_units.specs.Decorators.{meant};
+ghost use Rattle.sp_surroundings.specs.Decorators.{meant};
 ghost use Rattle.sp_typing_units.specs.Roles.{role_of};
 ghost use Rattle.sp_typing_units.specs.Attributes.{element_of, value_typed, maybe_value, order_number, delimiter_bytes, attribute_with, attribute_by, attributes, if_convert, conversion_of, or_next, conversion, converted};
 
 use crate::constants::Constants;
-use crate::current::WithCurrent;
-use crate::optional::is_present;
 use crate::roles::{Kind, Role, role_of};
-use sp_ast::{AttributeKind, ExprKind, Members, Ref};
+use sp_ast::{AttributeKind, ExprKind, Members, Ref, is_present};
 use sp_base::{ByteList, NoMemory, Span, or_drop};
 use sp_operands::{first_type, seen};
+use sp_surroundings::WithCurrent;
 use sp_typed::{Expr, Standing};
 use sp_typed_units::Attribute;
 use sp_types::{Level, Maker, Type, Word};
@@ -31,7 +30,7 @@ pub struct Site {
 }
 
 /// The type of the elements of a container.
-fn element_of(of: &Type) -> Result<Type, NoMemory>
+pub fn element_of(of: &Type) -> Result<Type, NoMemory>
     ensures { IfOk result (λ t. t ≡ element_of of.now) }
 {
     match of.level() {
@@ -211,7 +210,7 @@ fn conversion_of<'a>(attribute: &Ref<'a, AttributeKind>) -> Option<Ref<'a, ExprK
 }
 
 /// The value of the first `&convert` that has one.
-fn conversion<'a>(list: &Members<'a, AttributeKind>) -> Option<Ref<'a, ExprKind>>
+pub fn conversion<'a>(list: &Members<'a, AttributeKind>) -> Option<Ref<'a, ExprKind>>
     ensures { result ≡ conversion (trees list.now) }
 {
     for attribute in list.again() {

@@ -4,17 +4,15 @@
 
 mod attributes;
 mod constants;
-mod current;
-mod itself;
+mod kinds;
 mod optional;
 mod parts;
 mod readings;
 mod roles;
 
-pub use attributes::{Site, attributes_of, converted};
+pub use attributes::{Site, attributes_of, conversion, converted, element_of};
 pub use constants::Constants;
-pub use current::WithCurrent;
-pub use itself::WithSelf;
+pub use kinds::{kind_of, list_kind, read_kind};
 pub use parts::{FieldTable, part_of, parts_of};
-pub use readings::{Read, counted_read};
-pub use roles::{Holder, Kind, Role, may_stand, role_of};
+pub use readings::{Read, counted_read, read_type};
+pub use roles::{Holder, Kind, Role, grouped, may_stand, role_of};

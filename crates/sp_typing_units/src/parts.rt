@@ -8,11 +8,11 @@ ghost use Rattle.sp_typing_units.specs.Parts.{Fields, field_place, member_number
 
 use crate::attributes::stored_by;
 use crate::constants::Constants;
-use crate::optional::{is_present, maybe_typed};
+use crate::optional::maybe_typed;
 use crate::readings::{Read, counted_read};
 use sp_ast::{
     ArmKind, AttributeKind, BodyKind, BodyView, ExprKind, FieldKind, FieldView, GuardKind,
-    GuardView, Members, NameKind, PartKind, PartView, Ref,
+    GuardView, Members, NameKind, PartKind, PartView, Ref, is_present,
 };
 use sp_base::{NoMemory, Span, or_drop};
 use sp_operands::{seen, taken};

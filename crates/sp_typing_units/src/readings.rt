@@ -1,28 +1,27 @@
 // How fields, elements and groups are read.
 ghost use Rattle.std.specs.Prelude.{◌≡◌, IfOk, map};
-ghost use Rattle.sp_ast.specs.Trees.{trees, span_of};
-ghost use Rattle.sp_typing.specs.Contexts.{Around};
+ghost use Rattle.sp_ast.specs.Trees.{trees};
 ghost use Rattle.sp_operands.specs.Operands.{unknown};
-ghost use Rattle.sp_typing.specs.Typing.{int_word, to_maybe};
+ghost use Rattle.sp_typing.specs.Typing.{to_maybe};
+ghost use Rattle.sp_types.specs.Integers.{int_word};
 ghost use Rattle.sp_typed_units.specs.Specs.{list_read, group_read};
-ghost use Rattle.sp_typing_units.specs.Readings.{fine, unnamed, misplaced, simple, broken, decoder, literal, or_empty, constant_read, constant_of_type, named_op, named_read, unit_spec, word_read, unknown_read, type_read, arguments, in_vain, with_arguments, called_word, called_op, called, vector_of, counting, container, contained, group_with, group_of, base_read, counted_read};
+ghost use Rattle.sp_typing_units.specs.Readings.{fine, unnamed, misplaced, simple, broken, decoder, literal, or_empty, constant_read, constant_of_type, named_read, unit_spec, word_read, unknown_read, type_read, arguments, in_vain, with_arguments, called_word, called, vector_of, counting, container, contained, group_of, base_read, counted_read};
 
 use crate::attributes::{Stored, stored_by};
 use crate::constants::Constants;
-use crate::optional::{is_present, maybe_typed};
+use crate::optional::maybe_typed;
 use crate::roles::{Kind, grouped};
 use sp_ast::{
     AttributeKind, BaseKind, BaseView, CountKind, ExprKind, Members, PathKind, Ref, TypeKind,
-    TypeView,
+    TypeView, is_present,
 };
 use sp_base::{ByteList, NoMemory, Span, Text, or_drop};
-use sp_numbers::Width;
 use sp_typed::{Expr, ExprLevel, LeafOp, ManyOp, NewOf, Written};
 use sp_typed_units::{Attribute, ReadOp, Reading, Spec, SpecNode, TokenOp, UnitOf};
-use sp_types::{Level, Maker, Type, Word};
+use sp_types::{Level, Maker, Type, Word, int_word};
 use sp_typing::Context;
 use sp_typing_exprs::{to_maybe, typed_all};
-use sp_words::{AttributeName, IntWord};
+use sp_words::AttributeName;
 use std::alloc::Global;
 
 /// How something is read, the type of what is read, and what attributes can stand on it.
@@ -502,22 +501,6 @@ fn group_of<C: Context, V: Constants>(
     })
 }
 
-/// The type that is a word of integers.
-fn int_word(word: IntWord) -> Word
-    ensures { result ≡ int_word word }
-{
-    match word {
-        IntWord::Uint8 => Word::Uint(Width::W8),
-        IntWord::Uint16 => Word::Uint(Width::W16),
-        IntWord::Uint32 => Word::Uint(Width::W32),
-        IntWord::Uint64 => Word::Uint(Width::W64),
-        IntWord::Int8 => Word::Int(Width::W8),
-        IntWord::Int16 => Word::Int(Width::W16),
-        IntWord::Int32 => Word::Int(Width::W32),
-        IntWord::Int64 => Word::Int(Width::W64),
-    }
-}
-
 /// How a base is read, apart from counts behind it.
 #[cycle(base)]
 fn base_read<C: Context, V: Constants>(
@@ -592,4 +575,21 @@ pub fn counted_read<C: Context, V: Constants>(
 {
     let read = base_read(alloc, context, constants, base)?;
     contained(alloc, context, base.span(), counts, read)
+}
+
+/// The type of what is read.
+pub fn read_type<C: Context, V: Constants>(
+    alloc: Global,
+    context: &C,
+    constants: &V,
+    base: &Ref<'_, BaseKind>,
+    counts: &Members<'_, CountKind>,
+) -> Result<Type, NoMemory>
+    ensures { IfOk result (λ t. t ≡ (counted_read (C.around context.now) (V.values constants.now)
+        base.now (trees counts.now)).ty) }
+{
+    let read = counted_read(alloc, context, constants, base, counts)?;
+    let Read { spec, ty, kind: _ } = read;
+    drop(spec);
+    Ok(ty)
 }

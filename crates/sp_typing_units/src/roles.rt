@@ -154,7 +154,7 @@ pub fn role_of(kind: Kind, name: AttributeName) -> Role
 }
 
 /// What stands in parentheses, by what is inside.
-pub(crate) fn grouped(kind: Kind) -> Kind
+pub fn grouped(kind: Kind) -> Kind
     ensures { result ≡ grouped kind }
 {
     match kind {

@@ -12,7 +12,7 @@ use Rattle.sp_words.specs.declared.words.AttributeName.{AttributeName}
 use Rattle.sp_words.specs.declared.words.AttributeName.TheVariants as attribute_is
 use Rattle.sp_words.specs.declared.words.HookName.{HookName}
 use Rattle.sp_words.specs.declared.words.HookName.TheVariants as hook_is
-use Rattle.sp_ast.specs.Trees.{Tree, Trees, absent, row, node, none, more, span_of}
+use Rattle.sp_ast.specs.Trees.{Tree, Trees, row, node, none, more, span_of}
 use Rattle.sp_ast.specs.declared.forms.Form.TheVariants as form_is
 use Rattle.sp_ast.specs.declared.forms.DeclForm.TheVariants as decl_is
 use Rattle.sp_ast.specs.declared.forms.ExprForm.TheVariants as expr_is
@@ -22,6 +22,7 @@ use Rattle.sp_ast.specs.declared.forms.StmtForm.TheVariants as stmt_is
 use Rattle.sp_ast.specs.declared.forms.TargetForm.TheVariants as target_is
 use Rattle.sp_ast.specs.declared.forms.TypeForm.TheVariants as type_is
 use Rattle.sp_unbuilt.specs.Next.{next_token, two_bytes}
+use Rattle.sp_ast.specs.Views.{present}
 
 -- a construct of a module on a slice of its text
 abbrev pub at : ℕ → Span → Diag
@@ -135,11 +136,6 @@ last_end n (more t ts) = last_end (span_of t).to ts
 -- where the base of a field ends with its counts and its attributes
 abbrev pub read_end : Tree → Trees → Trees → ℕ
 read_end base counts attributes = last_end (last_end (span_of base).to counts) attributes
-
--- a part that may be left out
-abbrev pub present : Tree → Option Tree
-present absent = None
-present t = Some t
 
 -- a part behind a token of two bytes, which is the next one from a place on
 abbrev pub word_tests : List ℕ → ℕ → ℕ → Option Tree → List (Bool × Diag)

@@ -1,27 +1,17 @@
 // What stands in fields and isn't built yet: conditions, sinks, and hooks for each element.
 ghost use Rattle.std.specs.Prelude.{◌≡◌, ◌≤◌, ◌+◌, ◌^◌, length};
 ghost use Rattle.sp_ast.specs.Trees.{trees};
-ghost use Rattle.sp_ast.specs.Views.{optional_tree};
 ghost use Rattle.sp_unbuilt.specs.First.{noted};
-ghost use Rattle.sp_unbuilt.specs.Constructs.{last_end, read_end, present, word_tests, condition_end, tail_tests, each_tests, field_tests};
+ghost use Rattle.sp_unbuilt.specs.Constructs.{last_end, read_end, word_tests, condition_end, tail_tests, each_tests, field_tests};
 
 use crate::first::note_at;
 use crate::hooks::is_each;
 use crate::next::{next_token, next_two};
 use sp_ast::{
     AttributeKind, BaseKind, CountKind, ExprKind, FieldKind, HookBodyKind, Kind, Members, Ref,
+    is_present,
 };
 use sp_base::Diag;
-
-/// The part that may be left out is the one that is lent, if it is. It does nothing; a caller's proof has the fact from it.
-fn is_present<K: Kind>(part: &Option<Ref<'_, K>>)
-    ensures { present (optional_tree part.now) ≡ part.now }
-{
-    match part {
-        Some(tree) => tree.is_sound(),
-        None => {}
-    }
-}
 
 /// Where the last of some trees ends, or else a place.
 fn last_end<K: Kind>(place: u32, row: &Members<'_, K>) -> u32

@@ -1,20 +1,11 @@
 -- Of which units hooks call a method of a unit.
-use Rattle.std.specs.Prelude.{ℕ, ◌==◌, Bool, true, false, ◌||◌, List, [], ◌∷◌, ◌++◌, Option, Some, None}
+use Rattle.std.specs.Prelude.{ℕ, ◌==◌, Bool, true, false, ◌||◌, List, [], ◌∷◌, ◌++◌, Option, Some}
 use Rattle.sp_typed.specs.declared.words.UnitMethod.{UnitMethod}
-use Rattle.sp_typed_units.specs.declared.declarations.HookOf.{HookOf}
 use Rattle.sp_typed_units.specs.declared.declarations.HookOf.TheVariants as of_is
 use Rattle.sp_typed_units.specs.declared.declarations.Hook.{Hook}
 use Rattle.sp_unit_calls.specs.Calls.{option_calls}
 use Rattle.sp_unit_calls.specs.StmtCalls.{stmt_calls}
-
--- the unit of which a hook is: its own, that of its field or of that field's elements
-abbrev pub unit_of : HookOf → Option ℕ
-unit_of of_is.Nothing = None
-unit_of (of_is.Unit n h) = Some n
-unit_of (of_is.Field n k) = Some n
-unit_of (of_is.Elements n k) = Some n
-unit_of (of_is.Anonymous n) = Some n
-unit_of (of_is.AnonymousElements n) = Some n
+use Rattle.sp_typed_units.specs.Hooks.{unit_of}
 
 -- a call in the priority or in the body of a hook
 abbrev pub hook_calls : UnitMethod → Hook → Bool

@@ -1,6 +1,7 @@
 // The units of which hooks call a method, asked by unit.
 ghost use Rattle.std.specs.Prelude.{◌≡◌, ◌==◌, ◌||◌, ◌++◌, ℕ, IfOk, OnOk};
-ghost use Rattle.sp_unit_calls.specs.HookCalling.{unit_of, hook_calls, if_calls, callers, has};
+ghost use Rattle.sp_unit_calls.specs.HookCalling.{hook_calls, if_calls, callers, has};
+ghost use Rattle.sp_typed_units.specs.Hooks.{unit_of};
 ghost use Rattle.sp_unit_calls.specs.inside.Units.{has_told};
 
 use crate::exprs::option_calls;
@@ -8,23 +9,9 @@ use crate::stmts::stmt_calls;
 use indexmap::IndexSet;
 use sp_base::{NoMemory, or_drop};
 use sp_typed::UnitMethod;
-use sp_typed_units::{Hook, HookOf};
+use sp_typed_units::{Hook, unit_of};
 use std::alloc::Global;
 use std::marker::Model;
-
-/// The unit of which a hook is.
-fn unit_of(of: HookOf) -> Option<u32>
-    ensures { result ≡ unit_of of }
-{
-    match of {
-        HookOf::Nothing => None,
-        HookOf::Unit(unit, _)
-        | HookOf::Field(unit, _)
-        | HookOf::Elements(unit, _)
-        | HookOf::Anonymous(unit)
-        | HookOf::AnonymousElements(unit) => Some(unit),
-    }
-}
 
 fn hook_calls(method: UnitMethod, hook: &Hook) -> bool
     ensures { result ≡ hook_calls method hook.now }

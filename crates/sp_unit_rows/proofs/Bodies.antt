@@ -6,8 +6,8 @@ use Rattle.sp_types.specs.Types.{Ty}
 use Rattle.sp_typing.specs.Contexts.{Around}
 use Rattle.sp_typing_units.specs.Values.{Values}
 use Rattle.sp_typed_units.specs.declared.declarations.Parameter.{Parameter}
-use Rattle.sp_typing_heads.specs.Functions.{path_of}
-use Rattle.sp_typing_heads.specs.Parameters.{parameters_in}
+use Rattle.sp_typing.specs.Names.{path_of}
+use Rattle.sp_surroundings.specs.Parameters.{parameters_in}
 use Rattle.sp_names.specs.declared.rows.Declaration.{Declaration}
 use Rattle.sp_names.specs.Declarations.{name_of, module_name, module_at, type_tree_of}
 use Rattle.sp_around.specs.Members.{unit_in, unit_items}

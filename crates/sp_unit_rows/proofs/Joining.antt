@@ -14,10 +14,10 @@ use Rattle.sp_around.specs.Arounds.{kind_type, kind_member, unit_member, some_me
 use Rattle.sp_around.specs.inside.Kept.{joined, all_joined}
 use Rattle.sp_around.proofs.Joining.{bytes_decide, joined_firsts}
 use Rattle.sp_unit_rows.specs.declared.named.Named.{Named}
-use Rattle.sp_unit_rows.specs.declared.numbers.Numbers.{Numbers}
+use Rattle.sp_name_tables.specs.declared.tables.NameTable.{NameTable}
 use Rattle.sp_unit_rows.specs.UnitRows.{member_rows}
 use Rattle.sp_unit_rows.specs.inside.Shown.{shown, shown_one}
-use Rattle.sp_unit_rows.specs.inside.Told.{told_by}
+use Rattle.sp_name_tables.specs.Tables.{told_by}
 use Rattle.sp_unit_rows.specs.inside.Joins.{Joined, found_type, rows_by}
 
 pub shown_more : (ns : List Named) (n : Named) → shown (ns ++ n ∷ []) ≡ shown ns ++ shown_one n ∷ []
@@ -51,7 +51,7 @@ none_is None e = refl
 none_is (Some n) e = cc
 
 -- one member more
-pub joins_new : (old new : Numbers) (ms row : List UnitMember) (m : UnitMember) (next : ℕ)
+pub joins_new : (old new : NameTable) (ms row : List UnitMember) (m : UnitMember) (next : ℕ)
     → is_some (told_by old m.name) ≡ false
     → next ≡ length ms
     → ((x : List ℕ) → told_by new x ≡ cond (is_some (told_by old m.name)) (told_by old x) (cond (bytes_eq x m.name) (Some next) (told_by old x)))
@@ -71,7 +71,7 @@ joins_new old new ms row m next absent count told grows = λ are. (
       row_is = grows ∙ sym (ap (λ o. if is_some o then ms else ms ++ m ∷ []) fresh);
     })
 
-pub joins_old : (old : Numbers) (ms : List UnitMember) (m : UnitMember) → is_some (told_by old m.name) ≡ true → Joined old ms m old ms
+pub joins_old : (old : NameTable) (ms : List UnitMember) (m : UnitMember) → is_some (told_by old m.name) ≡ true → Joined old ms m old ms
 joins_old old ms m there = λ are. (record {
   numbers_are = are;
   row_is = sym (ap (λ b. if b then ms else ms ++ m ∷ []) (ap is_some (sym (are m.name)) ∙ there));

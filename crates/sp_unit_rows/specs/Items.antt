@@ -12,7 +12,8 @@ use Rattle.sp_typed_units.specs.Parts.{Part}
 use Rattle.sp_typing.specs.Contexts.{Around}
 use Rattle.sp_typing.specs.Typing.{name_of, to_target}
 use Rattle.sp_typing_units.specs.Values.{Values}
-use Rattle.sp_typing_units.specs.Attributes.{present, maybe_typed}
+use Rattle.sp_typing_units.specs.Attributes.{maybe_typed}
+use Rattle.sp_ast.specs.Views.{present}
 use Rattle.sp_typing_units.specs.Parts.{Fields, part_of}
 
 -- what is written behind `=` goes to the type of the variable

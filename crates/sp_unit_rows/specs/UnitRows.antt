@@ -16,9 +16,9 @@ use Rattle.sp_typed_units.specs.Parts.{Part, parts}
 use Rattle.sp_typing.specs.Contexts.{Around}
 use Rattle.sp_typing_units.specs.Values.{Values}
 use Rattle.sp_typing_units.specs.Parts.{Fields}
-use Rattle.sp_typing_units.specs.Decorators.{with_self}
-use Rattle.sp_typing_heads.specs.Parameters.{parameters_in, with_parameters}
-use Rattle.sp_typing_heads.specs.Functions.{path_of}
+use Rattle.sp_surroundings.specs.Decorators.{with_self}
+use Rattle.sp_surroundings.specs.Parameters.{parameters_in, with_parameters}
+use Rattle.sp_typing.specs.Names.{path_of}
 use Rattle.sp_names.specs.declared.rows.Declaration.{Declaration}
 use Rattle.sp_names.specs.Declarations.{name_of, module_name, module_at}
 use Rattle.sp_around.specs.Members.{UnitMember, members_of, unit_items, declared_unit, unit_declaration}

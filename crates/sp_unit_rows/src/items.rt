@@ -1,12 +1,12 @@
 // What the items of a unit give its row, each in the order of the text.
 ghost use Rattle.std.specs.Prelude.{◌≡◌, ◌++◌, IfOk, OnOk};
 ghost use Rattle.sp_ast.specs.Trees.{trees, span_of};
-ghost use Rattle.sp_ast.specs.Views.{optional_tree};
-ghost use Rattle.sp_typing_units.specs.Attributes.{present, maybe_typed};
+ghost use Rattle.sp_typing_units.specs.Attributes.{maybe_typed};
 ghost use Rattle.sp_unit_rows.specs.Items.{brought, variable_of, variable_in, variables_in, sink_of, sink_in, sinks_in, order_with, order_in, orders_in, part_in, parts_in, is_filter, has_filter};
 
-use crate::tell::is_present;
-use sp_ast::{ExprKind, ItemKind, ItemView, Members, NameKind, PathKind, Ref, TypeKind};
+use sp_ast::{
+    ExprKind, ItemKind, ItemView, Members, NameKind, PathKind, Ref, TypeKind, is_present,
+};
 use sp_base::{NoMemory, or_drop};
 use sp_typed::Expr;
 use sp_typed_units::{OrderProperty, Part, Sink, Variable};

@@ -7,7 +7,6 @@ mod items;
 mod known;
 mod members;
 mod named;
-mod numbers;
 mod tell;
 mod unit;
 

@@ -11,10 +11,10 @@ ghost use Rattle.sp_unit_rows.specs.inside.Told.{AreNumbered};
 ghost use Rattle.sp_unit_rows.specs.inside.Joins.{Joined, found_type, row_by, rows_by};
 
 use crate::named::{Named, add_items};
-use crate::numbers::{Numbers, declare, look_up, number};
 use sp_around::Tables;
 use sp_ast::{Ref, UnitKind};
 use sp_base::{NoMemory, Text, or_drop};
+use sp_name_tables::{NameTable, declare, look_up, number};
 use sp_typed_units::Member;
 use sp_types::{Type, Word};
 use std::alloc::Global;
@@ -22,7 +22,7 @@ use std::alloc::Global;
 /// The members of a unit, and their numbers by their names.
 #[derive(Drop)]
 pub(crate) struct MemberTable<'a> {
-    pub(crate) numbers: Numbers,
+    pub(crate) numbers: NameTable,
     pub(crate) rows: Vec<Named<'a>>,
     ghost numbered: { AreNumbered numbers (shown rows.items) },
 }
@@ -30,7 +30,7 @@ pub(crate) struct MemberTable<'a> {
 /// Adds a member, unless an earlier one has its name.
 fn join<'a>(
     alloc: Global,
-    numbers: &mut Numbers,
+    numbers: &mut NameTable,
     rows: &mut Vec<Named<'a>>,
     named: Named<'a>,
 ) -> Result<(), NoMemory>
@@ -50,7 +50,7 @@ fn join<'a>(
 fn joined<'a>(alloc: Global, all: &[Named<'a>]) -> Result<MemberTable<'a>, NoMemory>
     ensures { IfOk result (λ t. shown t.rows.items ≡ all_joined [] (shown all.now)) }
 {
-    let mut numbers = Numbers::new(alloc);
+    let mut numbers = NameTable::new(alloc);
     let mut rows = Vec::new(alloc);
     for named in all {
         join(alloc, &mut numbers, &mut rows, *named)?;

@@ -18,9 +18,9 @@ use Rattle.sp_typing.specs.Typing.{typed_all}
 use Rattle.sp_typing_units.specs.declared.readings.Read.{Read}
 use Rattle.sp_typing_units.specs.Roles.{grouped}
 use Rattle.sp_typing_units.specs.Values.{Values}
-use Rattle.sp_typing_units.specs.Attributes.{present}
+use Rattle.sp_ast.specs.Views.{present}
 use Rattle.sp_typing_units.specs.Readings.{constant_read, constant_of_type, named_op, named_read, word_read, unknown_read, type_read, called_word, called_op, called, container, contained, base_read, counted_read}
-use Rattle.sp_unit_rules.specs.Kinds.{kind_of}
+use Rattle.sp_typing_units.specs.Kinds.{kind_of}
 
 abbrev IsKind : Read → Type 0
 IsKind r = kind_of r.spec ≡ r.kind

@@ -8,7 +8,7 @@ use Rattle.sp_typed_units.specs.declared.attributes.Attribute.{Attribute}
 use Rattle.sp_typing_units.specs.declared.roles.Kind.{Kind}
 use Rattle.sp_typing_units.specs.declared.roles.Holder.{Holder}
 use Rattle.sp_typing_units.specs.Roles.{may_stand}
-use Rattle.sp_unit_rules.specs.Faults.{at}
+use Rattle.sp_rules.specs.Faults.{at}
 
 -- the attributes without a value: `&eod`, `&try` and `&synchronize`
 abbrev pub takes_value : AttributeName → Bool

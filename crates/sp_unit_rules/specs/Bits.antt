@@ -4,7 +4,7 @@ use Rattle.sp_rules.specs.declared.rule.Rule.TheVariants as rule_is
 use Rattle.sp_rules.specs.declared.fault.Fault.{Fault}
 use Rattle.sp_typed_units.specs.declared.declarations.BitRange.{BitRange}
 use Rattle.sp_typed_units.specs.declared.declarations.Bitfield.{Bitfield}
-use Rattle.sp_unit_rules.specs.Faults.{at}
+use Rattle.sp_rules.specs.Faults.{at}
 
 -- how many bits a bitfield may have
 abbrev pub is_width : ℕ → Bool

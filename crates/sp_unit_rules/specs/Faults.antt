@@ -1,12 +1,6 @@
--- Faults, and the tests at each of a list.
-use Rattle.std.specs.Prelude.{ℕ, Bool, List, [], ◌∷◌, ◌++◌}
-use Rattle.sp_base.specs.declared.places.Span.{Span}
-use Rattle.sp_rules.specs.declared.rule.Rule.{Rule}
+-- The tests at each of a list.
+use Rattle.std.specs.Prelude.{Bool, List, [], ◌∷◌, ◌++◌}
 use Rattle.sp_rules.specs.declared.fault.Fault.{Fault}
-
--- the fault of a rule in a module, on a slice of its text
-abbrev pub at : ℕ → Rule → Span → Fault
-at m rule span = record { rule = rule; «module» = m; span = span }
 
 -- the tests at each of a list, in turn
 abbrev pub each : {X : Type 0} → (X → List (Bool × Fault)) → List X → List (Bool × Fault)

@@ -19,7 +19,7 @@ use Rattle.sp_typed.specs.declared.words.SinkMethod.TheVariants as sink_is
 use Rattle.sp_typed.specs.Exprs.{Expr, Exprs, leaf, many, none, more, type_of, span_of}
 use Rattle.sp_typed_units.specs.declared.declarations.Unit.{Unit}
 use Rattle.sp_unit_rules.specs.declared.here.Here.{Here}
-use Rattle.sp_unit_rules.specs.Faults.{at}
+use Rattle.sp_rules.specs.Faults.{at}
 
 -- whether the unit of a number has `%filter`
 abbrev pub is_filter : List Unit → ℕ → Bool

@@ -2,7 +2,6 @@ pub mod Faults
 pub mod Limits
 pub mod Bits
 pub mod Filters
-pub mod Kinds
 pub mod Attributes
 pub mod Readings
 pub mod Units

@@ -6,7 +6,7 @@ use Rattle.sp_ast.specs.declared.forms.DeclForm.TheVariants as decl_is
 use Rattle.sp_ast.specs.declared.forms.TypeForm.TheVariants as type_is
 use Rattle.sp_rules.specs.declared.rule.Rule.TheVariants as rule_is
 use Rattle.sp_rules.specs.declared.fault.Fault.{Fault}
-use Rattle.sp_unit_rules.specs.Faults.{at}
+use Rattle.sp_rules.specs.Faults.{at}
 
 abbrev pub most_declarations : ℕ
 most_declarations = 4096

@@ -17,9 +17,10 @@ use Rattle.sp_typing_units.specs.declared.roles.Kind.{Kind}
 use Rattle.sp_typing_units.specs.declared.roles.Holder.{Holder}
 use Rattle.sp_typing_units.specs.declared.roles.Holder.TheVariants as holder_is
 use Rattle.sp_unit_rules.specs.declared.here.Here.{Here}
-use Rattle.sp_unit_rules.specs.Faults.{at, each}
+use Rattle.sp_unit_rules.specs.Faults.{each}
+use Rattle.sp_rules.specs.Faults.{at}
 use Rattle.sp_unit_rules.specs.Filters.{is_filter, connects_filter, node_tests}
-use Rattle.sp_unit_rules.specs.Kinds.{kind_of}
+use Rattle.sp_typing_units.specs.Kinds.{kind_of}
 use Rattle.sp_unit_rules.specs.Attributes.{attribute_tests, is_bounded}
 
 -- the tests at all nodes of an expression, of one that may be left out, and of a row of them

@@ -19,7 +19,7 @@ use Rattle.sp_unit_rules.specs.declared.here.Here.{Here}
 use Rattle.sp_unit_rules.specs.Faults.{each}
 use Rattle.sp_unit_rules.specs.Bits.{bitfield_tests}
 use Rattle.sp_unit_rules.specs.Filters.{is_filter, node_tests}
-use Rattle.sp_unit_rules.specs.Kinds.{kind_of, holder_of}
+use Rattle.sp_typing_units.specs.Kinds.{kind_of, holder_of}
 use Rattle.sp_unit_rules.specs.Readings.{maybe_tests, exprs_tests, attributes_tests, spec_tests}
 
 -- a field: how it is read, its attributes, its condition, and the sink behind `->`

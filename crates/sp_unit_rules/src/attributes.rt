@@ -4,8 +4,7 @@ ghost use Rattle.std.proofs.Common.{take, reverse};
 ghost use Rattle.sp_rules.specs.Least.{checked};
 ghost use Rattle.sp_unit_rules.specs.Attributes.{takes_value, is_misvalued, excluded, line_of, same_name, is_among, clash, clashes, attribute_tests, bounds, is_bounded};
 
-use crate::notes::note_at;
-use sp_rules::{Fault, Rule};
+use sp_rules::{Fault, Rule, note_at};
 use sp_typed_units::Attribute;
 use sp_typing_units::{Holder, Kind, may_stand};
 use sp_words::AttributeName;

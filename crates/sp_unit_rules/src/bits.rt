@@ -3,8 +3,7 @@ ghost use Rattle.std.specs.Prelude.{◌≡◌};
 ghost use Rattle.sp_rules.specs.Least.{checked};
 ghost use Rattle.sp_unit_rules.specs.Bits.{is_width, range_tests, ranges_tests, bitfield_tests};
 
-use crate::notes::note_at;
-use sp_rules::{Fault, Rule};
+use sp_rules::{Fault, Rule, note_at};
 use sp_typed_units::{BitRange, Bitfield};
 
 /// Whether a bitfield may have so many bits.

@@ -6,7 +6,7 @@ ghost use Rattle.sp_typed_units.specs.declared.declarations.Typed.{Typed};
 ghost use Rattle.sp_typing.specs.Contexts.{Around};
 ghost use Rattle.sp_typing_units.specs.Values.{Values};
 ghost use Rattle.sp_typing_units.specs.Readings.{counted_read};
-ghost use Rattle.sp_unit_rules.specs.Kinds.{kind_of};
+ghost use Rattle.sp_typing_units.specs.Kinds.{kind_of};
 ghost use Rattle.sp_unit_rules.specs.Units.{all_tests, Breaks};
 
 /// What is noted of a typed list is the least of the rules of units that are broken in it, and nothing where none is.

@@ -10,7 +10,6 @@ mod here;
 mod laws;
 mod limits;
 mod nodes;
-mod notes;
 mod parts;
 mod readings;
 mod sweep;

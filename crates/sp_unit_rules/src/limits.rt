@@ -4,9 +4,8 @@ ghost use Rattle.sp_rules.specs.Least.{checked};
 ghost use Rattle.sp_ast.specs.Trees.{trees, span_of};
 ghost use Rattle.sp_unit_rules.specs.Limits.{most_declarations, most_items, most_parameters, first_behind, too_many, row_limit, unit_limits, type_limits, declaration_limits, declarations_limits, module_limits};
 
-use crate::notes::note_at;
 use sp_ast::{DeclKind, DeclView, Kind, Members, ModuleKind, Ref, TypeKind, TypeView, UnitKind};
-use sp_rules::{Fault, Rule};
+use sp_rules::{Fault, Rule, note_at};
 
 /// How many declarations a module has at most: imports, properties and hooks among them.
 pub const MOST_DECLARATIONS: usize = 4_096;

@@ -5,9 +5,8 @@ ghost use Rattle.sp_typed.specs.Exprs.{exprs};
 ghost use Rattle.sp_unit_rules.specs.Filters.{is_filter, connects_filter, is_hidden, leaf_tests, plain_tests, itself_leaf, is_itself, starts_filter, filter_op, other_op, is_new_filter, is_new_other, connected_filter_tests, connected_tests, may_connect, may_forward, unit_call_tests, sink_call_tests, many_tests, node_tests};
 
 use crate::here::Here;
-use crate::notes::note_at;
 use sp_base::Span;
-use sp_rules::{Fault, Rule};
+use sp_rules::{Fault, Rule, note_at};
 use sp_typed::{
     Expr, ExprLevel, Leaf, LeafOp, Many, ManyOp, NewOf, SinkMethod, Standing, UnitMethod,
 };

@@ -2,7 +2,7 @@
 ghost use Rattle.std.specs.Prelude.{◌≡◌};
 ghost use Rattle.sp_rules.specs.Least.{checked};
 ghost use Rattle.sp_typed_units.specs.Parts.{parts, arms};
-ghost use Rattle.sp_unit_rules.specs.Kinds.{holder_of};
+ghost use Rattle.sp_typing_units.specs.Kinds.{holder_of};
 ghost use Rattle.sp_unit_rules.specs.Units.{field_tests, part_tests, parts_tests, arms_tests};
 
 use crate::here::Here;

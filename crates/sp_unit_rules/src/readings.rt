@@ -1,64 +1,18 @@
 // The rules at how a field, an element or a group is read.
-ghost use Rattle.std.specs.Prelude.{◌≡◌, ◌||◌, not, [], List, if◌then◌else◌};
+ghost use Rattle.std.specs.Prelude.{◌≡◌, ◌||◌, [], List};
 ghost use Rattle.sp_rules.specs.Least.{checked};
-ghost use Rattle.sp_typed.specs.Exprs.{exprs};
 ghost use Rattle.sp_typing_units.specs.Roles.{grouped};
-ghost use Rattle.sp_unit_rules.specs.Kinds.{token_kind, read_kind, list_kind, kind_of};
+ghost use Rattle.sp_typing_units.specs.Kinds.{read_kind, list_kind, kind_of};
 ghost use Rattle.sp_unit_rules.specs.Readings.{attributes_tests, is_decoder, read_tests, unit_of_tests, spec_tests};
 
 use crate::attributes::{is_bounded, note_attribute};
 use crate::here::Here;
 use crate::nodes::{connects_filter, is_filter};
-use crate::notes::note_at;
 use crate::sweep::{note_exprs, note_maybe};
-use sp_rules::{Fault, Rule};
-use sp_typed::Expr;
-use sp_typed_units::{Attribute, ReadOp, Reading, Spec, SpecNode, TokenOp, Unit, UnitOf};
+use sp_rules::{Fault, Rule, note_at};
+use sp_typed_units::{Attribute, ReadOp, Reading, Spec, SpecNode, Unit, UnitOf};
 use sp_types::{Level, Type, Word};
-use sp_typing_units::{Holder, Kind};
-
-fn token_kind(token: &TokenOp) -> Kind
-    ensures { result ≡ token_kind token.now }
-{
-    match token {
-        TokenOp::Number(_) => Kind::TypedLiteral,
-        TokenOp::Bytes(_) | TokenOp::Regex(_) => Kind::Literal,
-    }
-}
-
-fn read_kind(op: &ReadOp) -> Kind
-    ensures { result ≡ read_kind op.now }
-{
-    match op {
-        ReadOp::Int => Kind::Integer,
-        ReadOp::Bits(_) => Kind::Bitfield,
-        ReadOp::Bytes => Kind::Bytes,
-        ReadOp::Token(token, _) => token_kind(token),
-        ReadOp::Void => Kind::Void,
-        ReadOp::Broken(_) => Kind::Broken,
-    }
-}
-
-fn list_kind(count: &Option<Expr>) -> Kind
-    ensures { result ≡ list_kind count.now }
-{
-    match count {
-        None => Kind::Open,
-        Some(_) => Kind::Counted,
-    }
-}
-
-/// What stands in parentheses, by what is inside.
-fn grouped(kind: Kind) -> Kind
-    ensures { result ≡ grouped kind }
-{
-    match kind {
-        Kind::Literal | Kind::TypedLiteral => Kind::Literal,
-        Kind::Void => Kind::Void,
-        Kind::Broken => Kind::Broken,
-        _ => Kind::Unit,
-    }
-}
+use sp_typing_units::{Holder, Kind, grouped, list_kind, read_kind};
 
 /// Notes what is wrong with attributes, and in their values.
 #[tactic(auto, using(crate::proofs::Checked::checked_more))]

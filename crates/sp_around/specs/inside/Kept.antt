@@ -1,13 +1,8 @@
 -- Members as they join a row one by one: each whose name none before it has.
-use Rattle.std.specs.Prelude.{ℕ, ◌≡◌, if◌then◌else◌, is_some, List, [], ◌∷◌, ◌++◌, Option}
-use Rattle.indexmap.specs.IndexMap.{get_by_text}
-use Rattle.sp_around.specs.declared.names.NameTable.{NameTable}
+use Rattle.std.specs.Prelude.{ℕ, ◌≡◌, if◌then◌else◌, is_some, List, [], ◌∷◌, ◌++◌}
+use Rattle.sp_name_tables.specs.Tables.{told_by}
 use Rattle.sp_around.specs.declared.members.MemberTable.{MemberTable}
 use Rattle.sp_around.specs.Members.{UnitMember, numbered, kinds_of}
-
--- what a table tells of a name
-abbrev pub told_by : NameTable → List ℕ → Option ℕ
-told_by table x = get_by_text table.first x
 
 abbrev pub joined : List UnitMember → UnitMember → List UnitMember
 joined kept m = if is_some (numbered m.name 0 kept) then kept else kept ++ m ∷ []

@@ -12,7 +12,8 @@ use Rattle.sp_around.specs.declared.tables.BitTable.{BitTable}
 use Rattle.sp_around.specs.Members.{unit_members, first_member, range_number, bitfield_width, bitfield_tree}
 use Rattle.sp_around.specs.Heads.{unit_takes, function_takes, function_gives}
 use Rattle.sp_around.specs.Arounds.{width_type}
-use Rattle.sp_around.specs.inside.Kept.{IsKept, told_by}
+use Rattle.sp_around.specs.inside.Kept.{IsKept}
+use Rattle.sp_name_tables.specs.Tables.{told_by}
 
 -- the members of a unit, where they begin among those of all units, and the types of its parameters
 pub record IsUnit (list : List Tree) (f : ℕ → Option Ty) (n : ℕ) (table : UnitTable) : Type 0 where

@@ -17,12 +17,13 @@ use Rattle.sp_typed.specs.Exprs.{Expr, Exprs, leaf, one, two, three, many, none,
 use Rattle.sp_typed.specs.Nodes.{word_many}
 use Rattle.sp_operands.specs.declared.operators.OperatorSort.{OperatorSort}
 use Rattle.sp_operands.specs.declared.operators.OperatorSort.TheVariants as sort_is
-use Rattle.sp_operands.specs.Operands.{unknown, is_unsigned, is_signed, is_integer, is_enum, sort_of, stands_before, stands_behind, stands_alone, agree, has_size, key_of}
+use Rattle.sp_operands.specs.Operands.{unknown, is_unsigned, is_signed, is_integer, is_enum, sort_of, stands_before, stands_behind, stands_alone, agree, has_size, key_of, is_valueless}
 use Rattle.sp_operands.specs.Literals.{is_over, seen}
 use Rattle.sp_typing_stmts.specs.Owners.{with_slot_of}
 use Rattle.sp_body_rules.specs.declared.facts.Constancy.{Constancy}
 use Rattle.sp_body_rules.specs.Known.{Known}
-use Rattle.sp_body_rules.specs.Values.{at, is_no_value, is_valueless, is_new, value_span, written_tests, value_tests}
+use Rattle.sp_body_rules.specs.Values.{is_no_value, is_new, value_span, written_tests, value_tests}
+use Rattle.sp_rules.specs.Faults.{at}
 use Rattle.sp_body_rules.specs.ExprTests.{takes_no_cast, one_op_tests, disagreeing, is_past_key, operand_tests, is_constant, is_not_constant, index_tests, two_op_tests, choice_tests, all_value_tests, element_tests, elements_tests, row_tests, entries_tests, map_tests, argument_fits, arguments_fit, connects, argument_tests, converts, convert_tests, call_tests, is_element, may_change, is_of_self, receiver_tests, method_tests, uncalled_tests, many_op_tests, expr_tests}
 use Rattle.sp_words.specs.Methods.{changes}
 use Rattle.sp_list_laws.specs.known_bodies.Slots.{plain, all_plain, IsBlind}

@@ -10,7 +10,8 @@ use Rattle.sp_typed.specs.declared.words.OneOp.{OneOp}
 use Rattle.sp_typed.specs.Exprs.{Expr, Exprs, leaf, one, two, three, many, none, more}
 use Rattle.sp_typing.specs.Contexts.{Around}
 use Rattle.sp_typing_stmts.specs.Scopes.{Local, Scope, found}
-use Rattle.sp_typing_stmts.specs.Visible.{single_name, found_maybe, local_or, with_locals}
+use Rattle.sp_typing_stmts.specs.Visible.{found_maybe, local_or, with_locals}
+use Rattle.sp_typing.specs.Names.{single_name}
 use Rattle.sp_typing_stmts.specs.Owners.{with_owner, kept, all_kept, changed_owner}
 use Rattle.sp_body_rules.specs.Known.{Known}
 use Rattle.sp_list_laws.specs.known_types.Full.{is_full}

@@ -9,7 +9,8 @@ use Rattle.sp_typed.specs.Exprs.{Expr, Exprs, leaf, one, two, three, many, none,
 use Rattle.sp_operands.specs.Literals.{number_of, is_negative, type_has, is_typed_number, is_over}
 use Rattle.sp_typing_stmts.specs.Scopes.{Scope}
 use Rattle.sp_typing_stmts.specs.Owners.{with_slot_of, owner_slot, changed_owner, kept, all_kept}
-use Rattle.sp_body_rules.specs.Values.{is_no_value, is_set_key, is_valueless, value_span}
+use Rattle.sp_body_rules.specs.Values.{is_no_value, is_set_key, value_span}
+use Rattle.sp_operands.specs.Operands.{is_valueless}
 use Rattle.sp_body_rules.specs.ExprTests.{is_itself}
 use Rattle.sp_list_laws.specs.known_bodies.Slots.{plain, all_plain}
 

@@ -26,7 +26,7 @@ use Rattle.sp_names.specs.Types.{type_in, mentions_in}
 use Rattle.sp_around.specs.declared.written.Place.TheVariants as place_is
 use Rattle.sp_around.specs.Written.{written_in}
 use Rattle.sp_around.specs.Arounds.{stored_by, declared_at, meaning_at}
-use Rattle.sp_typing_units.specs.Attributes.{present}
+use Rattle.sp_ast.specs.Views.{present}
 use Rattle.sp_constants.specs.declared.outcome.Outcome.{Outcome}
 use Rattle.sp_constants.specs.declared.outcome.Outcome.TheVariants as outcome_is
 use Rattle.sp_constants.specs.Outcomes.{is_constant}

@@ -20,7 +20,7 @@ use Rattle.sp_names.specs.Declarations.{list_of, module_name, module_declaration
 use Rattle.sp_names.specs.Names.{module_named}
 use Rattle.sp_names.specs.Types.{bitfields, bitfields_in, first_placed}
 use Rattle.sp_names.specs.Faults.{is_later, is_reserved, faults_in, module_faults, faults_from, name_faults}
-use Rattle.sp_typing_units.specs.Attributes.{present}
+use Rattle.sp_ast.specs.Views.{present}
 use Rattle.sp_declared_values.specs.Valued.{written_tree, value_tree}
 use Rattle.sp_list_laws.specs.known_types.Clear.{none_hold}
 use Rattle.sp_list_laws.proofs.known_types_lemmas.Full.{never}

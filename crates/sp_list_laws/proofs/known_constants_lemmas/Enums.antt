@@ -28,7 +28,7 @@ use Rattle.sp_names.specs.declared.sort.DeclSort.TheVariants as sort_is
 use Rattle.sp_names.specs.declared.rows.Declaration.{Declaration}
 use Rattle.sp_names.specs.Declarations.{all_of, list_of, declaration_at, library_enums, type_tree_of}
 use Rattle.sp_names.specs.Names.{declaration_of, enum_labels, labels_of, own_labels}
-use Rattle.sp_typing_units.specs.Attributes.{present}
+use Rattle.sp_ast.specs.Views.{present}
 use Rattle.sp_constants.specs.declared.outcome.Outcome.{Outcome}
 use Rattle.sp_constants.specs.declared.outcome.Outcome.TheVariants as outcome_is
 use Rattle.sp_constants.specs.Outcomes.{is_constant}
@@ -36,7 +36,8 @@ use Rattle.sp_constants.specs.Labels.{numbered, label_value as labelled, next_la
 use Rattle.sp_constants.specs.Values.{value_of as constant_of}
 use Rattle.sp_body_rules.specs.Known.{Known}
 use Rattle.sp_rules.specs.declared.rule.Rule.TheVariants as rule_is
-use Rattle.sp_body_rules.specs.Values.{at, is_no_value}
+use Rattle.sp_body_rules.specs.Values.{is_no_value}
+use Rattle.sp_rules.specs.Faults.{at}
 use Rattle.sp_list_rules.specs.Lists.{all_tests, option_tests}
 use Rattle.sp_list_rules.specs.Names.{expr_names, label_names, enum_names}
 use Rattle.sp_list_rules.specs.Bodies.{inside_tests, lacks_number, is_past_label, is_signed_zero, is_below_zero, is_no_number, number_tests, label_tests, enum_tests}

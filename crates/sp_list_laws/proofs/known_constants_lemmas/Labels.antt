@@ -17,7 +17,7 @@ use Rattle.sp_names.specs.declared.sort.Scope.{Scope}
 use Rattle.sp_names.specs.declared.sort.Scope.TheVariants as scope_is
 use Rattle.sp_names.specs.Declarations.{all_of, library_enums, type_tree_of}
 use Rattle.sp_names.specs.Names.{is_name, first_named, label_name, declared, visible, place_among, library_names, library_labels, declaration_of, enum_labels, labels_of, own_labels, label_in, some_declaration, some_library, some_label, named_in, enum_of, own_enum, label_of, behind, meaning_or, in_scope, in_own, means}
-use Rattle.sp_typing_units.specs.Attributes.{present}
+use Rattle.sp_ast.specs.Views.{present}
 use Rattle.sp_constants.specs.declared.outcome.Outcome.{Outcome}
 use Rattle.sp_constants.specs.declared.outcome.Outcome.TheVariants as outcome_is
 use Rattle.sp_constants.specs.Outcomes.{used}

@@ -18,11 +18,12 @@ use Rattle.sp_names.specs.declared.rows.Declaration.{Declaration}
 use Rattle.sp_names.specs.Declarations.{all_of, sort_at, number_at, library_enums, type_tree_of}
 use Rattle.sp_names.specs.Names.{declaration_of, enum_labels, labels_of, own_labels, path_means}
 use Rattle.sp_names.specs.Types.{one_or_none}
-use Rattle.sp_typing_units.specs.Attributes.{present}
+use Rattle.sp_ast.specs.Views.{present}
 use Rattle.sp_list_rules.specs.Lists.{all_tests, option_tests}
 use Rattle.sp_list_rules.specs.Bodies.{lacks_number, is_past_label, is_no_number, is_below_zero, number_tests, label_tests, enum_tests}
 use Rattle.sp_rules.specs.declared.rule.Rule.TheVariants as rule_is
-use Rattle.sp_body_rules.specs.Values.{at, is_no_value}
+use Rattle.sp_body_rules.specs.Values.{is_no_value}
+use Rattle.sp_rules.specs.Faults.{at}
 use Rattle.sp_operands.specs.Literals.{is_past}
 use Rattle.sp_declared_values.specs.declared.valued.Valued.{Valued}
 use Rattle.sp_declared_values.specs.declared.answer.Answer.{Answer}

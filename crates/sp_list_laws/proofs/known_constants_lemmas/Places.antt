@@ -18,7 +18,7 @@ use Rattle.sp_names.specs.declared.sort.DeclSort.TheVariants as sort_is
 use Rattle.sp_names.specs.Declarations.{rows, sort_of, sort_or, sort_at, sort_number, all_of, all_from, declaration_at, number_in, number_at, library_enums, type_tree_of}
 use Rattle.sp_names.specs.Names.{declaration_of, enum_labels, own_labels, labels_of}
 use Rattle.sp_names.specs.Types.{one_or_none}
-use Rattle.sp_typing_units.specs.Attributes.{present}
+use Rattle.sp_ast.specs.Views.{present}
 use Rattle.sp_constants.specs.declared.outcome.Outcome.{Outcome}
 use Rattle.sp_constants.specs.declared.outcome.Outcome.TheVariants as outcome_is
 use Rattle.sp_constants.specs.Outcomes.{used}

@@ -16,7 +16,8 @@ use Rattle.sp_operands.specs.Literals.{seen, is_past, is_negative, can_take, tak
 use Rattle.sp_typing.specs.Typing.{one_at, to_maybe, alike, agreeing, choice_type, chosen, choice_at}
 use Rattle.sp_body_rules.specs.Known.{Known}
 use Rattle.sp_rules.specs.declared.rule.Rule.TheVariants as rule_is
-use Rattle.sp_body_rules.specs.Values.{at, is_no_value, knows, value_span, condition_tests}
+use Rattle.sp_body_rules.specs.Values.{is_no_value, knows, value_span, condition_tests}
+use Rattle.sp_rules.specs.Faults.{at}
 use Rattle.sp_body_rules.specs.ExprTests.{unlike}
 use Rattle.sp_constants.specs.Known.{Known as Values}
 use Rattle.sp_constants.specs.Values.{value_of as constant_of}

@@ -14,9 +14,9 @@ use Rattle.sp_names.specs.declared.sort.DeclSort.TheVariants as sort_is
 use Rattle.sp_names.specs.declared.rows.Declaration.{Declaration}
 use Rattle.sp_names.specs.Declarations.{rows, all_of, sort_of, declaration_at, library_enums, type_tree_of}
 use Rattle.sp_names.specs.Names.{declaration_of, enum_labels, labels_of, own_labels, library_names, library_labels}
-use Rattle.sp_typing_units.specs.Attributes.{present}
+use Rattle.sp_ast.specs.Views.{present}
 use Rattle.sp_rules.specs.declared.rule.Rule.TheVariants as rule_is
-use Rattle.sp_body_rules.specs.Values.{at}
+use Rattle.sp_rules.specs.Faults.{at}
 use Rattle.sp_list_rules.specs.Lists.{all_tests, option_tests}
 use Rattle.sp_list_rules.specs.Names.{expr_names, constant_names, label_names, enum_names}
 use Rattle.sp_list_rules.specs.Bodies.{const_tests, is_past_label, number_tests, label_tests, enum_tests}

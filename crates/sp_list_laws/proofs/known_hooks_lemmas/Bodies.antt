@@ -13,9 +13,9 @@ use Rattle.sp_rules.specs.declared.fault.Fault.{Fault}
 use Rattle.sp_types.specs.Types.{Ty}
 use Rattle.sp_solver.specs.Told.{told}
 use Rattle.sp_hook_rows.specs.declared.rows.HookRow.{HookRow}
-use Rattle.sp_typed_list.specs.Settled.{Answers}
-use Rattle.sp_typed_list.specs.Lists.{typed_of}
-use Rattle.sp_check_unit.specs.Rules.{Breaks}
+use Rattle.sp_checked_list.specs.Settled.{Answers}
+use Rattle.sp_checked_list.specs.Lists.{typed_of}
+use Rattle.sp_checked_list.specs.Rules.{Breaks}
 use Rattle.sp_list_laws.proofs.known_types_lemmas.Full.{never}
 use Rattle.sp_list_laws.proofs.known_types_lemmas.Formed.{formed_expr}
 use Rattle.sp_list_laws.specs.known_bodies.Trees.{is_body, is_maybe_expr}

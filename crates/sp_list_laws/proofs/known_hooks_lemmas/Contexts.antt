@@ -10,8 +10,8 @@ use Rattle.sp_types.specs.declared.words.Word.TheVariants as word_is
 use Rattle.sp_typed.specs.declared.words.Standing.TheVariants as standing_is
 use Rattle.sp_typed_units.specs.declared.declarations.Parameter.{Parameter}
 use Rattle.sp_typing.specs.Contexts.{Around}
-use Rattle.sp_typing_units.specs.Decorators.{with_self}
-use Rattle.sp_typing_heads.specs.Parameters.{parameters_in}
+use Rattle.sp_surroundings.specs.Decorators.{with_self}
+use Rattle.sp_surroundings.specs.Parameters.{parameters_in}
 use Rattle.sp_solver.specs.Told.{told}
 use Rattle.sp_names.specs.declared.rows.Declaration.{Declaration}
 use Rattle.sp_names.specs.declared.sort.DeclSort.TheVariants as sort_is
@@ -21,8 +21,8 @@ use Rattle.sp_declared_values.specs.declared.answer.Answer.{Answer}
 use Rattle.sp_list_context.specs.Contexts.{in_module, modules_from, in_modules, parameter_trees, parameters_of, all_parameters_of, all_parameters, seeing, seeing_parameters, unit_types, being, in_units}
 use Rattle.sp_typing_hooks.specs.Hooks.{or_none}
 use Rattle.sp_unit_rows.specs.UnitRows.{inside_unit}
-use Rattle.sp_typed_list.specs.Settled.{Answers}
-use Rattle.sp_check_unit.specs.Rules.{Breaks}
+use Rattle.sp_checked_list.specs.Settled.{Answers}
+use Rattle.sp_checked_list.specs.Rules.{Breaks}
 use Rattle.sp_list_laws.proofs.whole_list_lemmas.Heads.{parameters_full}
 use Rattle.sp_list_laws.proofs.whole_list_lemmas.Modules.{none_found, some_found}
 use Rattle.sp_list_laws.proofs.known_constants_lemmas.Declarations.{AllOf}

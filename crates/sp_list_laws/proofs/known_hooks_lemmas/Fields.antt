@@ -19,7 +19,8 @@ use Rattle.sp_typed.specs.Exprs.{Expr}
 use Rattle.sp_typed_units.specs.Parts.{Part, Parts, Arms, no_parts, more_parts, parts}
 use Rattle.sp_typing.specs.Contexts.{Around}
 use Rattle.sp_typing_units.specs.Values.{Values}
-use Rattle.sp_typing_units.specs.Attributes.{present, maybe_typed, element_of}
+use Rattle.sp_typing_units.specs.Attributes.{maybe_typed, element_of}
+use Rattle.sp_ast.specs.Views.{present}
 use Rattle.sp_typing_units.specs.Parts.{Fields, field_of, arm_of, field_in, part_of, parts_of, body_of, arms_of}
 use Rattle.sp_typing_units.specs.Readings.{counted_read}
 use Rattle.sp_typing_units.specs.Fields.{field_type}

@@ -40,12 +40,13 @@ use Rattle.sp_hook_rows.specs.Sites.{sites_among, sites_of, sites}
 use Rattle.sp_hook_rows.specs.HookRows.{key_of, hook_rows}
 use Rattle.sp_list_context.specs.Contexts.{in_module, in_modules, all_parameters, in_units}
 use Rattle.sp_typing_hooks.specs.Fields.{mark_of, first_stored, elements_of, one_of, seen_of}
-use Rattle.sp_typing_hooks.specs.Hooks.{seen_at, current_of, site_of, unit_of, parameters_of, seen_by, written_hook, hook_in, typed_hooks}
-use Rattle.sp_typed_list.specs.Settled.{Answers}
-use Rattle.sp_typed_list.specs.Lists.{typed_of}
-use Rattle.sp_typed_list.specs.Rows.{ranks}
+use Rattle.sp_typing_hooks.specs.Hooks.{seen_at, current_of, site_of, parameters_of, seen_by, written_hook, hook_in, typed_hooks}
+use Rattle.sp_typed_units.specs.Hooks.{unit_of}
+use Rattle.sp_checked_list.specs.Settled.{Answers}
+use Rattle.sp_checked_list.specs.Lists.{typed_of}
+use Rattle.sp_list_rows.specs.FunctionsAndOrders.{ranks}
 use Rattle.sp_unit_rows.specs.UnitRows.{inside_unit}
-use Rattle.sp_check_unit.specs.Rules.{Breaks}
+use Rattle.sp_checked_list.specs.Rules.{Breaks}
 use Rattle.sp_list_laws.specs.known_types.Full.{is_full}
 use Rattle.sp_list_laws.specs.known_types.Clear.{none_hold, any_op}
 use Rattle.sp_list_laws.specs.known_types.Given.{IsKnown}

@@ -20,8 +20,8 @@ use Rattle.sp_hook_rows.specs.declared.sites.Site.{Site}
 use Rattle.sp_hook_rows.specs.declared.rows.HookRow.{HookRow}
 use Rattle.sp_hook_rows.specs.Sites.{sites}
 use Rattle.sp_hook_rows.specs.HookRows.{hook_body, is_each, field_number, plain_of, each_of, body_rows, is_some_tree, named_rows, field_rows, item_row, declared_row, holder_rows, rows_of, hook_rows}
-use Rattle.sp_typed_list.specs.Settled.{Answers}
-use Rattle.sp_check_unit.specs.Rules.{Breaks}
+use Rattle.sp_checked_list.specs.Settled.{Answers}
+use Rattle.sp_checked_list.specs.Rules.{Breaks}
 use Rattle.sp_list_laws.specs.known_constants.Fine.{IsFine, AreFine}
 use Rattle.sp_list_laws.proofs.known_constants_lemmas.Fine.{inside, first, rest}
 use Rattle.sp_list_laws.proofs.known_constants_lemmas.Declarations.{AllOf, both_of}

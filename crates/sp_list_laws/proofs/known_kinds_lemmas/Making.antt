@@ -27,12 +27,13 @@ use Rattle.sp_typed.specs.declared.words.NewOf.{NewOf}
 use Rattle.sp_typed.specs.declared.heads.Leaf.{Leaf}
 use Rattle.sp_typed.specs.Exprs.{Expr, leaf, one, two, three, many, exprs, listed, span_of, is_literal, is_number, is_minus, number_leaf, retyped}
 use Rattle.sp_typed.specs.Nodes.{holds}
-use Rattle.sp_operands.specs.Operands.{unknown, is_integer, first_type, unary_type, result_type, sort_of}
+use Rattle.sp_operands.specs.Operands.{unknown, is_integer, first_type, unary_type, result_type, sort_of, second_type}
 use Rattle.sp_operands.specs.Literals.{signed_literal, can_take, taken, seen}
 use Rattle.sp_operands.specs.Wholes.{row_type, map_type}
 use Rattle.sp_typing.specs.declared.context.Member.{Member}
 use Rattle.sp_typing.specs.Contexts.{Around as Names}
-use Rattle.sp_typing.specs.Typing.{typed, name_of, int_word, cast_type, signed_type, unary_op, choice_type, second_type, one_at, to_target, in_turn, map_of, member_at, set_op, set_member_at, part_at, item_of, item_at, index_at, callee_op, call_by, call_at, started, new_by, to_maybe, each_to}
+use Rattle.sp_typing.specs.Typing.{typed, name_of, cast_type, signed_type, unary_op, choice_type, one_at, to_target, in_turn, map_of, member_at, set_op, set_member_at, part_at, item_of, item_at, index_at, callee_op, call_by, call_at, started, new_by, to_maybe, each_to}
+use Rattle.sp_types.specs.Integers.{int_word}
 use Rattle.sp_list_laws.specs.known_types.Full.{is_unknown}
 use Rattle.sp_method_types.specs.Methods.{method_gives, method_takes}
 use Rattle.sp_list_rules.specs.Told.{function_takes}

@@ -26,10 +26,11 @@ use Rattle.sp_operands.specs.Operands.{unknown}
 use Rattle.sp_typing.specs.declared.context.Member.{Member}
 use Rattle.sp_typing.specs.declared.context.Callable.{Callable}
 use Rattle.sp_typing.specs.Contexts.{Around as Names}
-use Rattle.sp_typing_units.specs.Decorators.{with_current, with_self}
+use Rattle.sp_surroundings.specs.Decorators.{with_current, with_self}
 use Rattle.sp_typing_stmts.specs.Scopes.{Local, found}
-use Rattle.sp_typing_stmts.specs.Visible.{single_name, found_maybe, local_or, with_locals}
-use Rattle.sp_typing_heads.specs.Parameters.{numbered_maybe, standing_of, parameter_at, parameter_leaf, or_outside, with_parameters}
+use Rattle.sp_typing_stmts.specs.Visible.{found_maybe, local_or, with_locals}
+use Rattle.sp_typing.specs.Names.{single_name}
+use Rattle.sp_surroundings.specs.Parameters.{numbered_maybe, standing_of, parameter_at, parameter_leaf, or_outside, with_parameters}
 use Rattle.sp_names.specs.declared.sort.DeclSort.{DeclSort}
 use Rattle.sp_names.specs.declared.sort.DeclSort.TheVariants as sort_is
 use Rattle.sp_names.specs.declared.sort.Meaning.{Meaning}

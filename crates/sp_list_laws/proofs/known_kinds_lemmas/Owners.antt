@@ -17,10 +17,9 @@ use Rattle.sp_typed.specs.declared.words.ManyOp.{ManyOp}
 use Rattle.sp_typed.specs.declared.words.ManyOp.TheVariants as many_is
 use Rattle.sp_typed.specs.Exprs.{Expr, Exprs, leaf, one, two, three, many, none, more, exprs, listed, type_of, is_number, is_literal}
 use Rattle.sp_typed.specs.Nodes.{holds, all_hold}
-use Rattle.sp_operands.specs.Operands.{unknown, is_integer, is_boolean, first_type, sort_of, result_type, unary_type}
+use Rattle.sp_operands.specs.Operands.{unknown, is_integer, is_boolean, first_type, sort_of, result_type, unary_type, second_type}
 use Rattle.sp_operands.specs.Literals.{is_over, is_past, seen}
 use Rattle.sp_operands.specs.Wholes.{may_hold, is_of, all_of, first_seen, second_seen, has_keys_alone, row_type, all_in_turn, map_type}
-use Rattle.sp_typing.specs.Typing.{second_type}
 use Rattle.sp_typing_stmts.specs.Scopes.{Scope}
 use Rattle.sp_typing_stmts.specs.Owners.{is_at_hand, is_changeable, is_index, owner, owner_slot, with_owner, receiver_owner, changed_owner, with_slot_of, kept, all_kept}
 use Rattle.sp_method_types.specs.Methods.{method_gives, method_takes, unit_method_gives}

@@ -11,7 +11,7 @@ use Rattle.sp_typed_units.specs.declared.declarations.Unit.{Unit}
 use Rattle.sp_typed_units.specs.Parts.{parts}
 use Rattle.sp_typing.specs.Contexts.{Around}
 use Rattle.sp_typing_units.specs.Values.{Values}
-use Rattle.sp_typing_heads.specs.Parameters.{parameters_in, with_parameters}
+use Rattle.sp_surroundings.specs.Parameters.{parameters_in, with_parameters}
 use Rattle.sp_solver.specs.Rounds.{Within}
 use Rattle.sp_solver.specs.Told.{told}
 use Rattle.sp_names.specs.declared.rows.Declaration.{Declaration}
@@ -29,9 +29,9 @@ use Rattle.sp_around.specs.declared.sources.Question.{Question}
 use Rattle.sp_around.specs.Sources.{declared_among, sources_of, firsts, asked as questions_from, questions_of, questions_before, units, questions}
 use Rattle.sp_stored_types.specs.Tries.{in_unit, source_type, source_open}
 use Rattle.sp_list_context.specs.Contexts.{parameter_trees}
-use Rattle.sp_typed_list.specs.Settled.{Answers}
-use Rattle.sp_typed_list.specs.Lists.{typed_of}
-use Rattle.sp_check_unit.specs.Rules.{Breaks}
+use Rattle.sp_checked_list.specs.Settled.{Answers}
+use Rattle.sp_checked_list.specs.Lists.{typed_of}
+use Rattle.sp_checked_list.specs.Rules.{Breaks}
 use Rattle.sp_list_laws.specs.known_types.Full.{is_full}
 use Rattle.sp_list_laws.proofs.whole_list_lemmas.None.{none_parts}
 use Rattle.sp_list_laws.specs.known_constants.Given.{asked}

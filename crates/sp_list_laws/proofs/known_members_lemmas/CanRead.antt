@@ -13,9 +13,9 @@ use Rattle.sp_names.specs.Declarations.{all_of, sort_of, declaration_at}
 use Rattle.sp_list_rules.specs.Lists.{all_tests}
 use Rattle.sp_list_rules.specs.Bodies.{parameter_tests, order_tests, variable_tests}
 use Rattle.sp_list_rules.specs.Fields.{parts_tests}
-use Rattle.sp_typed_list.specs.Settled.{Answers}
-use Rattle.sp_typed_list.specs.Lists.{typed_of}
-use Rattle.sp_check_unit.specs.Rules.{Breaks}
+use Rattle.sp_checked_list.specs.Settled.{Answers}
+use Rattle.sp_checked_list.specs.Lists.{typed_of}
+use Rattle.sp_checked_list.specs.Rules.{Breaks}
 use Rattle.sp_list_laws.proofs.whole_list_lemmas.None.{none_parts}
 use Rattle.sp_list_laws.specs.known_members.Given.{unit_reads}
 use Rattle.sp_list_laws.proofs.known_members_lemmas.Shapes.{is_unit_sort}

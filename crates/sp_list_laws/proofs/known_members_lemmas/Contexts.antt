@@ -14,8 +14,8 @@ use Rattle.sp_typed_units.specs.declared.declarations.Parameter.{Parameter}
 use Rattle.sp_typed_units.specs.declared.declarations.Typed.{Typed}
 use Rattle.sp_typing.specs.declared.context.Member.{Member}
 use Rattle.sp_typing.specs.Contexts.{Around}
-use Rattle.sp_typing_units.specs.Decorators.{with_self, with_current, meant}
-use Rattle.sp_typing_heads.specs.Parameters.{parameter_of, parameters_in, with_parameters}
+use Rattle.sp_surroundings.specs.Decorators.{with_self, with_current, meant}
+use Rattle.sp_surroundings.specs.Parameters.{parameter_of, parameters_in, with_parameters}
 use Rattle.sp_constants.specs.Known.{Known as Values}
 use Rattle.sp_solver.specs.Told.{told}
 use Rattle.sp_around.specs.Arounds.{stored_by, member_of}
@@ -23,9 +23,9 @@ use Rattle.sp_body_rules.specs.Known.{Known}
 use Rattle.sp_list_rules.specs.Told.{values_of}
 use Rattle.sp_list_context.specs.Contexts.{in_module}
 use Rattle.sp_stored_types.specs.Opens.{with_members}
-use Rattle.sp_typed_list.specs.Settled.{Answers}
-use Rattle.sp_typed_list.specs.Lists.{typed_of}
-use Rattle.sp_check_unit.specs.Rules.{Breaks}
+use Rattle.sp_checked_list.specs.Settled.{Answers}
+use Rattle.sp_checked_list.specs.Lists.{typed_of}
+use Rattle.sp_checked_list.specs.Rules.{Breaks}
 use Rattle.sp_list_laws.specs.known_types.Full.{is_full}
 use Rattle.sp_list_laws.specs.known_types.Clear.{any_op}
 use Rattle.sp_list_laws.specs.known_types.Given.{IsKnown}

@@ -23,9 +23,9 @@ use Rattle.sp_hook_rows.specs.declared.rows.HookRow.{HookRow}
 use Rattle.sp_around.specs.Sources.{units}
 use Rattle.sp_unit_rows.specs.UnitRows.{unit_row}
 use Rattle.sp_list_context.specs.Contexts.{at_home, homes_of}
-use Rattle.sp_typed_list.specs.Settled.{Answers}
-use Rattle.sp_typed_list.specs.Lists.{calls_of, by_keys, units_from, typed_of}
-use Rattle.sp_check_unit.specs.Rules.{Breaks}
+use Rattle.sp_checked_list.specs.Settled.{Answers}
+use Rattle.sp_checked_list.specs.Lists.{calls_of, by_keys, units_from, typed_of}
+use Rattle.sp_checked_list.specs.Rules.{Breaks}
 use Rattle.sp_list_laws.proofs.whole_list_lemmas.Modules.{none_found, some_found}
 use Rattle.sp_list_laws.proofs.known_constants_lemmas.Declarations.{at_all}
 use Rattle.sp_list_laws.proofs.known_members_lemmas.Shapes.{is_unit_sort}

@@ -32,8 +32,9 @@ use Rattle.sp_typing_units.specs.declared.readings.Read.{Read}
 use Rattle.sp_typing_units.specs.declared.roles.Kind.{Kind}
 use Rattle.sp_typing_units.specs.Roles.{role_of}
 use Rattle.sp_typing_units.specs.Values.{Values}
-use Rattle.sp_typing_units.specs.Decorators.{meant, with_current}
-use Rattle.sp_typing_units.specs.Attributes.{present, attribute_by, attributes, if_convert, or_next, conversion, converted}
+use Rattle.sp_surroundings.specs.Decorators.{meant, with_current}
+use Rattle.sp_typing_units.specs.Attributes.{attribute_by, attributes, if_convert, or_next, conversion, converted}
+use Rattle.sp_ast.specs.Views.{present}
 use Rattle.sp_typing_units.specs.Readings.{container, contained, base_read, counted_read}
 use Rattle.sp_typing_units.specs.Parts.{Fields, field_of}
 use Rattle.sp_solver.specs.Rounds.{Within}
@@ -45,7 +46,8 @@ use Rattle.sp_body_rules.specs.ExprTests.{expr_tests}
 use Rattle.sp_list_rules.specs.Lists.{all_tests}
 use Rattle.sp_list_rules.specs.Names.{expr_names, attribute_names, spec_names, field_names}
 use Rattle.sp_list_rules.specs.Bodies.{inside_tests}
-use Rattle.sp_list_rules.specs.Fields.{kind_of, asked_tests, attribute_tests, spec_tests, field_tests}
+use Rattle.sp_list_rules.specs.Fields.{asked_tests, attribute_tests, spec_tests, field_tests}
+use Rattle.sp_typing_units.specs.Kinds.{kind_of}
 use Rattle.sp_declared_values.specs.Answers.{values}
 use Rattle.sp_around.specs.declared.sources.Source.{Source}
 use Rattle.sp_around.specs.declared.sources.Source.TheVariants as source_is
@@ -56,9 +58,9 @@ use Rattle.sp_stored_types.specs.inside.Kept.{else_none, or_none}
 use Rattle.sp_stored_types.specs.inside.Typed.{typed_kept}
 use Rattle.sp_stored_types.specs.inside.Aligned.{are_in_row}
 use Rattle.sp_stored_types.specs.inside.Laws.{source_kept}
-use Rattle.sp_typed_list.specs.Settled.{Answers}
-use Rattle.sp_typed_list.specs.Lists.{typed_of}
-use Rattle.sp_check_unit.specs.Rules.{Breaks}
+use Rattle.sp_checked_list.specs.Settled.{Answers}
+use Rattle.sp_checked_list.specs.Lists.{typed_of}
+use Rattle.sp_checked_list.specs.Rules.{Breaks}
 use Rattle.sp_list_laws.specs.known_types.Full.{is_full}
 use Rattle.sp_list_laws.specs.known_types.Clear.{none_hold, any_op}
 use Rattle.sp_list_laws.proofs.known_types_lemmas.Full.{never}

@@ -21,7 +21,8 @@ use Rattle.sp_typed_units.specs.declared.declarations.Member.{Member}
 use Rattle.sp_typed_units.specs.Parts.{Part, Parts, Arms, field, no_parts, more_parts, parts}
 use Rattle.sp_typing.specs.Contexts.{Around}
 use Rattle.sp_typing_units.specs.Values.{Values}
-use Rattle.sp_typing_units.specs.Attributes.{present, maybe_typed}
+use Rattle.sp_typing_units.specs.Attributes.{maybe_typed}
+use Rattle.sp_ast.specs.Views.{present}
 use Rattle.sp_typing_units.specs.Parts.{Fields, arm_of, field_in, part_of, parts_of, body_of, arms_of}
 use Rattle.sp_solver.specs.Told.{told}
 use Rattle.sp_names.specs.Types.{or_unknown, mentions_in}
@@ -36,9 +37,9 @@ use Rattle.sp_around.specs.declared.sources.Source.{Source}
 use Rattle.sp_around.specs.declared.sources.Source.TheVariants as source_is
 use Rattle.sp_around.specs.Sources.{Named, field_named, declared_in, declared_among, has_name, firsts, sources_of}
 use Rattle.sp_unit_rows.specs.Items.{variable_of, variables_in, parts_in}
-use Rattle.sp_typed_list.specs.Settled.{Answers}
-use Rattle.sp_typed_list.specs.Lists.{typed_of}
-use Rattle.sp_check_unit.specs.Rules.{Breaks}
+use Rattle.sp_checked_list.specs.Settled.{Answers}
+use Rattle.sp_checked_list.specs.Lists.{typed_of}
+use Rattle.sp_checked_list.specs.Rules.{Breaks}
 use Rattle.sp_list_laws.specs.known_types.Full.{is_full}
 use Rattle.sp_list_laws.specs.known_types.Clear.{none_hold}
 use Rattle.sp_list_laws.proofs.known_types_lemmas.Full.{never}

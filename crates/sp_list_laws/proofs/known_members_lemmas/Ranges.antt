@@ -22,9 +22,9 @@ use Rattle.sp_list_rows.specs.Bitfields.{typed_bitfield}
 use Rattle.sp_unit_rules.specs.Faults.{each}
 use Rattle.sp_unit_rules.specs.Bits.{is_width, bitfield_tests}
 use Rattle.sp_unit_rules.specs.Units.{unit_tests, hook_tests, function_tests}
-use Rattle.sp_typed_list.specs.Settled.{Answers}
-use Rattle.sp_typed_list.specs.Lists.{typed_of}
-use Rattle.sp_check_unit.specs.Rules.{Breaks}
+use Rattle.sp_checked_list.specs.Settled.{Answers}
+use Rattle.sp_checked_list.specs.Lists.{typed_of}
+use Rattle.sp_checked_list.specs.Rules.{Breaks}
 use Rattle.sp_list_laws.specs.known_types.Full.{is_full}
 use Rattle.sp_list_laws.specs.known_types.Clear.{none_hold}
 use Rattle.sp_list_laws.proofs.known_types_lemmas.Full.{never}

@@ -26,7 +26,7 @@ use Rattle.sp_operands.specs.Operands.{unknown}
 use Rattle.sp_typing.specs.Contexts.{Around}
 use Rattle.sp_typing_units.specs.declared.readings.Read.{Read}
 use Rattle.sp_typing_units.specs.Values.{Values}
-use Rattle.sp_typing_units.specs.Attributes.{present}
+use Rattle.sp_ast.specs.Views.{present}
 use Rattle.sp_typing_units.specs.Readings.{constant_read, constant_of_type, named_read, word_read, unknown_read, type_read, called_op, called, container, contained, base_read, counted_read}
 use Rattle.sp_solver.specs.Told.{told}
 use Rattle.sp_names.specs.declared.sort.DeclSort.{DeclSort}
@@ -44,9 +44,9 @@ use Rattle.sp_list_rules.specs.Fields.{spec_tests}
 use Rattle.sp_declared_values.specs.Answers.{constant_type}
 use Rattle.sp_unit_rules.specs.declared.here.Here.{Here}
 use Rattle.sp_unit_rules.specs.Readings.{spec_tests as own_tests}
-use Rattle.sp_typed_list.specs.Settled.{Answers}
-use Rattle.sp_typed_list.specs.Lists.{typed_of}
-use Rattle.sp_check_unit.specs.Rules.{Breaks}
+use Rattle.sp_checked_list.specs.Settled.{Answers}
+use Rattle.sp_checked_list.specs.Lists.{typed_of}
+use Rattle.sp_checked_list.specs.Rules.{Breaks}
 use Rattle.sp_list_laws.specs.known_types.Full.{is_full}
 use Rattle.sp_list_laws.specs.known_types.Clear.{none_hold}
 use Rattle.sp_list_laws.proofs.known_types_lemmas.Full.{never}

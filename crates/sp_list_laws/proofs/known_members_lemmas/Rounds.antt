@@ -25,9 +25,9 @@ use Rattle.sp_stored_types.specs.Tries.{in_unit, source_type, source_open, when_
 use Rattle.sp_stored_types.specs.Endless.{module_of, endless_row, unless_known, place_of, endless_of, endless_from}
 use Rattle.sp_stored_types.specs.inside.Aligned.{are_in_row}
 use Rattle.sp_stored_types.specs.inside.Laws.{is_fair}
-use Rattle.sp_typed_list.specs.Settled.{Answers}
-use Rattle.sp_typed_list.specs.Lists.{typed_of}
-use Rattle.sp_check_unit.specs.Rules.{Breaks}
+use Rattle.sp_checked_list.specs.Settled.{Answers}
+use Rattle.sp_checked_list.specs.Lists.{typed_of}
+use Rattle.sp_checked_list.specs.Rules.{Breaks}
 use Rattle.sp_list_laws.specs.known_types.Full.{is_full}
 use Rattle.sp_list_laws.specs.known_types.Clear.{none_hold}
 use Rattle.sp_list_laws.proofs.known_types_lemmas.Full.{never}

@@ -19,7 +19,7 @@ use Rattle.sp_typed_units.specs.Parts.{parts}
 use Rattle.sp_typing.specs.Contexts.{Around}
 use Rattle.sp_typing_units.specs.Values.{Values}
 use Rattle.sp_typing_units.specs.Parts.{Fields}
-use Rattle.sp_typing_heads.specs.Parameters.{parameters_in, with_parameters}
+use Rattle.sp_surroundings.specs.Parameters.{parameters_in, with_parameters}
 use Rattle.sp_solver.specs.Told.{told}
 use Rattle.sp_names.specs.declared.rows.Declaration.{Declaration}
 use Rattle.sp_names.specs.declared.sort.DeclSort.{DeclSort}
@@ -43,9 +43,9 @@ use Rattle.sp_hook_rows.specs.HookRows.{hook_rows}
 use Rattle.sp_around.specs.Sources.{units, questions}
 use Rattle.sp_unit_rows.specs.UnitRows.{unit_row, row_after, declared_row, fields_in, inside_unit, parameter_trees as trees_of_parameters}
 use Rattle.sp_list_context.specs.Contexts.{in_module, at_home, homes_of, all_parameters_of, parameters_of, seeing, seeing_parameters}
-use Rattle.sp_typed_list.specs.Settled.{Answers}
-use Rattle.sp_typed_list.specs.Lists.{calls_of, by_keys, hooks_in, units_from, typed_of}
-use Rattle.sp_check_unit.specs.Rules.{Breaks}
+use Rattle.sp_checked_list.specs.Settled.{Answers}
+use Rattle.sp_checked_list.specs.Lists.{calls_of, by_keys, hooks_in, units_from, typed_of}
+use Rattle.sp_checked_list.specs.Rules.{Breaks}
 use Rattle.sp_list_laws.specs.known_types.Full.{is_full}
 use Rattle.sp_list_laws.specs.known_types.Clear.{none_hold}
 use Rattle.sp_list_laws.proofs.known_types_lemmas.Full.{never}

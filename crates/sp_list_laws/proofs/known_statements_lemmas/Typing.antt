@@ -22,7 +22,8 @@ use Rattle.sp_typing.specs.Contexts.{Around as Names}
 use Rattle.sp_typing.specs.Typing.{typed, one_at, widened, to_target, to_maybe}
 use Rattle.sp_typing_stmts.specs.declared.body.Body.{Body as Typing}
 use Rattle.sp_typing_stmts.specs.Scopes.{Local, Scope, with_slot, closed}
-use Rattle.sp_typing_stmts.specs.Visible.{single_name, found_maybe, local_or, with_locals}
+use Rattle.sp_typing_stmts.specs.Visible.{found_maybe, local_or, with_locals}
+use Rattle.sp_typing.specs.Names.{single_name}
 use Rattle.sp_typing_stmts.specs.Owners.{owner, owner_slot, with_owner, changed_owner, kept, all_kept}
 use Rattle.sp_typing_stmts.specs.Values.{value_in, values_in}
 use Rattle.sp_typing_stmts.specs.Statements.{after_local, written_type, written_of, type_or, local_with, local_in, element_type, return_in, cases_of, typed_stmt, typed_stmts, typed_branches, typed_branch, typed_cases, typed_case, typed_body}

@@ -9,8 +9,7 @@ use Rattle.sp_types.specs.Types.{Ty, Tys, word, made, is_known, are_known, is_kn
 use Rattle.sp_types.specs.Types as types
 use Rattle.sp_operands.specs.declared.operators.OperatorSort.{OperatorSort}
 use Rattle.sp_operands.specs.declared.operators.OperatorSort.TheVariants as takes
-use Rattle.sp_operands.specs.Operands.{unknown, is_unsigned, is_signed, is_integer, is_bytes, is_text, first_type, of_one_sign, stands_before, stands_behind, agree, wider_type, sum_type, result_type}
-use Rattle.sp_typing.specs.Typing.{second_type}
+use Rattle.sp_operands.specs.Operands.{unknown, is_unsigned, is_signed, is_integer, is_bytes, is_text, first_type, of_one_sign, stands_before, stands_behind, agree, wider_type, sum_type, result_type, second_type}
 use Rattle.sp_list_laws.specs.known_types.Full.{has_parts, is_full, are_full, is_unknown}
 
 -- what can't be

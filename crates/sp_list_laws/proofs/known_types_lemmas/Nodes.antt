@@ -21,9 +21,9 @@ use Rattle.sp_typed.specs.Nodes.{holds, word_one}
 use Rattle.sp_operands.specs.declared.operators.OperatorSort.{OperatorSort}
 use Rattle.sp_typing.specs.declared.context.Member.{Member}
 use Rattle.sp_typing.specs.Contexts.{Around}
-use Rattle.sp_operands.specs.Operands.{unknown, boolean, is_signed, is_unsigned, is_integer, sort_of, stands_before, stands_behind, agree, result_type, key_of, first_type}
+use Rattle.sp_operands.specs.Operands.{unknown, boolean, is_signed, is_unsigned, is_integer, sort_of, stands_before, stands_behind, agree, result_type, key_of, first_type, second_type}
 use Rattle.sp_operands.specs.Literals.{seen, is_past, signed_literal}
-use Rattle.sp_typing.specs.Typing.{one_at, two_at, to_target, agreeing, signed_type, unary_at, joined, is_membership, binary_at, choice_at, chosen, member_at, set_member_at, set_op, second_type, part_at, item_of, item_at, index_at, size_type}
+use Rattle.sp_typing.specs.Typing.{one_at, two_at, to_target, agreeing, signed_type, unary_at, joined, is_membership, binary_at, choice_at, chosen, member_at, set_member_at, set_op, part_at, item_of, item_at, index_at, size_type}
 use Rattle.sp_body_rules.specs.Known.{Known}
 use Rattle.sp_body_rules.specs.Values.{knows, is_set_key, written_tests, value_tests}
 use Rattle.sp_body_rules.specs.ExprTests.{negates, is_past_key, disagree, index_tests, is_constant, is_not_constant}

@@ -22,11 +22,11 @@ use Rattle.sp_typing.specs.declared.context.Callable.{Callable}
 use Rattle.sp_typing.specs.Contexts.{Around}
 use Rattle.sp_operands.specs.Operands.{unknown}
 use Rattle.sp_operands.specs.Operands as typing
-use Rattle.sp_operands.specs.Literals.{seen}
+use Rattle.sp_operands.specs.Literals.{seen, is_past}
 use Rattle.sp_operands.specs.Wholes.{may_hold, is_of, all_of, has_keys_alone, row_type, all_in_turn, are_entries, map_type}
 use Rattle.sp_typing.specs.Typing.{one_at, many_at, each_to, row_at, in_turn, lead_half, map_of, map_at, tuple_at, no_call, callee_op, call_by, call_at, method_of, started, new_by, new_at}
 use Rattle.sp_body_rules.specs.Known.{Known}
-use Rattle.sp_body_rules.specs.Values.{is_no_value, is_past, knows, is_new}
+use Rattle.sp_body_rules.specs.Values.{is_no_value, knows, is_new}
 use Rattle.sp_body_rules.specs.ExprTests.{unlike, all_value_tests, elements_tests, row_tests, entries_tests, map_tests, argument_tests, connects}
 use Rattle.sp_list_laws.specs.known_types.Full.{is_full, are_full, is_right, is_bare}
 use Rattle.sp_list_laws.specs.known_types.Clear.{is_clear}

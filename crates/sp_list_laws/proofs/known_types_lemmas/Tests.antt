@@ -9,11 +9,11 @@ use Rattle.sp_types.specs.Types.{Ty, word, made, is_known}
 use Rattle.sp_typed.specs.declared.words.OneOp.{OneOp}
 use Rattle.sp_typed.specs.Exprs.{Expr, leaf, one, two, three, many, type_of}
 use Rattle.sp_typed.specs.Nodes.{holds, all_hold, is_word}
-use Rattle.sp_operands.specs.Operands.{unknown}
+use Rattle.sp_operands.specs.Operands.{unknown, is_valueless}
 use Rattle.sp_operands.specs.Operands as typing
-use Rattle.sp_operands.specs.Literals.{seen}
+use Rattle.sp_operands.specs.Literals.{seen, is_past}
 use Rattle.sp_body_rules.specs.Known.{Known}
-use Rattle.sp_body_rules.specs.Values.{names_no_value, is_no_value, is_past, knows, is_valueless, is_set_key, misplaced_at}
+use Rattle.sp_body_rules.specs.Values.{names_no_value, is_no_value, knows, is_set_key, misplaced_at}
 use Rattle.sp_body_rules.specs.ExprTests.{expr_tests}
 use Rattle.sp_list_laws.specs.known_types.Full.{is_full, is_right, is_bare, is_unknown, holds_inside}
 use Rattle.sp_list_laws.specs.known_types.Clear.{none_hold, is_clear, names_something, may_stand}

@@ -18,7 +18,8 @@ use Rattle.sp_typed.specs.Nodes.{holds, all_hold, word_leaf, is_word, is_sound, 
 use Rattle.sp_typed.proofs.Everywhere.{holds_everywhere}
 use Rattle.sp_typing.specs.Contexts.{Around}
 use Rattle.sp_operands.specs.Literals.{seen}
-use Rattle.sp_typing.specs.Typing.{typed, typed_all, pairs_typed, leaf_at, int_word, number_in, made_of, or_else, both_written, name_of, led}
+use Rattle.sp_typing.specs.Typing.{typed, typed_all, pairs_typed, leaf_at, number_in, made_of, or_else, both_written, name_of, led}
+use Rattle.sp_types.specs.Integers.{int_word}
 use Rattle.sp_typing.specs.Typing as typing
 use Rattle.sp_body_rules.specs.Known.{Known}
 use Rattle.sp_body_rules.specs.Values.{names_no_value, is_no_value}

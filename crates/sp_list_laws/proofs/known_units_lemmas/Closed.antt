@@ -14,7 +14,7 @@ use Rattle.sp_typed.specs.Exprs as typed_is
 use Rattle.sp_operands.specs.Literals.{seen}
 use Rattle.sp_typing.specs.Contexts.{Around}
 use Rattle.sp_typing.specs.Typing.{typed}
-use Rattle.sp_typing_units.specs.Decorators.{meant}
+use Rattle.sp_surroundings.specs.Decorators.{meant}
 use Rattle.sp_typing_units.specs.Attributes.{conversion}
 use Rattle.sp_typing_units.specs.Readings.{counted_read}
 use Rattle.sp_typing_units.specs.Values.{Values}

@@ -46,7 +46,8 @@ use Rattle.sp_typing_units.specs.declared.roles.Role.{Role}
 use Rattle.sp_typing_units.specs.declared.roles.Role.TheVariants as role_is
 use Rattle.sp_typing_units.specs.Roles.{may_stand, role_of, delimiting, grouped}
 use Rattle.sp_typing_units.specs.Values.{Values}
-use Rattle.sp_typing_units.specs.Attributes.{present, maybe_typed, element_of, value_typed, attribute_by, attributes, conversion, converted}
+use Rattle.sp_typing_units.specs.Attributes.{maybe_typed, element_of, value_typed, attribute_by, attributes, conversion, converted}
+use Rattle.sp_ast.specs.Views.{present}
 use Rattle.sp_typing_units.specs.Readings.{constant_read, constant_of_type, named_op, named_read, word_read, unknown_read, type_read, arguments, called_word, called_op, called, container, contained, base_read, counted_read}
 use Rattle.sp_typing_units.specs.Parts.{Fields, field_of}
 use Rattle.sp_solver.specs.Told.{told}
@@ -56,17 +57,17 @@ use Rattle.sp_body_rules.specs.ExprTests.{arguments_fit, argument_tests, call_te
 use Rattle.sp_body_rules.specs.StmtTests.{is_sink}
 use Rattle.sp_list_rules.specs.Lists.{all_tests, option_tests}
 use Rattle.sp_list_rules.specs.Names.{expr_names, attribute_names, spec_names, field_names}
-use Rattle.sp_list_rules.specs.Fields.{kind_of, asked_tests, amount_tests, truth_tests, attribute_tests, exprs_inside, spec_tests, reads_void, is_bytes_field, sink_tests, field_tests}
+use Rattle.sp_list_rules.specs.Fields.{asked_tests, amount_tests, truth_tests, attribute_tests, exprs_inside, spec_tests, reads_void, is_bytes_field, sink_tests, field_tests}
 use Rattle.sp_around.specs.Sources.{questions}
 use Rattle.sp_hook_rows.specs.HookRows.{is_some_tree}
 use Rattle.sp_unit_rules.specs.declared.here.Here.{Here}
-use Rattle.sp_unit_rules.specs.Kinds.{read_kind, list_kind, holder_of, kind_of as rules_kind}
+use Rattle.sp_typing_units.specs.Kinds.{read_kind, list_kind, holder_of, kind_of}
 use Rattle.sp_unit_rules.specs.Attributes.{takes_value, is_misvalued, attribute_tests as attribute_rules}
 use Rattle.sp_unit_rules.specs.Readings.{maybe_tests, attributes_tests as attributes_rules, spec_tests as spec_rules}
 use Rattle.sp_unit_rules.specs.Units.{field_tests as field_rules}
-use Rattle.sp_typed_list.specs.Settled.{Answers}
-use Rattle.sp_typed_list.specs.Lists.{typed_of}
-use Rattle.sp_check_unit.specs.Rules.{Breaks}
+use Rattle.sp_checked_list.specs.Settled.{Answers}
+use Rattle.sp_checked_list.specs.Lists.{typed_of}
+use Rattle.sp_checked_list.specs.Rules.{Breaks}
 use Rattle.sp_list_laws.specs.known_types.Full.{is_full}
 use Rattle.sp_list_laws.specs.known_types.Clear.{none_hold, any_op}
 use Rattle.sp_list_laws.proofs.known_types_lemmas.Full.{never}
@@ -114,11 +115,11 @@ grouped_whole kind_is.TypedLiteral e h = absurd (let z : ⊥ = cc in z)
 grouped_whole kind_is.Void e h = absurd (let z : ⊥ = cc in z)
 grouped_whole _ e h = absurd (let z : ⊥ = cc in z)
 
-spec_whole : (s : Spec) → is_read s ≡ true → rules_kind s ≡ kind_is.Broken → false ≡ true
+spec_whole : (s : Spec) → is_read s ≡ true → kind_of s ≡ kind_is.Broken → false ≡ true
 spec_whole (spec_is.read h) is e = op_whole h.op is e
 spec_whole (spec_is.unit_read h es) is e = absurd (let z : ⊥ = cc in z)
 spec_whole (spec_is.list_read span s i) is e = list_whole i e
-spec_whole (spec_is.group_read span s l) is e = grouped_whole (rules_kind s) e (spec_whole s is)
+spec_whole (spec_is.group_read span s l) is e = grouped_whole (kind_of s) e (spec_whole s is)
 
 -- of what the value of an attribute is typed, by its role: `$$` has a full type
 abbrev pub is_placed : Role → Ty → Ty → Bool
@@ -421,13 +422,13 @@ module _ (list : List Tree) (a : Answers list) (formed_list : list_all is_formed
       let tests = none_parts (spec_tests k m r.spec) (all_tests (attribute_tests k m (kind_of r.spec) unknown) l) good.0 in
       let names = none_parts (spec_names m r.spec) (all_tests (attribute_names m) l) good.1 in
       let inner : Good r.spec = (tests.0, names.0, good.2) in
-      let p = none_parts (spec_rules us d l r.spec) (attributes_rules us d holder_is.Group (rules_kind r.spec) [] l) rules.rules in
+      let p = none_parts (spec_rules us d l r.spec) (attributes_rules us d holder_is.Group (kind_of r.spec) [] l) rules.rules in
       let inner_rules : HasRules r.spec = record { own = l; rules = p.0 } in
       let base_good = element_good list a formed_list unbroken n m ps (trees.span_of x) counts (base_read g worth x) inner in
       let stored = converted_typed x counts ts o.0 fine_x inner (kind_of r.spec) unknown o_ts fine_ts tests.1 names.1 in
       and_from (is_known_spec r.spec) (list_all is_known_attribute l)
       (contained_known (trees.span_of x) counts (base_read g worth x) o_counts.0 fine_counts inner (base_known x o.0 fine_x base_good (element_rules (trees.span_of x) counts (base_read g worth x) inner_rules)))
-      (attributes_known site (site_placed x counts ts o.0 fine_x inner stored) holder_is.Group (kind_of r.spec) (rules_kind r.spec) (counted_kinds g worth x counts) unknown [] ts o_ts fine_ts tests.1 names.1 p.1)
+      (attributes_known site (site_placed x counts ts o.0 fine_x inner stored) holder_is.Group (kind_of r.spec) (kind_of r.spec) (counted_kinds g worth x counts) unknown [] ts o_ts fine_ts tests.1 names.1 p.1)
   base_known (node (form_is.Base (base_is.Bytes bytes)) at none) of h good rules = refl
   base_known (node (form_is.Base (base_is.Regex text)) at none) of h good rules = refl
   base_known (node (form_is.Base (base_is.Number x)) at (more u none)) of h good rules = refl
@@ -471,14 +472,14 @@ module _ (list : List Tree) (a : Answers list) (formed_list : list_all is_formed
       let n_spec = none_parts (spec_names m r.spec) (all_tests (attribute_names m) l ++ (option_tests (expr_names m) x.condition ++ option_tests (expr_names m) x.sink)) n_all.1 in
       let n_ts = none_parts (all_tests (attribute_names m) l) (option_tests (expr_names m) x.condition ++ option_tests (expr_names m) x.sink) n_spec.1 in
       let n_ends = none_parts (option_tests (expr_names m) x.condition) (option_tests (expr_names m) x.sink) n_ts.1 in
-      let r_spec = none_parts (spec_rules us d l r.spec) (attributes_rules us d (holder_of x.member) (rules_kind r.spec) [] l ++ (maybe_tests us d x.condition ++ maybe_tests us d x.sink)) good.3 in
-      let r_ts = none_parts (attributes_rules us d (holder_of x.member) (rules_kind r.spec) [] l) (maybe_tests us d x.condition ++ maybe_tests us d x.sink) r_spec.1 in
+      let r_spec = none_parts (spec_rules us d l r.spec) (attributes_rules us d (holder_of x.member) (kind_of r.spec) [] l ++ (maybe_tests us d x.condition ++ maybe_tests us d x.sink)) good.3 in
+      let r_ts = none_parts (attributes_rules us d (holder_of x.member) (kind_of r.spec) [] l) (maybe_tests us d x.condition ++ maybe_tests us d x.sink) r_spec.1 in
       let whole : Good r.spec = (t_spec.0, n_spec.0, good.2) in
       let rules : HasRules r.spec = record { own = l; rules = r_spec.0 } in
       let base_good = element_good list a formed_list unbroken n m ps (trees.span_of base) counts (base_read g worth base) whole in
       let stored = converted_typed base counts ts at_base.0 fine_base whole (kind_of r.spec) x.ty at_ts.0 fine_ts t_ts.0 n_ts.0 in
       let known = contained_known (trees.span_of base) counts (base_read g worth base) at_counts.0 fine_counts whole (base_known base at_base.0 fine_base base_good (element_rules (trees.span_of base) counts (base_read g worth base) rules)) in
-      let attributes_ = attributes_known site (site_placed base counts ts at_base.0 fine_base whole stored) (holder_of x.member) (kind_of r.spec) (rules_kind r.spec) (counted_kinds g worth base counts) x.ty [] ts at_ts.0 fine_ts t_ts.0 n_ts.0 r_ts.0 in
+      let attributes_ = attributes_known site (site_placed base counts ts at_base.0 fine_base whole stored) (holder_of x.member) (kind_of r.spec) (kind_of r.spec) (counted_kinds g worth base counts) x.ty [] ts at_ts.0 fine_ts t_ts.0 n_ts.0 r_ts.0 in
       and_from (is_full x.ty) _ stored
       (and_from (is_known_spec r.spec) _ known
       (and_from (list_all is_known_attribute l) _ attributes_

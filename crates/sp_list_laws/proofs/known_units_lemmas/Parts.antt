@@ -29,7 +29,8 @@ use Rattle.sp_operands.specs.Literals.{seen, taken}
 use Rattle.sp_typing.specs.Contexts.{Around}
 use Rattle.sp_typing.specs.Typing.{typed, typed_all, to_target}
 use Rattle.sp_typing_units.specs.Values.{Values}
-use Rattle.sp_typing_units.specs.Attributes.{present, maybe_typed}
+use Rattle.sp_typing_units.specs.Attributes.{maybe_typed}
+use Rattle.sp_ast.specs.Views.{present}
 use Rattle.sp_typing_units.specs.Parts.{Fields, arm_of, field_in, part_of, parts_of, body_of, arms_of}
 use Rattle.sp_solver.specs.Told.{told}
 use Rattle.sp_names.specs.Types.{or_unknown}
@@ -45,9 +46,9 @@ use Rattle.sp_unit_rules.specs.declared.here.Here.{Here}
 use Rattle.sp_unit_rules.specs.Readings.{maybe_tests, exprs_tests}
 use Rattle.sp_unit_rules.specs.Units.{part_tests as part_rules, parts_tests as parts_rules, arms_tests as arms_rules}
 use Rattle.sp_unit_rows.specs.Items.{variable_of, variables_in, order_with, orders_in, parts_in}
-use Rattle.sp_typed_list.specs.Settled.{Answers}
-use Rattle.sp_typed_list.specs.Lists.{typed_of}
-use Rattle.sp_check_unit.specs.Rules.{Breaks}
+use Rattle.sp_checked_list.specs.Settled.{Answers}
+use Rattle.sp_checked_list.specs.Lists.{typed_of}
+use Rattle.sp_checked_list.specs.Rules.{Breaks}
 use Rattle.sp_list_laws.specs.known_types.Full.{is_full}
 use Rattle.sp_list_laws.specs.known_types.Clear.{none_hold, any_op}
 use Rattle.sp_list_laws.proofs.known_types_lemmas.Full.{never}

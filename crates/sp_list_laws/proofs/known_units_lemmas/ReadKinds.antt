@@ -25,10 +25,11 @@ use Rattle.sp_typing_units.specs.declared.roles.Kind.{Kind}
 use Rattle.sp_typing_units.specs.declared.roles.Kind.TheVariants as kind_is
 use Rattle.sp_typing_units.specs.Roles.{grouped}
 use Rattle.sp_typing_units.specs.Values.{Values}
-use Rattle.sp_typing_units.specs.Attributes.{present, maybe_typed, element_of}
+use Rattle.sp_typing_units.specs.Attributes.{maybe_typed, element_of}
+use Rattle.sp_ast.specs.Views.{present}
 use Rattle.sp_typing_units.specs.Readings.{constant_read, constant_of_type, named_op, named_read, word_read, unknown_read, type_read, called_word, called_op, called, counting, container, contained, base_read, counted_read}
 use Rattle.sp_hook_rows.specs.HookRows.{is_some_tree}
-use Rattle.sp_unit_rules.specs.Kinds.{list_kind, kind_of}
+use Rattle.sp_typing_units.specs.Kinds.{list_kind, kind_of}
 use Rattle.sp_list_laws.specs.known_types.Full.{is_full}
 use Rattle.sp_list_laws.proofs.known_types_lemmas.Full.{never}
 use Rattle.sp_list_laws.proofs.known_members_lemmas.Shapes.{no_first}

@@ -27,9 +27,9 @@ use Rattle.sp_list_rules.specs.Bodies.{parameter_tests, order_tests, variable_te
 use Rattle.sp_list_rules.specs.Fields.{parts_tests}
 use Rattle.sp_hook_rows.specs.HookRows.{is_some_tree}
 use Rattle.sp_unit_rules.specs.Units.{in_unit as rules_in, variables_tests, parts_tests as parts_rules}
-use Rattle.sp_typed_list.specs.Settled.{Answers}
-use Rattle.sp_typed_list.specs.Lists.{typed_of}
-use Rattle.sp_check_unit.specs.Rules.{Breaks}
+use Rattle.sp_checked_list.specs.Settled.{Answers}
+use Rattle.sp_checked_list.specs.Lists.{typed_of}
+use Rattle.sp_checked_list.specs.Rules.{Breaks}
 use Rattle.sp_list_laws.specs.whole_list.Whole.{is_known_parameter, is_known_member, is_known_variable, are_known_parts, is_known_order, is_known_unit}
 use Rattle.sp_list_laws.proofs.whole_list_lemmas.None.{none_parts}
 use Rattle.sp_list_laws.specs.known_types.Full.{is_full}

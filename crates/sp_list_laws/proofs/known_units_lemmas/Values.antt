@@ -20,10 +20,11 @@ use Rattle.sp_typing.specs.Contexts.{Around}
 use Rattle.sp_typing.specs.Typing.{typed, typed_all}
 use Rattle.sp_typing_units.specs.declared.roles.Role.{Role}
 use Rattle.sp_typing_units.specs.declared.roles.Role.TheVariants as role_is
-use Rattle.sp_typing_units.specs.Decorators.{meant}
+use Rattle.sp_surroundings.specs.Decorators.{meant}
 use Rattle.sp_solver.specs.Told.{told}
 use Rattle.sp_body_rules.specs.Known.{Known}
-use Rattle.sp_body_rules.specs.Values.{is_no_value, value_goes, value_tests, target_tests, at, value_span}
+use Rattle.sp_body_rules.specs.Values.{is_no_value, value_goes, value_tests, target_tests, value_span}
+use Rattle.sp_rules.specs.Faults.{at}
 use Rattle.sp_body_rules.specs.ExprTests.{expr_tests, is_not_constant, argument_fits, arguments_fit, argument_tests}
 use Rattle.sp_body_rules.specs.StmtTests.{differs, case_tests}
 use Rattle.sp_operands.specs.Operands.{is_boolean}
@@ -31,9 +32,9 @@ use Rattle.sp_list_rules.specs.Lists.{all_tests}
 use Rattle.sp_list_rules.specs.Names.{expr_names, exprs_names}
 use Rattle.sp_list_rules.specs.Bodies.{inside_tests, constant_tests, is_enum_of}
 use Rattle.sp_list_rules.specs.Fields.{asked_tests, order_enum, by_role, exprs_inside}
-use Rattle.sp_typed_list.specs.Settled.{Answers}
-use Rattle.sp_typed_list.specs.Lists.{typed_of}
-use Rattle.sp_check_unit.specs.Rules.{Breaks}
+use Rattle.sp_checked_list.specs.Settled.{Answers}
+use Rattle.sp_checked_list.specs.Lists.{typed_of}
+use Rattle.sp_checked_list.specs.Rules.{Breaks}
 use Rattle.sp_list_laws.specs.known_types.Full.{is_full, is_right}
 use Rattle.sp_list_laws.specs.known_types.Clear.{none_hold, any_op}
 use Rattle.sp_list_laws.specs.known_types.Trees.{is_expr}

@@ -24,11 +24,11 @@ use Rattle.sp_typed.specs.declared.words.TwoOp.TheVariants as two_is
 use Rattle.sp_typed.specs.declared.words.Written.{Written}
 use Rattle.sp_typed.specs.Exprs.{Expr, leaf, one, two, three, many, type_of, span_of, is_number, is_literal, retyped, settled}
 use Rattle.sp_typed.specs.Nodes.{holds, is_word}
-use Rattle.sp_operands.specs.Operands.{unknown, boolean, is_boolean, is_signed, is_unsigned, is_integer, is_enum, has_size, sort_of, stands_before, stands_behind, agree, result_type, unary_type, can_cast, first_type}
+use Rattle.sp_operands.specs.Operands.{unknown, boolean, is_boolean, is_signed, is_unsigned, is_integer, is_enum, has_size, sort_of, stands_before, stands_behind, agree, result_type, unary_type, can_cast, first_type, is_valueless}
 use Rattle.sp_operands.specs.Literals.{seen, is_past, is_negative, can_take, taken, signed_literal, literal_word}
 use Rattle.sp_typing.specs.Typing.{one_at, two_at, widened, to_target, signed_type, unary_at, size_type, cast_type, alike, agreeing}
 use Rattle.sp_body_rules.specs.Known.{Known}
-use Rattle.sp_body_rules.specs.Values.{is_no_value, is_valueless, written_tests}
+use Rattle.sp_body_rules.specs.Values.{is_no_value, written_tests}
 use Rattle.sp_body_rules.specs.ExprTests.{negates}
 use Rattle.sp_constants.specs.Known.{Known as Values}
 use Rattle.sp_constants.specs.declared.outcome.Outcome.{Outcome}

@@ -18,10 +18,10 @@ use Rattle.sp_typed.specs.declared.words.TwoOp.TheVariants as two_is
 use Rattle.sp_typed.specs.Exprs.{Expr, type_of}
 use Rattle.sp_typed.specs.Nodes.{holds}
 use Rattle.sp_operands.specs.declared.operators.OperatorSort.{OperatorSort}
-use Rattle.sp_operands.specs.Operands.{unknown, boolean, is_boolean, is_unsigned, sort_of, stands_before, stands_behind, agree, result_type, key_of, first_type}
+use Rattle.sp_operands.specs.Operands.{unknown, boolean, is_boolean, is_unsigned, sort_of, stands_before, stands_behind, agree, result_type, key_of, first_type, second_type}
 use Rattle.sp_operands.specs.Literals.{seen}
 use Rattle.sp_typing.specs.Contexts.{Around}
-use Rattle.sp_typing.specs.Typing.{two_at, to_target, agreeing, joined, is_membership, binary_at, chosen, choice_at, second_type, part_at, item_of, item_at, index_at}
+use Rattle.sp_typing.specs.Typing.{two_at, to_target, agreeing, joined, is_membership, binary_at, chosen, choice_at, part_at, item_of, item_at, index_at}
 use Rattle.sp_body_rules.specs.Known.{Known}
 use Rattle.sp_body_rules.specs.Values.{knows}
 use Rattle.sp_body_rules.specs.ExprTests.{is_past_key, disagree, index_tests}

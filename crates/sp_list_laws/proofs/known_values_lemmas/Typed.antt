@@ -14,7 +14,8 @@ use Rattle.sp_typed.specs.declared.words.OneOp.{OneOp}
 use Rattle.sp_typed.specs.declared.words.LeafOp.TheVariants as leaf_is
 use Rattle.sp_typing.specs.Contexts.{Around}
 use Rattle.sp_operands.specs.Literals.{can_take, seen, unsigned_literal}
-use Rattle.sp_typing.specs.Typing.{typed, typed_all, pairs_typed, leaf_at, int_word, number_in, name_of, led}
+use Rattle.sp_typing.specs.Typing.{typed, typed_all, pairs_typed, leaf_at, number_in, name_of, led}
+use Rattle.sp_types.specs.Integers.{int_word}
 use Rattle.sp_body_rules.specs.Known.{Known}
 use Rattle.sp_constants.specs.Known.{Known as Values}
 use Rattle.sp_list_laws.specs.known_types.Trees.{is_expr, are_exprs, are_pairs}

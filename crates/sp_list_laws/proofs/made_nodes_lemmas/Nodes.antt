@@ -28,13 +28,13 @@ use Rattle.sp_typed.specs.declared.heads.Three.{Three}
 use Rattle.sp_typed.specs.declared.heads.Many.{Many}
 use Rattle.sp_typed.specs.Exprs.{Expr, leaf, one, two, three, many, exprs, span_of, is_literal, retyped, settled}
 use Rattle.sp_typed.specs.Nodes.{holds, all_hold}
-use Rattle.sp_operands.specs.Operands.{unknown, boolean, key_of, first_type, sort_of, result_type}
+use Rattle.sp_operands.specs.Operands.{unknown, boolean, key_of, first_type, sort_of, result_type, second_type}
 use Rattle.sp_operands.specs.Literals.{can_take, taken, is_negative, seen, literal_word}
 use Rattle.sp_operands.specs.Wholes.{row_type, map_type}
 use Rattle.sp_typing.specs.declared.context.Member.{Member}
 use Rattle.sp_typing.specs.declared.context.Callable.{Callable}
 use Rattle.sp_typing.specs.Contexts.{Around}
-use Rattle.sp_typing.specs.Typing.{typed, typed_all, pairs_typed, name_of, number_in, one_at, size_type, cast_type, signed_type, unary_op, choice_type, second_type, made_of, both_written, call_of, widened, to_target, to_maybe, each_to, alike, agreeing, lead, maybe_taken, led, lead_half, in_turn, unary_at, joined, is_membership, binary_at, choice_at, member_at, set_op, set_member_at, part_at, item_of, item_at, index_at, no_call, callee_op, call_by, call_at, method_of, started, new_by}
+use Rattle.sp_typing.specs.Typing.{typed, typed_all, pairs_typed, name_of, number_in, one_at, size_type, cast_type, signed_type, unary_op, choice_type, made_of, both_written, call_of, widened, to_target, to_maybe, each_to, alike, agreeing, lead, maybe_taken, led, lead_half, in_turn, unary_at, joined, is_membership, binary_at, choice_at, member_at, set_op, set_member_at, part_at, item_of, item_at, index_at, no_call, callee_op, call_by, call_at, method_of, started, new_by}
 use Rattle.sp_list_laws.specs.made_nodes.Makes.{Makes}
 
 module _ (g : Around) (p : Expr → Bool) (makes : Makes g p) where

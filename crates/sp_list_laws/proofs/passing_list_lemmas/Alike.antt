@@ -37,9 +37,9 @@ use Rattle.sp_unit_rows.specs.Fields.{number_or, hooks_by}
 use Rattle.sp_unit_rows.specs.UnitRows.{inside_unit}
 use Rattle.sp_unbuilt.specs.Fields.{kinds_in_units}
 use Rattle.sp_declared_values.specs.Answers.{values}
-use Rattle.sp_typed_list.specs.Settled.{Answers}
-use Rattle.sp_typed_list.specs.Lists.{typed_of}
-use Rattle.sp_check_unit.specs.Rules.{Breaks}
+use Rattle.sp_checked_list.specs.Settled.{Answers}
+use Rattle.sp_checked_list.specs.Lists.{typed_of}
+use Rattle.sp_checked_list.specs.Rules.{Breaks}
 use Rattle.sp_running.specs.Scopes.{is_among}
 use Rattle.sp_code_programs.specs.programs.Currents.{earlier, field_in_parts, hooked_field}
 use Rattle.sp_list_laws.proofs.known_types_lemmas.Full.{never}

@@ -17,7 +17,8 @@ use Rattle.sp_typed_units.specs.declared.items.Field.{Field}
 use Rattle.sp_typed_units.specs.Parts.{parts}
 use Rattle.sp_typing.specs.Contexts.{Around}
 use Rattle.sp_typing_units.specs.Values.{Values}
-use Rattle.sp_typing_units.specs.Attributes.{present, maybe_typed}
+use Rattle.sp_typing_units.specs.Attributes.{maybe_typed}
+use Rattle.sp_ast.specs.Views.{present}
 use Rattle.sp_typing_units.specs.Parts.{Fields, field_in, part_of, parts_of, body_of, arms_of}
 use Rattle.sp_unit_rows.specs.Items.{parts_in}
 use Rattle.sp_code_programs.specs.programs.Currents.{earlier, field_in as bodied, field_in_parts, field_in_arms}

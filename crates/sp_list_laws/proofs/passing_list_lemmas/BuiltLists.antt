@@ -35,10 +35,10 @@ use Rattle.sp_list_rules.specs.Slots.{for_slots}
 use Rattle.sp_list_rules.specs.Told.{known_in, values_of}
 use Rattle.sp_list_rules.specs.Bodies.{body_tests, parameter_tests, plain_tests, wanted_of, given_tests, function_tests, priority_tests, hook_tests, order_tests, member_type, first_value_tests, variable_tests}
 use Rattle.sp_list_rules.specs.Wholes.{unit_tests}
-use Rattle.sp_typed_list.specs.Rows.{ranks}
-use Rattle.sp_typed_list.specs.Settled.{Answers}
-use Rattle.sp_typed_list.specs.Lists.{hooks_in, typed_of}
-use Rattle.sp_check_unit.specs.Rules.{Breaks}
+use Rattle.sp_list_rows.specs.FunctionsAndOrders.{ranks}
+use Rattle.sp_checked_list.specs.Settled.{Answers}
+use Rattle.sp_checked_list.specs.Lists.{hooks_in, typed_of}
+use Rattle.sp_checked_list.specs.Rules.{Breaks}
 use Rattle.sp_list_laws.specs.known_types.Full.{is_full}
 use Rattle.sp_list_laws.specs.known_types.Clear.{none_hold}
 use Rattle.sp_list_laws.specs.whole_list.Whole.{is_known_if, is_known_body, is_known_parameter, is_known_member, is_known_variable, is_known_unit, is_known_function, is_known_hook}

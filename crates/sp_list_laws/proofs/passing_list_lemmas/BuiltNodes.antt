@@ -26,7 +26,8 @@ use Rattle.sp_typed.specs.Stmts.{Stmt, Stmts, Branches, Cases, bare, valued, ass
 use Rattle.sp_typed.specs.StmtNodes.{stmts_in, stmts_in_all, stmts_in_branches, stmts_in_cases, nodes_hold, stmts_hold, branches_hold, cases_hold}
 use Rattle.sp_typing_stmts.specs.Owners.{is_index}
 use Rattle.sp_body_rules.specs.Known.{Known}
-use Rattle.sp_body_rules.specs.Values.{is_valueless, is_new, is_void, is_no_value, written_tests}
+use Rattle.sp_body_rules.specs.Values.{is_new, is_void, is_no_value, written_tests}
+use Rattle.sp_operands.specs.Operands.{is_valueless}
 use Rattle.sp_body_rules.specs.ExprTests.{one_op_tests, two_op_tests, all_value_tests, elements_tests, entries_tests, argument_tests, is_element, may_change, many_op_tests}
 use Rattle.sp_body_rules.specs.StmtTests.{local_tests, return_tests, change_tests, valued_op_tests, print_tests, branches_tests, case_tests, cases_tests}
 use Rattle.sp_bodies.specs.Exprs.{is_item_place}

@@ -32,13 +32,14 @@ use Rattle.sp_hook_rows.specs.declared.rows.HookRow.{HookRow}
 use Rattle.sp_hook_rows.specs.Sites.{sites}
 use Rattle.sp_hook_rows.specs.HookRows.{hook_body, is_each, field_number, plain_of, each_of, field_of, unit_of, target_of, named_unit, unit_hook, member_hook, last_of, before_last, declared_of, body_rows, is_some_tree, named_rows, field_rows, item_row, declared_row, holder_rows, rows_of, hook_rows}
 use Rattle.sp_typing_heads.specs.Events.{is_of_elements}
-use Rattle.sp_unbuilt.specs.Constructs.{is_for_each, is_late_target, is_late_name, tail_tests, read_end, present, each_tests, tests_at}
+use Rattle.sp_unbuilt.specs.Constructs.{is_for_each, is_late_target, is_late_name, tail_tests, read_end, each_tests, tests_at}
+use Rattle.sp_ast.specs.Views.{present}
 use Rattle.sp_unbuilt.specs.Fields.{kinds_in_units}
 use Rattle.sp_unbuilt.specs.Next.{saturated}
 use Rattle.sp_unbuilt.specs.Unbuilt.{Texts, tests_in, tests_among, tests_from, unbuilt_tests, first_unbuilt}
-use Rattle.sp_typed_list.specs.Settled.{Answers}
-use Rattle.sp_typed_list.specs.Lists.{typed_of}
-use Rattle.sp_check_unit.specs.Rules.{Breaks}
+use Rattle.sp_checked_list.specs.Settled.{Answers}
+use Rattle.sp_checked_list.specs.Lists.{typed_of}
+use Rattle.sp_checked_list.specs.Rules.{Breaks}
 use Rattle.sp_list_laws.proofs.known_types_lemmas.Full.{never}
 use Rattle.sp_list_laws.specs.known_constants.Fine.{IsFine, AreFine}
 use Rattle.sp_list_laws.proofs.known_constants_lemmas.Fine.{formed, inside, first, rest}

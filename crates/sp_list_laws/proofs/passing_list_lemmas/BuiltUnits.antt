@@ -25,7 +25,7 @@ use Rattle.sp_names.specs.declared.sort.DeclSort.TheVariants as sort_is
 use Rattle.sp_names.specs.Declarations.{rows, all_of, sort_of, type_tree_of, declaration_at}
 use Rattle.sp_typing.specs.Contexts.{Around as Names}
 use Rattle.sp_typing_units.specs.Parts.{Fields, field_place}
-use Rattle.sp_typing_heads.specs.Parameters.{with_parameters}
+use Rattle.sp_surroundings.specs.Parameters.{with_parameters}
 use Rattle.sp_list_rules.specs.Lists.{all_tests}
 use Rattle.sp_list_rules.specs.Names.{order_names, variable_names}
 use Rattle.sp_list_rules.specs.Bodies.{parameter_tests, order_tests, variable_tests}
@@ -37,9 +37,9 @@ use Rattle.sp_declared_values.specs.Answers.{values}
 use Rattle.sp_list_context.specs.Contexts.{facts}
 use Rattle.sp_unit_rows.specs.UnitRows.{inside_unit}
 use Rattle.sp_unbuilt.specs.Fields.{kinds_in_unit, kinds_in_units}
-use Rattle.sp_typed_list.specs.Settled.{Answers}
-use Rattle.sp_typed_list.specs.Lists.{typed_of}
-use Rattle.sp_check_unit.specs.Rules.{Breaks}
+use Rattle.sp_checked_list.specs.Settled.{Answers}
+use Rattle.sp_checked_list.specs.Lists.{typed_of}
+use Rattle.sp_checked_list.specs.Rules.{Breaks}
 use Rattle.sp_bodies.specs.Units.{is_plain, last_order, module_order, integer_field, unit_layout}
 use Rattle.sp_law_programs.specs.finished_bodies.Built.{IsThere}
 use Rattle.sp_law_programs.specs.finished_units.Built as built

@@ -18,9 +18,9 @@ use Rattle.sp_constants.specs.declared.outcome.Outcome.{Outcome}
 use Rattle.sp_constants.specs.declared.outcome.Outcome.TheVariants as outcome_is
 use Rattle.sp_declared_values.specs.Answers.{constant_type, constant_value}
 use Rattle.sp_declared_values.specs.TypedRows.{shown_value}
-use Rattle.sp_typed_list.specs.Settled.{Answers}
-use Rattle.sp_typed_list.specs.Lists.{typed_of}
-use Rattle.sp_check_unit.specs.Rules.{Breaks}
+use Rattle.sp_checked_list.specs.Settled.{Answers}
+use Rattle.sp_checked_list.specs.Lists.{typed_of}
+use Rattle.sp_checked_list.specs.Rules.{Breaks}
 use Rattle.sp_bodies.specs.Globals.{globals_of}
 use Rattle.sp_list_laws.specs.known_types.Full.{is_full, are_full}
 use Rattle.sp_list_laws.proofs.known_types_lemmas.Full.{never}

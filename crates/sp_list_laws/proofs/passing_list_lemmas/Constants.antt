@@ -24,9 +24,9 @@ use Rattle.sp_declared_values.specs.declared.answer.Answer.{Answer}
 use Rattle.sp_declared_values.specs.Valued.{if_constant, constants_among, constants}
 use Rattle.sp_declared_values.specs.Answers.{constant_type, constant_value}
 use Rattle.sp_declared_values.specs.TypedRows.{shown_value, declared_constant, next_constant, if_declared, constants_from, typed_constants}
-use Rattle.sp_typed_list.specs.Settled.{Answers}
-use Rattle.sp_typed_list.specs.Lists.{typed_of}
-use Rattle.sp_check_unit.specs.Rules.{Breaks}
+use Rattle.sp_checked_list.specs.Settled.{Answers}
+use Rattle.sp_checked_list.specs.Lists.{typed_of}
+use Rattle.sp_checked_list.specs.Rules.{Breaks}
 use Rattle.sp_list_laws.specs.known_types.Clear.{none_hold}
 use Rattle.sp_list_laws.proofs.known_types_lemmas.Full.{never}
 use Rattle.sp_list_laws.specs.known_values.Values.{fits}

@@ -23,17 +23,19 @@ use Rattle.sp_names.specs.declared.sort.DeclSort.TheVariants as sort_is
 use Rattle.sp_names.specs.Declarations.{rows, all_of, number_at, module_name, module_at}
 use Rattle.sp_names.specs.Names.{declaration_of}
 use Rattle.sp_typing.specs.Contexts.{Around}
-use Rattle.sp_typing_units.specs.Attributes.{present, maybe_typed}
-use Rattle.sp_typing_units.specs.Decorators.{with_current, with_self}
+use Rattle.sp_typing_units.specs.Attributes.{maybe_typed}
+use Rattle.sp_ast.specs.Views.{present}
+use Rattle.sp_surroundings.specs.Decorators.{with_current, with_self}
 use Rattle.sp_typing_units.specs.Parts.{Fields}
 use Rattle.sp_typing_units.specs.Values.{Values}
 use Rattle.sp_typing_stmts.specs.Statements.{written_type}
 use Rattle.sp_typing_heads.specs.declared.site.Site.{Site as HookSite}
 use Rattle.sp_typing_heads.specs.Events.{is_of_sink}
 use Rattle.sp_typing_heads.specs.Functions.{body_giving, function_of}
-use Rattle.sp_typing_heads.specs.Parameters.{parameters_in, with_parameters}
+use Rattle.sp_surroundings.specs.Parameters.{parameters_in, with_parameters}
 use Rattle.sp_typing_heads.specs.Hooks.{self_type, self_standing, current_type, current_standing, hook_around, hook_body as body_of_hook, hook_of_body, hook_on}
-use Rattle.sp_typing_hooks.specs.Hooks.{seen_by, site_of, unit_of, parameters_of, written_hook, hook_in, typed_hooks}
+use Rattle.sp_typing_hooks.specs.Hooks.{seen_by, site_of, parameters_of, written_hook, hook_in, typed_hooks}
+use Rattle.sp_typed_units.specs.Hooks.{unit_of}
 use Rattle.sp_around.specs.Members.{unit_items, declared_unit, unit_declaration}
 use Rattle.sp_declared_values.specs.declared.answer.Answer.{Answer}
 use Rattle.sp_declared_values.specs.Answers.{values}
@@ -49,8 +51,8 @@ use Rattle.sp_unit_rows.specs.declared.calls.UnitCalls.{UnitCalls}
 use Rattle.sp_unit_rows.specs.Items.{brought, variable_in, variables_in}
 use Rattle.sp_unit_rows.specs.UnitRows.{inside_unit, parameter_trees, fields_in}
 use Rattle.sp_unit_rows.specs.UnitRows as unit_rows
-use Rattle.sp_typed_list.specs.Rows.{declared_function, functions_of}
-use Rattle.sp_typed_list.specs.Lists.{calls_of, by_keys, units_from}
+use Rattle.sp_list_rows.specs.FunctionsAndOrders.{declared_function, functions_of}
+use Rattle.sp_checked_list.specs.Lists.{calls_of, by_keys, units_from}
 use Rattle.sp_list_laws.proofs.whole_list_lemmas.Modules.{none_found, some_found}
 use Rattle.sp_list_laws.proofs.known_constants_lemmas.Declarations.{AllOf, both_of, at_all}
 use Rattle.sp_list_laws.proofs.known_hooks_lemmas.Walks.{tree_at, places_pass, all_places}

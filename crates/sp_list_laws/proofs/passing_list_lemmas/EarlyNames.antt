@@ -36,10 +36,11 @@ use Rattle.sp_names.specs.Names.{path_means, declaration_of}
 use Rattle.sp_typing.specs.declared.context.Member.{Member}
 use Rattle.sp_typing.specs.declared.context.Callable.{Callable}
 use Rattle.sp_typing.specs.Contexts.{Around}
-use Rattle.sp_typing_units.specs.Decorators.{with_current, with_self}
+use Rattle.sp_surroundings.specs.Decorators.{with_current, with_self}
 use Rattle.sp_typing_stmts.specs.Scopes.{Local}
-use Rattle.sp_typing_stmts.specs.Visible.{single_name, found_maybe, local_or, with_locals}
-use Rattle.sp_typing_heads.specs.Parameters.{numbered_maybe, parameter_at, parameter_leaf, or_outside, with_parameters}
+use Rattle.sp_typing_stmts.specs.Visible.{found_maybe, local_or, with_locals}
+use Rattle.sp_typing.specs.Names.{single_name}
+use Rattle.sp_surroundings.specs.Parameters.{numbered_maybe, parameter_at, parameter_leaf, or_outside, with_parameters}
 use Rattle.sp_around.specs.Members.{UnitMember, field_member, named_in, named_among, is_called, firsts, unit_items, members_of, unit_in, declared_unit, unit_declaration, unit_members, numbered, kinds_of, range_number, bitfield_width, bitfield_tree}
 use Rattle.sp_method_types.specs.Methods.{told, by_order, begins_with_order, bytes_methods, text_methods, vector_methods, are_two, get_method, map_methods, method_gives, unit_methods, unit_method_gives, sink_methods, library_call, unit_call, sink_call, method_of, base_ten, utf8, replace, left_out_of}
 use Rattle.sp_around.specs.Arounds.{Facts, kind_member, some_member, unit_member, width_type, bit_member, member_of, declared_at, meaning_at, left_out_by, around as module_names}

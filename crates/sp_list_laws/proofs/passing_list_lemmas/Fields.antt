@@ -16,11 +16,12 @@ use Rattle.sp_typed_units.specs.declared.items.Field.{Field}
 use Rattle.sp_typed_units.specs.Parts.{Part, Parts, field, choice, no_parts, more_parts, parts}
 use Rattle.sp_typing.specs.Contexts.{Around}
 use Rattle.sp_typing_units.specs.Values.{Values}
-use Rattle.sp_typing_units.specs.Attributes.{present, maybe_typed, converted}
+use Rattle.sp_typing_units.specs.Attributes.{maybe_typed, converted}
+use Rattle.sp_ast.specs.Views.{present}
 use Rattle.sp_typing_units.specs.Readings.{counted_read}
 use Rattle.sp_typing_units.specs.Parts.{Fields, field_place, member_number, field_of, field_in, part_of}
 use Rattle.sp_unit_rows.specs.Items.{parts_in}
-use Rattle.sp_unbuilt.specs.Constructs.{read_end, word_tests, condition_end, tail_tests, each_tests, present as shown}
+use Rattle.sp_unbuilt.specs.Constructs.{read_end, word_tests, condition_end, tail_tests, each_tests}
 use Rattle.sp_unbuilt.specs.Fields.{reads_integer, kinds_of_part, kinds_among}
 use Rattle.sp_bodies.specs.Units.{IntegerForm, only_orders, integer_spec, where_known, without_either, integer_field}
 use Rattle.sp_list_laws.proofs.known_types_lemmas.Full.{never}
@@ -35,11 +36,6 @@ use Rattle.sp_list_laws.proofs.passing_list_lemmas.Readings.{first_built, rest_b
 no_word : (text : List ℕ) (m n : ℕ) (o : Option Tree) → nothing (word_tests text m n o) ≡ true → o ≡ None
 no_word text m n None e = refl
 no_word text m n (Some t) e = never e
-
-same_present : (t : Tree) → shown t ≡ present t
-same_present absent = refl
-same_present (row ts) = refl
-same_present (node form span ts) = refl
 
 twice_not : (b : Bool) → (not (not b) && true) ≡ true → b ≡ true
 twice_not true e = refl
@@ -70,10 +66,10 @@ module _ (g : Around) (v : Values) (fields : Fields) where
       let r = counted_read g v base counts in
       let f = field_of g v fields span (present name) r ts (present condition) (present sink) in
       let ws = field_parts name base counts ts condition sink (row hooks) in
-      let own = (two_parts (tail_tests h.text h.«module» (read_end base counts ts) (shown condition) (shown sink)) (each_tests h.«module» hooks) (at_tree form_is.Field span ws h)).0 in
-      let two = two_parts (word_tests h.text h.«module» (read_end base counts ts) (shown condition)) (word_tests h.text h.«module» (condition_end h.text (read_end base counts ts) (shown condition)) (shown sink)) own in
-      let no_condition : present condition ≡ None = sym (same_present condition) ∙ no_word h.text h.«module» (read_end base counts ts) (shown condition) two.0 in
-      let no_sink : present sink ≡ None = sym (same_present sink) ∙ no_word h.text h.«module» (condition_end h.text (read_end base counts ts) (shown condition)) (shown sink) two.1 in
+      let own = (two_parts (tail_tests h.text h.«module» (read_end base counts ts) (present condition) (present sink)) (each_tests h.«module» hooks) (at_tree form_is.Field span ws h)).0 in
+      let two = two_parts (word_tests h.text h.«module» (read_end base counts ts) (present condition)) (word_tests h.text h.«module» (condition_end h.text (read_end base counts ts) (present condition)) (present sink)) own in
+      let no_condition : present condition ≡ None = no_word h.text h.«module» (read_end base counts ts) (present condition) two.0 in
+      let no_sink : present sink ≡ None = no_word h.text h.«module» (condition_end h.text (read_end base counts ts) (present condition)) (present sink) two.1 in
       let inner = (built_passes 0).parts form_is.Field span ws h in
       let at_base = rest_built name _ inner in
       let at_counts = rest_built base _ at_base in

@@ -26,14 +26,14 @@ use Rattle.sp_names.specs.Names.{declaration_of}
 use Rattle.sp_typing.specs.Contexts.{Around}
 use Rattle.sp_typing_stmts.specs.Statements.{written_type}
 use Rattle.sp_typing_heads.specs.Functions.{or_void, function_of}
-use Rattle.sp_typing_heads.specs.Parameters.{parameters_in}
+use Rattle.sp_surroundings.specs.Parameters.{parameters_in}
 use Rattle.sp_around.specs.Heads.{parameter_types, function_parameters, types_of_function, result_type, result_of, type_or_void, function_takes as takes_of, function_gives, function_declaration}
 use Rattle.sp_list_rules.specs.Told.{function_takes, parameter_type}
 use Rattle.sp_list_context.specs.Contexts.{in_module}
-use Rattle.sp_typed_list.specs.Settled.{Answers}
-use Rattle.sp_typed_list.specs.Lists.{typed_of}
-use Rattle.sp_typed_list.specs.Rows.{declared_function, functions_of, functions}
-use Rattle.sp_check_unit.specs.Rules.{Breaks}
+use Rattle.sp_checked_list.specs.Settled.{Answers}
+use Rattle.sp_checked_list.specs.Lists.{typed_of}
+use Rattle.sp_list_rows.specs.FunctionsAndOrders.{declared_function, functions_of, functions}
+use Rattle.sp_checked_list.specs.Rules.{Breaks}
 use Rattle.sp_list_laws.proofs.known_types_lemmas.Full.{never}
 use Rattle.sp_list_laws.proofs.known_constants_lemmas.Declarations.{AllOf, at_all, declaration_fine}
 use Rattle.sp_list_laws.proofs.whole_list_lemmas.Modules.{none_found, some_found}

@@ -15,9 +15,9 @@ use Rattle.sp_typed_units.specs.declared.declarations.Parameter.{Parameter}
 use Rattle.sp_typed_units.specs.declared.declarations.Typed.{Typed}
 use Rattle.sp_typing.specs.Contexts.{Around as Names}
 use Rattle.sp_typing_stmts.specs.Statements.{typed_body}
-use Rattle.sp_typing_units.specs.Decorators.{with_current, with_self}
+use Rattle.sp_surroundings.specs.Decorators.{with_current, with_self}
 use Rattle.sp_typing_heads.specs.declared.site.Site.{Site}
-use Rattle.sp_typing_heads.specs.Parameters.{parameters_in, with_parameters}
+use Rattle.sp_surroundings.specs.Parameters.{parameters_in, with_parameters}
 use Rattle.sp_typing_heads.specs.Events.{fits, is_of_sink, is_of_elements}
 use Rattle.sp_typing_heads.specs.Hooks.{self_type, self_standing, current_type, current_standing, hook_around, hook_body, hook_with, no_hook, hook_of_body, hook_on, hook_behind}
 use Rattle.sp_method_types.specs.Methods.{number}

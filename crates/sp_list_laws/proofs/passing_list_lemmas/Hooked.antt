@@ -42,9 +42,9 @@ use Rattle.sp_typing_hooks.specs.Fields.{holder_types, types_in, mark_of, key_in
 use Rattle.sp_typing_hooks.specs.Hooks.{seen_at, typed_hooks, ranks_of}
 use Rattle.sp_unit_rows.specs.Fields.{hooks_by}
 use Rattle.sp_unit_rows.specs.UnitRows.{inside_unit}
-use Rattle.sp_typed_list.specs.Settled.{Answers}
-use Rattle.sp_typed_list.specs.Lists.{hooks_in, typed_of}
-use Rattle.sp_check_unit.specs.Rules.{Breaks}
+use Rattle.sp_checked_list.specs.Settled.{Answers}
+use Rattle.sp_checked_list.specs.Lists.{hooks_in, typed_of}
+use Rattle.sp_checked_list.specs.Rules.{Breaks}
 use Rattle.sp_bodies.specs.Calls.{has_current}
 use Rattle.sp_code_programs.specs.programs.Currents.{field_in_parts, hooked_field}
 use Rattle.sp_list_laws.specs.fit_list.Stored.{stored_type}

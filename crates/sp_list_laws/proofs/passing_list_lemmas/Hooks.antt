@@ -19,7 +19,8 @@ use Rattle.sp_typing_heads.specs.declared.site.Site.{Site}
 use Rattle.sp_typing_heads.specs.Events.{is_of_elements}
 use Rattle.sp_typing_heads.specs.Hooks.{current_type, no_hook}
 use Rattle.sp_typing_hooks.specs.Fields.{seen_of}
-use Rattle.sp_typing_hooks.specs.Hooks.{current_of as typed_current, site_of, unit_of, parameters_of, written_hook, hook_in, typed_hooks}
+use Rattle.sp_typing_hooks.specs.Hooks.{current_of as typed_current, site_of, parameters_of, written_hook, hook_in, typed_hooks}
+use Rattle.sp_typed_units.specs.Hooks.{unit_of}
 use Rattle.sp_hook_rows.specs.declared.rows.HookRow.{HookRow}
 use Rattle.sp_hook_rows.specs.Sites.{sites}
 use Rattle.sp_hook_rows.specs.HookRows.{hook_rows}
@@ -28,10 +29,10 @@ use Rattle.sp_list_context.specs.Contexts.{in_module, in_modules, in_units, all_
 use Rattle.sp_list_rules.specs.Names.{is_of_nothing, hook_names}
 use Rattle.sp_list_rules.specs.Told.{values_of}
 use Rattle.sp_list_rules.specs.Bodies.{own_hook_tests, hook_tests}
-use Rattle.sp_typed_list.specs.Rows.{ranks}
-use Rattle.sp_typed_list.specs.Settled.{Answers}
-use Rattle.sp_typed_list.specs.Lists.{typed_of}
-use Rattle.sp_check_unit.specs.Rules.{Breaks}
+use Rattle.sp_list_rows.specs.FunctionsAndOrders.{ranks}
+use Rattle.sp_checked_list.specs.Settled.{Answers}
+use Rattle.sp_checked_list.specs.Lists.{typed_of}
+use Rattle.sp_checked_list.specs.Rules.{Breaks}
 use Rattle.sp_bodies.specs.Calls.{has_current}
 use Rattle.sp_code_programs.specs.programs.Routines.{hook_unit}
 use Rattle.sp_list_laws.specs.known_types.Clear.{none_hold}

@@ -37,8 +37,8 @@ use Rattle.sp_hook_rows.specs.HookRows.{hook_rows}
 use Rattle.sp_typed_units.specs.declared.declarations.Hook.{Hook}
 use Rattle.sp_declared_values.specs.Answers.{values}
 use Rattle.sp_unit_rows.specs.UnitRows.{member_rows, declared_row, unit_row}
-use Rattle.sp_typed_list.specs.Settled.{Answers}
-use Rattle.sp_typed_list.specs.Lists.{calls_of, by_keys, hooks_in, units_from, typed_of}
+use Rattle.sp_checked_list.specs.Settled.{Answers}
+use Rattle.sp_checked_list.specs.Lists.{calls_of, by_keys, hooks_in, units_from, typed_of}
 use Rattle.sp_list_laws.proofs.whole_list_lemmas.Modules.{none_found, some_found}
 use Rattle.sp_list_laws.specs.fit_expr.Around.{Around}
 use Rattle.sp_list_laws.specs.fit_expr.Sorts.{Unsigned, casts}

@@ -27,16 +27,16 @@ use Rattle.sp_names.specs.declared.sort.Meaning.TheVariants as meaning_is
 use Rattle.sp_names.specs.Declarations.{sort_at}
 use Rattle.sp_names.specs.Names.{path_means}
 use Rattle.sp_typing.specs.Contexts.{Around as Names}
-use Rattle.sp_typing_units.specs.Decorators.{with_current, with_self}
-use Rattle.sp_typing_stmts.specs.Visible.{single_name}
-use Rattle.sp_typing_heads.specs.Parameters.{numbered_maybe, parameter_at, parameter_leaf, or_outside, with_parameters}
+use Rattle.sp_surroundings.specs.Decorators.{with_current, with_self}
+use Rattle.sp_typing.specs.Names.{single_name}
+use Rattle.sp_surroundings.specs.Parameters.{numbered_maybe, parameter_at, parameter_leaf, or_outside, with_parameters}
 use Rattle.std.specs.Prelude.{slice_get}
 use Rattle.sp_method_types.specs.Methods.{base_ten, utf8, replace, left_out_of}
 use Rattle.sp_around.specs.Arounds.{Facts, declared_at, meaning_at, left_out_by, around as module_names}
 use Rattle.sp_list_context.specs.Contexts.{facts, in_module}
-use Rattle.sp_typed_list.specs.Settled.{Answers}
-use Rattle.sp_typed_list.specs.Lists.{typed_of}
-use Rattle.sp_check_unit.specs.Rules.{Breaks}
+use Rattle.sp_checked_list.specs.Settled.{Answers}
+use Rattle.sp_checked_list.specs.Lists.{typed_of}
+use Rattle.sp_checked_list.specs.Rules.{Breaks}
 use Rattle.sp_list_laws.specs.known_types.Given.{is_member_op}
 use Rattle.sp_list_laws.proofs.known_types_lemmas.Full.{never}
 use Rattle.sp_list_laws.specs.known_literals.Widened.{is_widen, widens_value, AreWidened}

@@ -14,7 +14,8 @@ use Rattle.sp_typed_units.specs.declared.declarations.Parameter.{Parameter}
 use Rattle.sp_typed_units.specs.declared.declarations.Typed.{Typed}
 use Rattle.sp_typing.specs.Contexts.{Around}
 use Rattle.sp_typing_heads.specs.Events.{is_of_elements}
-use Rattle.sp_typing_hooks.specs.Hooks.{seen_by, unit_of, parameters_of, site_of, hook_in, typed_hooks}
+use Rattle.sp_typing_hooks.specs.Hooks.{seen_by, parameters_of, site_of, hook_in, typed_hooks}
+use Rattle.sp_typed_units.specs.Hooks.{unit_of}
 use Rattle.sp_hook_order.specs.declared.keys.HookKey.{HookKey}
 use Rattle.sp_hook_order.specs.declared.keys.HookKey.TheVariants as key_is
 use Rattle.sp_hook_order.specs.Order.{run_order}

@@ -30,9 +30,9 @@ use Rattle.sp_typing.specs.declared.context.Member.{Member}
 use Rattle.sp_typed.specs.declared.words.LeafOp.{LeafOp}
 use Rattle.sp_typed.specs.declared.words.NewOf.{NewOf}
 use Rattle.sp_typing.specs.Typing.{typed, name_of, member_at, set_member_at, part_at, item_of, item_at, index_at, callee_op, call_by, call_at, started, new_by}
-use Rattle.sp_typing_units.specs.Decorators.{with_self}
-use Rattle.sp_typing_stmts.specs.Visible.{single_name}
-use Rattle.sp_typing_heads.specs.Parameters.{numbered_maybe, parameter_at, parameter_leaf, or_outside, with_parameters}
+use Rattle.sp_surroundings.specs.Decorators.{with_self}
+use Rattle.sp_typing.specs.Names.{single_name}
+use Rattle.sp_surroundings.specs.Parameters.{numbered_maybe, parameter_at, parameter_leaf, or_outside, with_parameters}
 use Rattle.sp_method_types.specs.Methods.{base_ten, utf8, replace, left_out_of}
 use Rattle.sp_around.specs.Arounds.{Facts, declared_at, meaning_at, left_out_by, around as module_names}
 use Rattle.sp_list_laws.specs.made_nodes.Makes.{Makes}

@@ -15,7 +15,7 @@ use Rattle.sp_typed_units.specs.declared.items.Field.{Field}
 use Rattle.sp_typed_units.specs.Parts.{Part, field}
 use Rattle.sp_typing.specs.Contexts.{Around}
 use Rattle.sp_typing_units.specs.Values.{Values}
-use Rattle.sp_typing_units.specs.Attributes.{present}
+use Rattle.sp_ast.specs.Views.{present}
 use Rattle.sp_typing_units.specs.Readings.{counted_read}
 use Rattle.sp_typing_units.specs.Parts.{Fields, field_place, field_of, field_in}
 use Rattle.sp_typing_units.specs.Fields.{field_type}

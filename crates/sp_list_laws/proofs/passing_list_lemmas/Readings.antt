@@ -24,7 +24,8 @@ use Rattle.sp_typing_units.specs.declared.readings.Read.{Read}
 use Rattle.sp_typing_units.specs.Values.{Values}
 use Rattle.sp_typing_units.specs.Roles.{role_of}
 use Rattle.sp_typing.specs.Typing.{typed_all}
-use Rattle.sp_typing_units.specs.Attributes.{present, attribute_by, attributes, if_convert, conversion_of, or_next, conversion, converted}
+use Rattle.sp_typing_units.specs.Attributes.{attribute_by, attributes, if_convert, conversion_of, or_next, conversion, converted}
+use Rattle.sp_ast.specs.Views.{present}
 use Rattle.sp_typing_units.specs.Readings.{word_read, constant_read, constant_of_type, named_op, named_read, unknown_read, type_read, called_word, called_op, called, container, contained, base_read, counted_read}
 use Rattle.sp_unbuilt.specs.Fields.{reads_integer}
 use Rattle.sp_unbuilt.specs.Constructs.{is_late_attribute}

@@ -31,12 +31,12 @@ use Rattle.sp_names.specs.declared.sort.DeclSort.TheVariants as sort_is
 use Rattle.sp_names.specs.Declarations.{all_of, type_tree_of, declaration_at}
 use Rattle.sp_names.specs.Names.{declaration_of}
 use Rattle.sp_around.specs.Members.{unit_in}
-use Rattle.sp_typing_heads.specs.Parameters.{parameters_in}
+use Rattle.sp_surroundings.specs.Parameters.{parameters_in}
 use Rattle.sp_list_context.specs.Contexts.{in_module, parameter_trees as context_trees, parameters_of as unit_parameters_of, all_parameters_of, all_parameters}
 use Rattle.sp_typing_hooks.specs.Hooks.{or_none, parameters_of}
 use Rattle.sp_unit_rows.specs.UnitRows.{parameter_trees as row_trees}
-use Rattle.sp_typed_list.specs.Settled.{Answers}
-use Rattle.sp_typed_list.specs.Lists.{typed_of}
+use Rattle.sp_checked_list.specs.Settled.{Answers}
+use Rattle.sp_checked_list.specs.Lists.{typed_of}
 use Rattle.sp_list_laws.proofs.whole_list_lemmas.Modules.{none_found}
 use Rattle.sp_list_laws.specs.fit_expr.Lists.{is_type}
 use Rattle.sp_list_laws.proofs.passing_list_lemmas.Members.{round_of, unit_found}

@@ -32,10 +32,10 @@ use Rattle.sp_declared_values.specs.Answers.{values}
 use Rattle.sp_list_context.specs.Contexts.{in_modules, in_units, all_parameters}
 use Rattle.sp_unit_rows.specs.UnitRows.{inside_unit}
 use Rattle.sp_unbuilt.specs.Fields.{kinds_in_units}
-use Rattle.sp_typed_list.specs.Rows.{ranks}
-use Rattle.sp_typed_list.specs.Settled.{Answers}
-use Rattle.sp_typed_list.specs.Lists.{typed_of}
-use Rattle.sp_check_unit.specs.Rules.{Breaks}
+use Rattle.sp_list_rows.specs.FunctionsAndOrders.{ranks}
+use Rattle.sp_checked_list.specs.Settled.{Answers}
+use Rattle.sp_checked_list.specs.Lists.{typed_of}
+use Rattle.sp_checked_list.specs.Rules.{Breaks}
 use Rattle.sp_bodies.specs.Units.{last_order, module_order}
 use Rattle.sp_list_laws.specs.whole_list.Whole.{is_known_parameter, is_known_member, is_known_variable, is_known_unit, is_known_function}
 use Rattle.sp_list_laws.proofs.whole_list_lemmas.None.{none_parts}

@@ -17,9 +17,9 @@ use Rattle.sp_hook_rows.specs.declared.rows.HookRow.{HookRow}
 use Rattle.sp_hook_rows.specs.Sites.{sites}
 use Rattle.sp_hook_rows.specs.HookRows.{hook_rows}
 use Rattle.sp_list_context.specs.Contexts.{homes_of}
-use Rattle.sp_typed_list.specs.Settled.{Answers}
-use Rattle.sp_typed_list.specs.Lists.{hooks_in, units_from, typed_of}
-use Rattle.sp_check_unit.specs.Rules.{Breaks}
+use Rattle.sp_checked_list.specs.Settled.{Answers}
+use Rattle.sp_checked_list.specs.Lists.{hooks_in, units_from, typed_of}
+use Rattle.sp_checked_list.specs.Rules.{Breaks}
 use Rattle.sp_list_laws.proofs.whole_list_lemmas.Modules.{none_found, some_found}
 use Rattle.sp_list_laws.proofs.known_constants_lemmas.Declarations.{at_all}
 use Rattle.sp_list_laws.proofs.known_members_lemmas.Shapes.{is_unit_sort}

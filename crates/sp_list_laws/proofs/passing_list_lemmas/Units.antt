@@ -13,7 +13,8 @@ use Rattle.sp_typed_units.specs.declared.declarations.Member.{Member}
 use Rattle.sp_typed_units.specs.declared.declarations.Variable.{Variable}
 use Rattle.sp_typing.specs.Contexts.{Around as Names}
 use Rattle.sp_typing.specs.Typing.{typed, to_target}
-use Rattle.sp_typing_units.specs.Attributes.{present, maybe_typed}
+use Rattle.sp_typing_units.specs.Attributes.{maybe_typed}
+use Rattle.sp_ast.specs.Views.{present}
 use Rattle.sp_typing_units.specs.Parts.{Fields}
 use Rattle.sp_unit_rows.specs.Items.{brought, variable_in, variables_in}
 use Rattle.sp_list_rules.specs.Lists.{all_tests, option_tests}

@@ -20,7 +20,8 @@ use Rattle.sp_typed_units.specs.Parts.{Part, Parts, field, choice, no_parts, mor
 use Rattle.sp_typing.specs.Contexts.{Around}
 use Rattle.sp_typing.specs.Typing.{name_of, typed, to_target}
 use Rattle.sp_typing_units.specs.Values.{Values}
-use Rattle.sp_typing_units.specs.Attributes.{present, maybe_typed}
+use Rattle.sp_typing_units.specs.Attributes.{maybe_typed}
+use Rattle.sp_ast.specs.Views.{present}
 use Rattle.sp_typing_units.specs.Readings.{counted_read}
 use Rattle.sp_typing_units.specs.Parts.{Fields, field_of, field_in, part_of}
 use Rattle.sp_around.specs.Members.{unit_items}

@@ -18,9 +18,9 @@ use Rattle.sp_names.specs.Types.{or_unknown}
 use Rattle.sp_hook_rows.specs.declared.rows.HookRow.{HookRow}
 use Rattle.sp_hook_rows.specs.HookRows.{hook_rows}
 use Rattle.sp_typing_heads.specs.Events.{is_of_elements}
-use Rattle.sp_typed_list.specs.Settled.{Answers}
-use Rattle.sp_typed_list.specs.Lists.{typed_of}
-use Rattle.sp_check_unit.specs.Rules.{Breaks}
+use Rattle.sp_checked_list.specs.Settled.{Answers}
+use Rattle.sp_checked_list.specs.Lists.{typed_of}
+use Rattle.sp_checked_list.specs.Rules.{Breaks}
 use Rattle.sp_unbuilt.specs.Fields.{kinds_in_units}
 use Rattle.sp_unbuilt.specs.Unbuilt.{Texts, tests_from, unbuilt_tests, first_unbuilt}
 use Rattle.sp_bodies.specs.Globals.{globals_of}

@@ -23,16 +23,16 @@ use Rattle.sp_names.specs.declared.sort.DeclSort.TheVariants as sort_is
 use Rattle.sp_names.specs.Declarations.{rows, all_from, all_of, is_sort, sort_number, sort_of, declaration_at, module_name, module_at}
 use Rattle.sp_around.specs.Arounds.{stored_by, member_of}
 use Rattle.sp_typing_heads.specs.Functions.{function_of}
-use Rattle.sp_typing_heads.specs.Parameters.{with_parameters}
+use Rattle.sp_surroundings.specs.Parameters.{with_parameters}
 use Rattle.sp_list_rules.specs.Told.{known_in, values_of}
 use Rattle.sp_list_rules.specs.Names.{function_names, stmt_names}
 use Rattle.sp_list_rules.specs.Bodies.{function_tests}
 use Rattle.sp_declared_values.specs.Answers.{number_of}
 use Rattle.sp_list_context.specs.Contexts.{facts, in_module}
-use Rattle.sp_typed_list.specs.Settled.{Answers}
-use Rattle.sp_typed_list.specs.Lists.{typed_of}
-use Rattle.sp_typed_list.specs.Rows.{declared_function, functions_of}
-use Rattle.sp_check_unit.specs.Rules.{Breaks}
+use Rattle.sp_checked_list.specs.Settled.{Answers}
+use Rattle.sp_checked_list.specs.Lists.{typed_of}
+use Rattle.sp_list_rows.specs.FunctionsAndOrders.{declared_function, functions_of}
+use Rattle.sp_checked_list.specs.Rules.{Breaks}
 use Rattle.sp_list_laws.specs.known_types.Full.{is_full}
 use Rattle.sp_list_laws.specs.known_types.Clear.{none_hold, any_op}
 use Rattle.sp_list_laws.specs.known_types.Given.{IsKnown}

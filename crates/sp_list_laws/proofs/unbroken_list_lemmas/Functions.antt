@@ -26,7 +26,7 @@ use Rattle.sp_around.specs.declared.written.Place.TheVariants as place_is
 use Rattle.sp_typing.specs.Contexts.{Around}
 use Rattle.sp_typing_stmts.specs.Statements.{written_type, written_of}
 use Rattle.sp_typing_heads.specs.Functions.{or_void, function_of}
-use Rattle.sp_typing_heads.specs.Parameters.{parameters_in}
+use Rattle.sp_surroundings.specs.Parameters.{parameters_in}
 use Rattle.sp_body_rules.specs.Values.{written_tests}
 use Rattle.sp_list_rules.specs.Lists.{all_tests, option_tests}
 use Rattle.sp_list_rules.specs.Bodies.{parameter_tests, plain_tests, wanted_of, given_tests, function_tests}
@@ -34,7 +34,7 @@ use Rattle.sp_typed_units.specs.declared.declarations.Typed.{Typed}
 use Rattle.sp_constants.specs.Known.{Known as Values}
 use Rattle.sp_declared_values.specs.declared.answer.Answer.{Answer}
 use Rattle.sp_list_context.specs.Contexts.{in_module}
-use Rattle.sp_typed_list.specs.Rows.{declared_function, functions_of}
+use Rattle.sp_list_rows.specs.FunctionsAndOrders.{declared_function, functions_of}
 use Rattle.sp_list_laws.specs.known_types.Full.{is_full}
 use Rattle.sp_list_laws.specs.known_types.Clear.{none_hold}
 use Rattle.sp_list_laws.proofs.known_types_lemmas.Full.{never}

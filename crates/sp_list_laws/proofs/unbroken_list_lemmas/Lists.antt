@@ -13,9 +13,9 @@ use Rattle.sp_names.specs.Names.{declaration_of}
 use Rattle.sp_around.specs.Heads.{function_gives, result_of}
 use Rattle.sp_list_rules.specs.Told.{values_of}
 use Rattle.sp_list_rules.specs.Bodies.{function_tests}
-use Rattle.sp_typed_list.specs.Settled.{Answers}
-use Rattle.sp_typed_list.specs.Lists.{typed_of}
-use Rattle.sp_check_unit.specs.Rules.{Breaks}
+use Rattle.sp_checked_list.specs.Settled.{Answers}
+use Rattle.sp_checked_list.specs.Lists.{typed_of}
+use Rattle.sp_checked_list.specs.Rules.{Breaks}
 use Rattle.sp_list_laws.specs.known_types.Full.{is_full}
 use Rattle.sp_list_laws.proofs.known_types_lemmas.Full.{never}
 use Rattle.sp_list_laws.specs.whole_list.Known.{HasType}

@@ -28,7 +28,8 @@ use Rattle.sp_around.specs.Arounds.{stored_by, declared_at, meaning_at}
 use Rattle.sp_operands.specs.Literals.{is_past}
 use Rattle.sp_body_rules.specs.Known.{Known}
 use Rattle.sp_rules.specs.declared.rule.Rule.TheVariants as rule_is
-use Rattle.sp_body_rules.specs.Values.{at, is_no_value, wrong, right_tests}
+use Rattle.sp_body_rules.specs.Values.{is_no_value, wrong, right_tests}
+use Rattle.sp_rules.specs.Faults.{at}
 use Rattle.sp_body_rules.specs.ExprTests.{is_not_constant}
 use Rattle.sp_list_rules.specs.Lists.{all_tests}
 use Rattle.sp_list_rules.specs.Told.{values_of}
@@ -36,10 +37,10 @@ use Rattle.sp_list_rules.specs.Names.{order_names}
 use Rattle.sp_list_rules.specs.Bodies.{inside_tests, is_enum_of, order_tests}
 use Rattle.sp_declared_values.specs.Answers.{constant_type, number_of, values}
 use Rattle.sp_list_context.specs.Contexts.{facts, in_module}
-use Rattle.sp_typed_list.specs.Settled.{Answers}
-use Rattle.sp_typed_list.specs.Lists.{typed_of}
-use Rattle.sp_typed_list.specs.Rows.{order_of, declared_order, orders_among}
-use Rattle.sp_check_unit.specs.Rules.{Breaks}
+use Rattle.sp_checked_list.specs.Settled.{Answers}
+use Rattle.sp_checked_list.specs.Lists.{typed_of}
+use Rattle.sp_list_rows.specs.FunctionsAndOrders.{order_of, declared_order, orders_among}
+use Rattle.sp_checked_list.specs.Rules.{Breaks}
 use Rattle.sp_list_laws.specs.known_types.Clear.{none_hold, may_stand}
 use Rattle.sp_list_laws.specs.known_types.Given.{IsKnown}
 use Rattle.sp_list_laws.proofs.known_types_lemmas.Tests.{value_of, whole_of}

@@ -16,10 +16,10 @@ use Rattle.sp_unit_rules.specs.Units.{all_tests as all_unit_tests}
 use Rattle.sp_hook_rows.specs.Sites.{sites}
 use Rattle.sp_hook_rows.specs.HookRows.{hook_rows}
 use Rattle.sp_hook_rows.specs.Tests.{containers, hook_tests as hook_row_tests}
-use Rattle.sp_typed_list.specs.Settled.{Answers}
-use Rattle.sp_typed_list.specs.Lists.{typed_of}
-use Rattle.sp_scope.specs.Rules.{name_tests}
-use Rattle.sp_check_unit.specs.Rules.{Breaks, tests, typed_tests, limits_from}
+use Rattle.sp_checked_list.specs.Settled.{Answers}
+use Rattle.sp_checked_list.specs.Lists.{typed_of}
+use Rattle.sp_checked_list.specs.NameRules.{name_tests}
+use Rattle.sp_checked_list.specs.Rules.{Breaks, tests, typed_tests, limits_from}
 use Rattle.sp_list_laws.specs.known_types.Clear.{none_hold}
 use Rattle.sp_list_laws.proofs.whole_list_lemmas.None.{none_parts}
 use Rattle.sp_list_laws.specs.known_constants.Given.{asked}

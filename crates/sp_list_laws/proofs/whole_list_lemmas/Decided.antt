@@ -13,8 +13,9 @@ use Rattle.sp_operands.specs.Operands.{is_unsigned}
 use Rattle.sp_typing.specs.Contexts.{Around}
 use Rattle.sp_typing.specs.Typing.{typed}
 use Rattle.sp_typing_stmts.specs.Scopes.{Local}
-use Rattle.sp_typing_stmts.specs.Visible.{single_name, found_maybe, local_or, with_locals}
-use Rattle.sp_typing_heads.specs.Parameters.{numbered_maybe, parameter_at, parameter_leaf, or_outside, with_parameters}
+use Rattle.sp_typing_stmts.specs.Visible.{found_maybe, local_or, with_locals}
+use Rattle.sp_typing.specs.Names.{single_name}
+use Rattle.sp_surroundings.specs.Parameters.{numbered_maybe, parameter_at, parameter_leaf, or_outside, with_parameters}
 use Rattle.sp_constants.specs.declared.outcome.Outcome.{Outcome}
 use Rattle.sp_constants.specs.declared.outcome.Outcome.TheVariants as outcome_is
 use Rattle.sp_constants.specs.Known.{Known as Values}

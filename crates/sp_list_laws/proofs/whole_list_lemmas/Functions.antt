@@ -14,7 +14,7 @@ use Rattle.sp_typed_units.specs.declared.declarations.Typed.{Typed}
 use Rattle.sp_typing.specs.Contexts.{Around}
 use Rattle.sp_typing_stmts.specs.declared.body.Body.{Body}
 use Rattle.sp_typing_stmts.specs.Statements.{typed_body, written_type, written_of}
-use Rattle.sp_typing_heads.specs.Parameters.{parameter_of, parameters_in, with_parameters}
+use Rattle.sp_surroundings.specs.Parameters.{parameter_of, parameters_in, with_parameters}
 use Rattle.sp_typing_heads.specs.Functions.{or_void, body_giving, function_of}
 use Rattle.sp_constants.specs.Known.{Known as Values}
 use Rattle.sp_body_rules.specs.Known.{Known}

@@ -12,9 +12,9 @@ use Rattle.sp_typed.specs.declared.words.Standing.{Standing}
 use Rattle.sp_typed.specs.Exprs.{Expr}
 use Rattle.sp_typed_units.specs.declared.declarations.Parameter.{Parameter}
 use Rattle.sp_typing.specs.Contexts.{Around}
-use Rattle.sp_typing_stmts.specs.Visible.{single_name}
-use Rattle.sp_typing_units.specs.Decorators.{with_current, with_self}
-use Rattle.sp_typing_heads.specs.Parameters.{numbered_maybe, parameter_at, parameter_leaf, or_outside, with_parameters}
+use Rattle.sp_typing.specs.Names.{single_name}
+use Rattle.sp_surroundings.specs.Decorators.{with_current, with_self}
+use Rattle.sp_surroundings.specs.Parameters.{numbered_maybe, parameter_at, parameter_leaf, or_outside, with_parameters}
 use Rattle.sp_body_rules.specs.Known.{Known}
 use Rattle.sp_body_rules.specs.ExprTests.{is_unmeant}
 use Rattle.sp_list_laws.specs.known_types.Full.{is_full}

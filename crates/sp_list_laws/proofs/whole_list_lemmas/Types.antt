@@ -15,7 +15,8 @@ use Rattle.sp_types.specs.Types as types
 use Rattle.sp_names.specs.declared.sort.Meaning.{Meaning}
 use Rattle.sp_names.specs.declared.sort.Meaning.TheVariants as meaning_is
 use Rattle.sp_names.specs.Names.{path_means, path_names}
-use Rattle.sp_names.specs.Types.{int_word, bitfield_word, bitfield_number, meaning_type, may_hold, whole_type, type_in, types_in, mentions_in, mentions_among}
+use Rattle.sp_names.specs.Types.{bitfield_word, bitfield_number, meaning_type, may_hold, whole_type, type_in, types_in, mentions_in, mentions_among}
+use Rattle.sp_types.specs.Integers.{int_word}
 use Rattle.sp_operands.specs.Operands.{unknown}
 use Rattle.sp_typing.specs.Typing.{or_else}
 use Rattle.sp_around.specs.declared.written.Place.{Place}

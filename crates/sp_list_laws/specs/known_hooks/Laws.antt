@@ -2,8 +2,8 @@
 use Rattle.std.specs.Prelude.{List, IsTrue}
 use Rattle.std.specs.List.{list_all}
 use Rattle.sp_ast.specs.Trees.{Tree}
-use Rattle.sp_typed_list.specs.Settled.{Answers}
-use Rattle.sp_typed_list.specs.Lists.{typed_of}
+use Rattle.sp_checked_list.specs.Settled.{Answers}
+use Rattle.sp_checked_list.specs.Lists.{typed_of}
 use Rattle.sp_list_laws.specs.whole_list.Whole.{is_known_hook, AllKnown}
 use Rattle.sp_list_laws.specs.unbroken_list.Given.{AreFormed, IsUnbroken}
 

@@ -11,11 +11,11 @@ use Rattle.sp_operands.specs.Literals.{is_past}
 use Rattle.sp_typing.specs.declared.context.Member.{Member}
 use Rattle.sp_typing.specs.Contexts.{Around as Names}
 use Rattle.sp_typing.specs.Typing.{typed}
-use Rattle.sp_typing_units.specs.Decorators.{with_current, with_self}
+use Rattle.sp_surroundings.specs.Decorators.{with_current, with_self}
 use Rattle.sp_typing_stmts.specs.Scopes.{Local, Scope}
 use Rattle.sp_typing_stmts.specs.Owners.{kept}
 use Rattle.sp_typing_stmts.specs.Visible.{with_locals}
-use Rattle.sp_typing_heads.specs.Parameters.{with_parameters}
+use Rattle.sp_surroundings.specs.Parameters.{with_parameters}
 use Rattle.sp_around.specs.Heads.{function_gives, function_takes as takes_of}
 use Rattle.sp_around.specs.Arounds.{Facts, member_of, around as module_names}
 use Rattle.sp_body_rules.specs.Known.{Known}

@@ -20,13 +20,13 @@ use Rattle.sp_typed.specs.declared.words.UnitMethod.TheVariants as unit_is
 use Rattle.sp_typed.specs.Exprs.{Expr, Exprs, leaf, one, two, three, many, none, more, exprs, listed, type_of, is_number}
 use Rattle.sp_typed.specs.Nodes.{holds, all_hold}
 use Rattle.sp_typed_units.specs.declared.declarations.Function.{Function}
-use Rattle.sp_operands.specs.Operands.{unknown, is_unsigned, is_integer, is_boolean, is_bytes, is_text, first_type, sort_of, result_type, unary_type}
+use Rattle.sp_operands.specs.Operands.{unknown, is_unsigned, is_integer, is_boolean, is_bytes, is_text, first_type, sort_of, result_type, unary_type, second_type}
 use Rattle.sp_operands.specs.Literals.{seen}
 use Rattle.sp_operands.specs.Wholes.{row_type, map_type}
 use Rattle.sp_typing.specs.declared.context.Member.{Member}
 use Rattle.sp_typing.specs.declared.context.Callable.{Callable}
 use Rattle.sp_typing.specs.Contexts.{Around as Names}
-use Rattle.sp_typing.specs.Typing.{second_type, choice_type}
+use Rattle.sp_typing.specs.Typing.{choice_type}
 use Rattle.sp_method_types.specs.Methods.{method_gives, method_takes, unit_method_gives}
 use Rattle.sp_body_rules.specs.Values.{is_regex}
 use Rattle.sp_body_rules.specs.Known.{Known}

@@ -6,8 +6,8 @@ use Rattle.sp_solver.specs.Told.{told}
 use Rattle.sp_typed_units.specs.declared.declarations.Typed.{Typed}
 use Rattle.sp_list_rules.specs.Told.{known_in, values_of}
 use Rattle.sp_list_context.specs.Contexts.{in_module}
-use Rattle.sp_typed_list.specs.Settled.{Answers}
-use Rattle.sp_typed_list.specs.Lists.{typed_of}
+use Rattle.sp_checked_list.specs.Settled.{Answers}
+use Rattle.sp_checked_list.specs.Lists.{typed_of}
 use Rattle.sp_unbuilt.specs.Unbuilt.{Texts, first_unbuilt}
 use Rattle.sp_list_laws.specs.known_types.Clear.{any_op}
 use Rattle.sp_list_laws.specs.known_types.Given.{IsKnown}

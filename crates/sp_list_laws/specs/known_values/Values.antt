@@ -5,8 +5,7 @@ use Rattle.sp_types.specs.declared.words.Word.TheVariants as word_is
 use Rattle.sp_types.specs.declared.words.Maker.TheVariants as maker_is
 use Rattle.sp_types.specs.Types.{Ty, Tys, word, made}
 use Rattle.sp_types.specs.Types as types
-use Rattle.sp_operands.specs.Operands.{first_type}
-use Rattle.sp_typing.specs.Typing.{second_type}
+use Rattle.sp_operands.specs.Operands.{first_type, second_type}
 use Rattle.sp_constants.specs.declared.outcome.Outcome.{Outcome}
 use Rattle.sp_constants.specs.declared.outcome.Outcome.TheVariants as outcome_is
 

@@ -21,7 +21,8 @@ use Rattle.sp_operands.specs.Operands.{unknown, boolean}
 use Rattle.sp_operands.specs.Literals.{unsigned_literal, can_take, seen}
 use Rattle.sp_typing.specs.declared.context.Callable.{Callable}
 use Rattle.sp_typing.specs.Contexts.{Around}
-use Rattle.sp_typing.specs.Typing.{leaf_at, one_at, int_word, size_type, cast_type, unary_at, joined, chosen, tuple_at, row_at, in_turn, map_of, member_of, set_member_of, indexed, no_call, call_at, method_found, new_at}
+use Rattle.sp_typing.specs.Typing.{leaf_at, one_at, size_type, cast_type, unary_at, joined, chosen, tuple_at, row_at, in_turn, map_of, member_of, set_member_of, indexed, no_call, call_at, method_found, new_at}
+use Rattle.sp_types.specs.Integers.{int_word}
 
 -- The nodes of what is named, and of what stands for arguments that were left out; a literal that takes an integer type; nodes without
 -- parts; and each node round its parts, where it holds of these.

@@ -11,8 +11,8 @@ use Rattle.sp_hook_rows.specs.declared.rows.HookRow.{HookRow}
 use Rattle.sp_hook_rows.specs.HookRows.{hook_rows}
 use Rattle.sp_typing_hooks.specs.Fields.{seen_of}
 use Rattle.sp_typing_hooks.specs.Hooks.{seen_by}
-use Rattle.sp_typed_list.specs.Settled.{Answers}
-use Rattle.sp_typed_list.specs.Lists.{typed_of}
+use Rattle.sp_checked_list.specs.Settled.{Answers}
+use Rattle.sp_checked_list.specs.Lists.{typed_of}
 use Rattle.sp_bodies.specs.Calls.{has_current}
 use Rattle.sp_list_laws.specs.fit_list.Stored.{type_for}
 

@@ -6,8 +6,8 @@ use Rattle.sp_typed_units.specs.declared.declarations.Function.{Function}
 use Rattle.sp_typed_units.specs.declared.declarations.Hook.{Hook}
 use Rattle.sp_typed_units.specs.declared.declarations.Unit.{Unit as TypedUnit}
 use Rattle.sp_unbuilt.specs.Unbuilt.{Texts, first_unbuilt}
-use Rattle.sp_typed_list.specs.Settled.{Answers}
-use Rattle.sp_typed_list.specs.Lists.{typed_of}
+use Rattle.sp_checked_list.specs.Settled.{Answers}
+use Rattle.sp_checked_list.specs.Lists.{typed_of}
 use Rattle.sp_bodies.specs.Globals.{globals_of}
 use Rattle.sp_law_programs.specs.finished_bodies.Built.{StmtIsBuilt}
 use Rattle.sp_emit_stmt.specs.Literals.{StmtLiteralsFit}

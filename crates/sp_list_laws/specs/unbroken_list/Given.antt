@@ -7,7 +7,7 @@ use Rattle.sp_rules.specs.declared.fault.Fault.{Fault}
 use Rattle.sp_types.specs.Types.{Ty}
 use Rattle.sp_typing.specs.declared.context.Member.{Member}
 use Rattle.sp_around.specs.Arounds.{stored_by, member_of}
-use Rattle.sp_check_unit.specs.Rules.{Breaks}
+use Rattle.sp_checked_list.specs.Rules.{Breaks}
 use Rattle.sp_list_laws.specs.known_types.Full.{is_full}
 
 abbrev pub AreFormed : List Tree → Type 0

@@ -8,8 +8,8 @@ use Rattle.sp_names.specs.Declarations.{sort_at, number_at}
 use Rattle.sp_around.specs.Heads.{function_gives}
 use Rattle.sp_list_rules.specs.Told.{known_in, values_of}
 use Rattle.sp_list_context.specs.Contexts.{in_module}
-use Rattle.sp_typed_list.specs.Settled.{Answers}
-use Rattle.sp_typed_list.specs.Lists.{typed_of}
+use Rattle.sp_checked_list.specs.Settled.{Answers}
+use Rattle.sp_checked_list.specs.Lists.{typed_of}
 use Rattle.sp_list_laws.specs.known_types.Full.{is_full}
 use Rattle.sp_list_laws.specs.known_types.Clear.{any_op}
 use Rattle.sp_list_laws.specs.known_types.Given.{IsKnown}

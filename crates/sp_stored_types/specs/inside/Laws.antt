@@ -25,8 +25,9 @@ use Rattle.sp_operands.specs.Literals.{seen}
 use Rattle.sp_typing.specs.Typing.{typed, typed_all}
 use Rattle.sp_typing_units.specs.declared.readings.Read.{Read}
 use Rattle.sp_typing_units.specs.Values.{Values}
-use Rattle.sp_typing_units.specs.Decorators.{meant, with_current, with_self}
-use Rattle.sp_typing_units.specs.Attributes.{present, conversion, converted}
+use Rattle.sp_surroundings.specs.Decorators.{meant, with_current, with_self}
+use Rattle.sp_typing_units.specs.Attributes.{conversion, converted}
+use Rattle.sp_ast.specs.Views.{present}
 use Rattle.sp_typing_units.specs.Readings.{type_read, unknown_read, called, called_op, called_word, container, contained, vector_of, base_read, counted_read}
 use Rattle.sp_solver.specs.declared.attempt.Attempt.{Attempt}
 use Rattle.sp_solver.specs.declared.attempt.Attempt.TheVariants.{Done, Waits}

@@ -1,15 +1,10 @@
 -- What is named in a unit joins a table one by one: each whose name none before it has.
-use Rattle.std.specs.Prelude.{ℕ, ◌≡◌, if◌then◌else◌, is_some, List, [], ◌∷◌, ◌++◌, Option}
-use Rattle.indexmap.specs.IndexMap.{get_by_text}
-use Rattle.sp_stored_types.specs.declared.names.NameTable.{NameTable}
+use Rattle.std.specs.Prelude.{ℕ, ◌≡◌, if◌then◌else◌, is_some, List, [], ◌∷◌, ◌++◌}
+use Rattle.sp_name_tables.specs.Tables.{told_by}
 use Rattle.sp_stored_types.specs.declared.tables.SourceTable.{SourceTable}
 use Rattle.sp_ast.specs.Trees.{Tree}
 use Rattle.sp_around.specs.declared.sources.Question.{Question}
 use Rattle.sp_around.specs.Sources.{Named, numbered, sources_of, questions, units, firsts_before}
-
--- what a table tells of a name
-abbrev pub told_by : NameTable → List ℕ → Option ℕ
-told_by table x = get_by_text table.first x
 
 abbrev pub joined : List Named → Named → List Named
 joined held d = if is_some (numbered d.name 0 held) then held else held ++ d ∷ []

@@ -8,7 +8,7 @@ use Rattle.sp_typed_units.specs.declared.declarations.Unit.{Unit}
 use Rattle.sp_typing.specs.Contexts.{Around}
 use Rattle.sp_typing_units.specs.Values.{Values}
 use Rattle.sp_typing_units.specs.Parts.{Fields}
-use Rattle.sp_typing_heads.specs.Functions.{path_of}
+use Rattle.sp_typing.specs.Names.{path_of}
 use Rattle.sp_names.specs.declared.rows.Declaration.{Declaration}
 use Rattle.sp_names.specs.Declarations.{name_of, module_name, module_at}
 use Rattle.sp_around.specs.Members.{members_of, unit_items}

@@ -7,14 +7,14 @@ use Rattle.sp_typed_units.specs.declared.declarations.Member.{Member}
 use Rattle.sp_around.specs.Members.{UnitMember, numbered}
 use Rattle.sp_around.specs.Arounds.{unit_member}
 use Rattle.sp_around.specs.inside.Kept.{joined}
-use Rattle.sp_unit_rows.specs.declared.numbers.Numbers.{Numbers}
+use Rattle.sp_name_tables.specs.declared.tables.NameTable.{NameTable}
 use Rattle.sp_unit_rows.specs.inside.Told.{AreNumbered}
 
-pub record IsJoined (ms : List UnitMember) (m : UnitMember) (table : Numbers) (row : List UnitMember) : Type 0 where
+pub record IsJoined (ms : List UnitMember) (m : UnitMember) (table : NameTable) (row : List UnitMember) : Type 0 where
   pub numbers_are : AreNumbered table row
   pub row_is : row ≡ joined ms m
 
-abbrev pub Joined : Numbers → List UnitMember → UnitMember → Numbers → List UnitMember → Type 0
+abbrev pub Joined : NameTable → List UnitMember → UnitMember → NameTable → List UnitMember → Type 0
 Joined old ms m new row = AreNumbered old ms → IsJoined ms m new row
 
 -- the type of what is found, and a member with the type that is found by its name among others

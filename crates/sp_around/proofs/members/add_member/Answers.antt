@@ -1,5 +1,5 @@
 use Rattle.std.proofs.Common.{◌≡◌, ◌∙◌, ap, sym, false, is_some, length, arith}
-use Rattle.sp_around.specs.inside.Kept.{told_by}
+use Rattle.sp_name_tables.specs.Tables.{told_by}
 use Rattle.sp_around.proofs.Joining.{bytes_decide, joins_new}
 use Rattle.sp_around.proofs.members.add_member.Goals as goal
 

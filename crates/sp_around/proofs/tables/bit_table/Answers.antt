@@ -4,7 +4,7 @@ use Rattle.sp_ast.specs.TypeViews.{type_tree}
 use Rattle.sp_names.specs.Tables.{IsTable}
 use Rattle.sp_names.proofs.Lists.{list_of_trees}
 use Rattle.sp_around.specs.Members.{range_name, bitfield_ranges}
-use Rattle.sp_around.specs.inside.Kept.{told_by}
+use Rattle.sp_name_tables.specs.Tables.{told_by}
 use Rattle.sp_around.proofs.tables.bit_table.Goals as goal
 
 pub returns-in_ok-range_table-in-Bitfield-clause-ranges : goal.returns-in_ok-range_table-in-Bitfield-clause-ranges

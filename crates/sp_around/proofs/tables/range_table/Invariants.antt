@@ -1,6 +1,6 @@
 use Rattle.sp_names.specs.Tables.{LeadsTo}
 use Rattle.sp_around.specs.Members.{range_name}
-use Rattle.sp_around.specs.inside.Kept.{told_by}
+use Rattle.sp_name_tables.specs.Tables.{told_by}
 use Rattle.sp_around.proofs.tables.range_table.Given as goal
 
 abbrev pub invariant-loop-range : goal.invariant-loop-range

@@ -1,6 +1,6 @@
 use Rattle.std.proofs.Common.{◌≡◌}
 use Rattle.sp_typed.specs.declared.words.Standing.TheVariants as standing_is
-use Rattle.sp_typing_units.specs.Decorators.{with_self}
+use Rattle.sp_surroundings.specs.Decorators.{with_self}
 use Rattle.sp_list_context.specs.Holds.{seeing_told, unit_told}
 use Rattle.sp_list_context.proofs.Joining.{pushed}
 use Rattle.sp_list_context.proofs.units.add_being.Goals as goal

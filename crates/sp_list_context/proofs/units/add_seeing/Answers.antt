@@ -1,5 +1,5 @@
 use Rattle.std.proofs.Common.{◌≡◌, false}
-use Rattle.sp_typing_heads.specs.Parameters.{with_parameters}
+use Rattle.sp_surroundings.specs.Parameters.{with_parameters}
 use Rattle.sp_list_context.specs.Holds.{here_told, seeing_told}
 use Rattle.sp_list_context.proofs.Joining.{pushed}
 use Rattle.sp_list_context.proofs.units.add_seeing.Goals as goal

@@ -1,5 +1,5 @@
 use Rattle.std.proofs.Common.{◌≡◌, IfOk, subst, sym}
-use Rattle.sp_typing_heads.specs.Parameters.{parameters_in}
+use Rattle.sp_surroundings.specs.Parameters.{parameters_in}
 use Rattle.sp_solver.specs.Told.{told}
 use Rattle.sp_list_context.specs.Contexts.{in_module, parameter_trees}
 use Rattle.sp_list_context.proofs.units.declared_parameters.Goals as goal

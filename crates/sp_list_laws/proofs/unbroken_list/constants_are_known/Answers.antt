@@ -2,7 +2,7 @@ use Rattle.sp_list_laws.proofs.known_constants_lemmas.Whole.{all_constants_known
 use Rattle.sp_list_laws.proofs.unbroken_list_lemmas.Lists.{are_unbroken}
 use Rattle.sp_list_laws.proofs.unbroken_list_lemmas.Orders.{all_orders_known}
 use Rattle.sp_solver.specs.Told.{told}
-use Rattle.sp_typed_list.specs.Lists.{typed_of}
+use Rattle.sp_checked_list.specs.Lists.{typed_of}
 use Rattle.sp_list_laws.proofs.unbroken_list.constants_are_known.Goals as goal
 
 pub returns-clause-constants : goal.returns-clause-constants

@@ -1,5 +1,5 @@
 use Rattle.std.specs.Prelude.{false}
-use Rattle.sp_typing_heads.specs.Parameters.{with_parameters}
+use Rattle.sp_surroundings.specs.Parameters.{with_parameters}
 use Rattle.sp_list_laws.specs.known_types.Clear.{any_op}
 use Rattle.sp_list_laws.proofs.whole_list_lemmas.Blind.{known_blind}
 use Rattle.sp_list_laws.proofs.whole_list_lemmas.Decided.{decides, decides_under, parameters_told}

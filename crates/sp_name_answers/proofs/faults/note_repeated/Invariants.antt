@@ -1,7 +1,7 @@
 use Rattle.std.proofs.Common.{◌≡◌, ℕ, List, []}
 use Rattle.sp_ast.specs.Trees.{trees}
 use Rattle.sp_rules.specs.Least.{checked}
-use Rattle.sp_names.specs.Tables.{told_by}
+use Rattle.sp_name_tables.specs.Tables.{told_by}
 use Rattle.sp_names.specs.Faults.{IsSeen, repeated}
 use Rattle.sp_name_answers.proofs.faults.note_repeated.Given as goal
 

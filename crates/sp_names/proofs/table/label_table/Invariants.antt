@@ -1,5 +1,6 @@
 use Rattle.sp_names.specs.Names.{label_name}
-use Rattle.sp_names.specs.Tables.{LeadsTo, told_by}
+use Rattle.sp_names.specs.Tables.{LeadsTo}
+use Rattle.sp_name_tables.specs.Tables.{told_by}
 use Rattle.sp_names.proofs.table.label_table.Given as goal
 
 abbrev pub invariant-loop-label : goal.invariant-loop-label

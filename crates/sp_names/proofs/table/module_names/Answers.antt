@@ -1,6 +1,6 @@
 use Rattle.std.specs.Prelude.{option_copied}
 use Rattle.sp_names.specs.Names.{declared_name, import_name}
-use Rattle.sp_names.specs.Tables.{told_by}
+use Rattle.sp_name_tables.specs.Tables.{told_by}
 use Rattle.sp_names.proofs.Noting.{one_more}
 use Rattle.sp_names.proofs.table.module_names.Goals as goal
 

@@ -1,5 +1,6 @@
 use Rattle.sp_names.specs.Names.{declared_name, import_name}
-use Rattle.sp_names.specs.Tables.{LeadsTo, told_by}
+use Rattle.sp_names.specs.Tables.{LeadsTo}
+use Rattle.sp_name_tables.specs.Tables.{told_by}
 use Rattle.sp_names.proofs.table.module_names.Given as goal
 
 abbrev pub invariant-loop-declaration : goal.invariant-loop-declaration

@@ -1,6 +1,7 @@
 use Rattle.std.proofs.Common.{◌≡◌, drop}
 use Rattle.sp_names.specs.Names.{name_of_module}
-use Rattle.sp_names.specs.Tables.{LeadsTo, told_by}
+use Rattle.sp_names.specs.Tables.{LeadsTo}
+use Rattle.sp_name_tables.specs.Tables.{told_by}
 use Rattle.sp_names.proofs.table.module_table.Given as goal
 
 abbrev pub invariant-loop-i : goal.invariant-loop-i

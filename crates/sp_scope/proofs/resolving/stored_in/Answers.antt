@@ -6,7 +6,7 @@ use Rattle.sp_typing.specs.Contexts.{Around}
 use Rattle.sp_stored_types.specs.Tries.{AreStored}
 use Rattle.sp_list_context.specs.Contexts.{homes, all_parameters, seeing, seeing_parameters}
 use Rattle.sp_list_context.specs.Holds.{here_told, seeing_told}
-use Rattle.sp_typed_list.specs.Settled.{first_contexts, worth}
+use Rattle.sp_checked_list.specs.Settled.{first_contexts, worth}
 use Rattle.sp_scope.proofs.resolving.stored_in.Goals as goal
 
 pub returns : goal.returns

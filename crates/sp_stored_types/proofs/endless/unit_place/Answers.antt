@@ -2,7 +2,7 @@ use Rattle.std.proofs.Common.{length, sym, ap, ◌∙◌}
 use Rattle.sp_types.specs.Types.{word}
 use Rattle.sp_types.specs.declared.words.Word.TheVariants as word_is
 use Rattle.sp_typed.specs.declared.words.Standing.TheVariants as standing_is
-use Rattle.sp_typing_units.specs.Decorators.{with_self}
+use Rattle.sp_surroundings.specs.Decorators.{with_self}
 use Rattle.sp_solver.specs.Told.{told}
 use Rattle.sp_names.proofs.Lookups.{some_at, none_at}
 use Rattle.sp_around.specs.Sources.{questions}

@@ -1,5 +1,5 @@
 use Rattle.std.proofs.Common.{◌≡◌, ◌∙◌, ap, sym, false, is_some, length, arith}
-use Rattle.sp_stored_types.specs.inside.Tables.{told_by}
+use Rattle.sp_name_tables.specs.Tables.{told_by}
 use Rattle.sp_stored_types.proofs.Joining.{bytes_decide, joins_new}
 use Rattle.sp_stored_types.proofs.tables.add_member.Goals as goal
 

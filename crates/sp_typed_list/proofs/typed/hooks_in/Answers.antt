@@ -10,7 +10,7 @@ use Rattle.sp_typing_hooks.specs.Fields.{seen_of}
 use Rattle.sp_typing_hooks.specs.Hooks.{typed_hooks}
 use Rattle.sp_typing_hooks.specs.inside.Tables.{Tells}
 use Rattle.sp_list_context.specs.Contexts.{in_modules, homes, all_parameters, seeing, unit_types, being, in_units}
-use Rattle.sp_typed_list.specs.Rows.{ranks}
+use Rattle.sp_list_rows.specs.FunctionsAndOrders.{ranks}
 use Rattle.sp_typed_list.proofs.typed.hooks_in.Goals as goal
 
 pub returns : goal.returns

@@ -5,7 +5,7 @@ use Rattle.sp_typing.specs.Contexts.{Around}
 use Rattle.sp_typing_hooks.specs.Hooks.{typed_hooks}
 use Rattle.sp_list_context.specs.Contexts.{in_modules}
 use Rattle.sp_list_context.specs.Holds.{here_told}
-use Rattle.sp_typed_list.specs.Rows.{ranks}
+use Rattle.sp_list_rows.specs.FunctionsAndOrders.{ranks}
 use Rattle.sp_typed_list.proofs.typed.hooks_seeing.Goals as goal
 
 pub returns : goal.returns

@@ -8,7 +8,7 @@ use Rattle.sp_hook_order.specs.declared.keys.HookKey.{HookKey}
 use Rattle.sp_hook_rows.specs.HookRows.{keys_of}
 use Rattle.sp_list_context.specs.Contexts.{homes}
 use Rattle.sp_list_context.specs.Holds.{here_told}
-use Rattle.sp_typed_list.specs.Lists.{by_keys, units_from}
+use Rattle.sp_checked_list.specs.Lists.{by_keys, units_from}
 use Rattle.sp_typed_list.specs.inside.Units.{units_by}
 use Rattle.sp_typed_list.proofs.Units.{all_units}
 use Rattle.sp_typed_list.proofs.typed.units_in.Goals as goal

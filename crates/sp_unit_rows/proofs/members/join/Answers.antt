@@ -1,6 +1,6 @@
 use Rattle.std.proofs.Common.{◌≡◌, ◌∙◌, ◌∷◌, ◌++◌, [], ap, sym, false, is_some, length, arith}
 use Rattle.sp_unit_rows.specs.inside.Shown.{shown, shown_one}
-use Rattle.sp_unit_rows.specs.inside.Told.{told_by}
+use Rattle.sp_name_tables.specs.Tables.{told_by}
 use Rattle.sp_unit_rows.proofs.Joining.{shown_more, length_shown, joins_new}
 use Rattle.sp_unit_rows.proofs.members.join.Goals as goal
 

@@ -1,7 +1,7 @@
 use Rattle.std.proofs.Common.{◌≡◌, subst, sym}
 use Rattle.std.specs.Prelude.{IfOk}
 use Rattle.sp_solver.specs.Told.{told}
-use Rattle.sp_typing_heads.specs.Parameters.{parameters_in}
+use Rattle.sp_surroundings.specs.Parameters.{parameters_in}
 use Rattle.sp_unit_rows.specs.UnitRows.{parameter_trees, row_after}
 use Rattle.sp_unit_rows.proofs.unit.declared_row.Goals as goal
 

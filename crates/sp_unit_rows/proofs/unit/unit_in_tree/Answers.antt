@@ -1,7 +1,7 @@
 use Rattle.std.proofs.Common.{◌≡◌, ◌∙◌, ap}
 use Rattle.sp_solver.specs.Told.{told}
-use Rattle.sp_typing_heads.specs.Parameters.{parameters_in}
-use Rattle.sp_typing_heads.specs.Functions.{path_of}
+use Rattle.sp_surroundings.specs.Parameters.{parameters_in}
+use Rattle.sp_typing.specs.Names.{path_of}
 use Rattle.sp_names.specs.Declarations.{name_of, module_name, module_at}
 use Rattle.sp_unit_rows.specs.UnitRows.{type_name, parameter_trees}
 use Rattle.sp_unit_rows.proofs.Bodies.{row_is}

@@ -1,0 +1,4 @@
+pub mod Settled
+pub mod Lists
+pub mod NameRules
+pub mod Rules

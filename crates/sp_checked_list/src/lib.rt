@@ -1,0 +1,2 @@
+//! What is typed of a list of modules, under what is answered of it, and which rules it breaks. Definitions alone.
+#![tactic(auto)]

@@ -1,0 +1,105 @@
+// The functions of a list of modules.
+ghost use Rattle.std.specs.Prelude.{◌≡◌, ◌++◌, Some, option_copied, IfOk, OnOk};
+ghost use Rattle.sp_names.specs.Declarations.{module_name, module_at};
+ghost use Rattle.sp_solver.specs.Told.{told};
+ghost use Rattle.sp_typing_heads.specs.Functions.{function_of};
+ghost use Rattle.sp_list_context.specs.Contexts.{in_module};
+ghost use Rattle.sp_list_rows.specs.FunctionsAndOrders.{declared_function, functions};
+
+use sp_around::Here;
+use sp_base::NoMemory;
+use sp_declared_values::Known;
+use sp_list_context::declared;
+use sp_names::Declaration;
+use sp_typed_units::Function;
+use sp_types::Type;
+use sp_typing::Context;
+use sp_typing_heads::function_of;
+use std::alloc::Global;
+
+/// The name of the module of a number in a list.
+fn owner_name<'k>(known: &'k Known<'_>, number: u32) -> &'k str
+    ensures { result.now ≡ module_name (module_at known.now.row.now.0 number) }
+{
+    known.row.tables().names().module_name(number)
+}
+
+/// The function of a declaration, in what stands round it.
+fn function_in<C: Context>(
+    alloc: Global,
+    context: &C,
+    known: &Known<'_>,
+    found: &Declaration<'_>,
+) -> Result<Function, NoMemory>
+    ensures { IfOk result (λ g. g ≡ function_of (C.around context.now)
+        (module_name (module_at known.now.row.now.0 found.now.«module»)) found.now.«module»
+        found.now.tree) }
+{
+    let owner = owner_name(known, found.module);
+    function_of(alloc, context, owner, found.module, &found.tree)
+}
+
+/// The function of a declaration.
+fn function_at(
+    alloc: Global,
+    known: &Known<'_>,
+    stored: &[Option<Type>],
+    found: &Declaration<'_>,
+) -> Result<Function, NoMemory>
+    ensures { IfOk result (λ g. g ≡ function_of (in_module known.now.row.now.0
+        (told known.now.row.now.1) (told known.now.answers.now) (told stored.now)
+        found.now.«module») (module_name (module_at known.now.row.now.0 found.now.«module»))
+        found.now.«module» found.now.tree) }
+{
+    let here = Here {
+        tables: known.row.tables(),
+        stored,
+        constants: known,
+        owner: found.module,
+    };
+    function_in(alloc, &here, known, found)
+}
+
+/// Adds the function of a declaration.
+fn add_function(
+    alloc: Global,
+    known: &Known<'_>,
+    stored: &[Option<Type>],
+    all: &mut Vec<Function>,
+    declaration: Option<&Declaration<'_>>,
+) -> Result<(), NoMemory>
+    ensures { OnOk result (all.new.items ≡ all.old.items ++ declared_function
+        known.now.row.now.0 (told known.now.row.now.1) (told known.now.answers.now)
+        (told stored.now) (option_copied declaration.entry)) }
+{
+    match declaration {
+        Some(found) => {
+            all.push(function_at(alloc, known, stored, found)?)?;
+            Ok(())
+        }
+        None => Ok(()),
+    }
+}
+
+/// All functions of a list of modules, by their numbers.
+pub fn functions(
+    alloc: Global,
+    known: &Known<'_>,
+    stored: &[Option<Type>],
+) -> Result<Vec<Function>, NoMemory>
+    ensures { IfOk result (λ v. v.items ≡ functions known.now.row.now.0
+        (told known.now.row.now.1) (told known.now.answers.now) (told stored.now)) }
+{
+    let names = known.row.tables().names();
+    let mut all = Vec::new(alloc);
+    for declaration in names.functions() {
+        add_function(
+            alloc,
+            known,
+            stored,
+            &mut all,
+            declared(names, *declaration),
+        )?;
+    }
+    Ok(all)
+}

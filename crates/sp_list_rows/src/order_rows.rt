@@ -1,0 +1,82 @@
+// The byte orders of modules.
+ghost use Rattle.std.specs.Prelude.{◌≡◌, ◌++◌, IfOk, OnOk};
+ghost use Rattle.sp_solver.specs.Told.{told};
+ghost use Rattle.sp_list_rows.specs.FunctionsAndOrders.{order_of, declared_order, orders};
+
+use sp_around::Here;
+use sp_ast::{DeclKind, DeclView, PathKind, Ref};
+use sp_base::{NoMemory, or_drop};
+use sp_declared_values::Known;
+use sp_typed_units::OrderProperty;
+use sp_types::Type;
+use sp_typing::Context;
+use sp_typing_units::Constants;
+use std::alloc::Global;
+
+/// A byte order, by the path behind its `=`.
+fn order_of<C: Context, V: Constants>(
+    alloc: Global,
+    context: &C,
+    constants: &V,
+    module: u32,
+    path: &Ref<'_, PathKind>,
+) -> Result<OrderProperty, NoMemory>
+    ensures { IfOk result (λ o. o ≡ order_of (C.around context.now) (V.values constants.now)
+        «module» path.now) }
+{
+    let value = context.path(alloc, path.span(), path)?;
+    let number = or_drop!(constants.number(alloc, &value); value);
+    Ok(OrderProperty {
+        module,
+        value,
+        number,
+    })
+}
+
+/// Adds the byte order of a module, if a declaration is one.
+fn add_order(
+    alloc: Global,
+    known: &Known<'_>,
+    stored: &[Option<Type>],
+    all: &mut Vec<OrderProperty>,
+    module: u32,
+    tree: &Ref<'_, DeclKind>,
+) -> Result<(), NoMemory>
+    ensures { OnOk result (all.new.items ≡ all.old.items ++ declared_order known.now.row.now.0
+        (told known.now.row.now.1) (told known.now.answers.now) (told stored.now) «module»
+        tree.now) }
+{
+    match tree.view() {
+        DeclView::ByteOrder(path) => {
+            let here = Here {
+                tables: known.row.tables(),
+                stored,
+                constants: known,
+                owner: module,
+            };
+            all.push(order_of(alloc, &here, known, module, &path)?)?;
+            Ok(())
+        }
+        _ => Ok(()),
+    }
+}
+
+/// The byte orders of all modules, in the order of the text.
+pub fn orders(
+    alloc: Global,
+    known: &Known<'_>,
+    stored: &[Option<Type>],
+) -> Result<Vec<OrderProperty>, NoMemory>
+    ensures { IfOk result (λ v. v.items ≡ orders known.now.row.now.0 (told known.now.row.now.1)
+        (told known.now.answers.now) (told stored.now)) }
+{
+    let rows = known.row.tables().names().rows();
+    let mut all = Vec::new(alloc);
+    for row in rows {
+        or_drop!(
+            add_order(alloc, known, stored, &mut all, row.module, &row.tree);
+            all
+        );
+    }
+    Ok(all)
+}

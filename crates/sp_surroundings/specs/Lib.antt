@@ -1,0 +1,3 @@
+pub mod Decorators
+pub mod Parameters
+pub mod inside

@@ -1,7 +1,0 @@
-use Rattle.std.proofs.Common.{◌≡◌, drop}
-use Rattle.sp_typing_heads.specs.inside.Tables.{told_by, LeadsTo}
-use Rattle.sp_typing_heads.proofs.numbers.numbers_of.Given as goal
-
-abbrev pub invariant-loop-i : goal.invariant-loop-i
-invariant-loop-i l =
-    (l.number ≡ l.i) × LeadsTo l.parameters l.number (drop l.i l.parameters) (told_by l.table)
