@@ -2,7 +2,7 @@
 ghost use Rattle.std.specs.Prelude.{◌≡◌, IfOk};
 
 use crate::tree::{Node, Tree};
-use sp_base::{NoMemory, Text};
+use sp_base::{NoMemory, Text, or_drop};
 
 /// An equal tree.
 #[cycle(copy_tree)]
@@ -56,7 +56,9 @@ fn copy_pairs(pairs: &Vec<(Tree, Tree)>) -> Result<Vec<(Tree, Tree)>, NoMemory>
 {
     let mut copies = Vec::new(*pairs.allocator());
     for (key, value) in pairs {
-        copies.push((copy_tree(key)?, copy_tree(value)?))?;
+        let key = copy_tree(key)?;
+        let value = or_drop!(copy_tree(value); key);
+        copies.push((key, value))?;
     }
     Ok(copies)
 }
@@ -67,7 +69,9 @@ fn copy_fields(fields: &Vec<(Text, Tree)>) -> Result<Vec<(Text, Tree)>, NoMemory
 {
     let mut copies = Vec::new(*fields.allocator());
     for (name, tree) in fields {
-        copies.push((name.copy()?, copy_tree(tree)?))?;
+        let name = name.copy()?;
+        let tree = or_drop!(copy_tree(tree); name);
+        copies.push((name, tree))?;
     }
     Ok(copies)
 }
