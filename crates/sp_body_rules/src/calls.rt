@@ -44,7 +44,10 @@ fn arguments_fit<F: Facts>(
             return Ok(false);
         }
     }
-    Ok(facts.target(op, receiver, arguments.len())?.is_none())
+    let more = facts.target(op, receiver, arguments.len())?;
+    let is_last = more.is_none();
+    drop(more);
+    Ok(is_last)
 }
 
 fn connects(op: &ManyOp) -> bool
@@ -215,7 +218,9 @@ pub(crate) fn note_method<F: Facts>(
             let receiver = seen(e)?;
             note_value(owner, e, least);
             note_receiver(facts, owner, op, e, least);
-            note_call(facts, owner, op, span, &receiver, arguments, least)
+            let noted = note_call(facts, owner, op, span, &receiver, arguments, least);
+            drop(receiver);
+            noted
         }
         None => Ok(()),
     }

@@ -1,12 +1,12 @@
 // The rules at one node of an expression.
 ghost use Rattle.std.specs.Prelude.{◌≡◌, ◌&&◌, ◌||◌, not, if◌then◌else◌, OnOk, IfOk};
 ghost use Rattle.sp_rules.specs.Least.{better, checked};
-ghost use Rattle.sp_types.specs.Types.{is_key};
+ghost use Rattle.sp_types.specs.Types.{tys, is_key};
 ghost use Rattle.sp_typed.specs.Exprs.{type_of, span_of, exprs};
-ghost use Rattle.sp_operands.specs.Operands.{is_unsigned, stands_before, stands_behind};
+ghost use Rattle.sp_operands.specs.Operands.{is_unsigned, stands_before, stands_behind, first_type, unknown};
 ghost use Rattle.sp_body_rules.specs.Known.{Known};
 ghost use Rattle.sp_rules.specs.Faults.{at};
-ghost use Rattle.sp_body_rules.specs.ExprTests.{is_unmeant, leaf_tests, negates, takes_no_cast, cast_tests, no_member_tests, one_tests, disagreeing, is_past_key, disagree, operand_tests, is_constant, is_not_constant, item_tests, key_tests, index_tests, two_tests, unlike, choice_tests, many_tests, expr_tests};
+ghost use Rattle.sp_body_rules.specs.ExprTests.{is_unmeant, leaf_tests, negates, takes_no_cast, cast_tests, no_member_tests, one_tests, disagreeing, is_past_key, disagree, operand_tests, is_constant, is_not_constant, item_tests, key_tests, index_tests, two_tests, unlike, choice_tests, call_tests, many_tests, expr_tests};
 
 use crate::calls::{note_call, note_convert, note_method, note_uncalled};
 use crate::facts::{Constancy, Facts};
@@ -175,6 +175,37 @@ fn note_key(owner: u32, to: &Type, index: &Expr, least: &mut Option<Fault>)
     note_at(stays, owner, Rule::TypeMismatch, value_span(index), least);
 }
 
+/// Notes what is wrong with a key of a set or of a map with these parts.
+fn note_key_of(owner: u32, parts: &[Type], index: &Expr, least: &mut Option<Fault>)
+    ensures { least.new
+        ≡ checked least.old (key_tests owner (first_type (tys parts.now)) index.now) }
+{
+    match parts.first() {
+        Some(to) => note_key(owner, to, index, least),
+        None => {
+            let unknown = Type::word(Word::Unknown);
+            note_key(owner, &unknown, index, least);
+            drop(unknown);
+        }
+    }
+}
+
+/// Notes what is wrong with what stands for a member of a tuple.
+fn note_member<F: Facts>(
+    alloc: Global,
+    facts: &F,
+    owner: u32,
+    index: &Expr,
+    least: &mut Option<Fault>,
+) -> Result<(), NoMemory>
+    ensures { OnOk result (least.new ≡ checked least.old
+        (item_tests owner ((F.known facts.now).constancy index.now) index.now)) }
+{
+    let constancy = facts.constancy(alloc, index)?;
+    note_item(owner, constancy, index, least);
+    Ok(())
+}
+
 fn note_index<F: Facts>(
     alloc: Global,
     facts: &F,
@@ -190,18 +221,18 @@ fn note_index<F: Facts>(
     match a.ty().level() {
         Level::Made(Maker::Vector, _) => {
             note_wrong(is_unsigned(index.ty()), owner, index, least);
+            Ok(())
         }
-        Level::Made(Maker::Tuple, _) => {
-            let constancy = facts.constancy(alloc, index)?;
-            note_item(owner, constancy, index, least);
+        Level::Made(Maker::Tuple, _) => note_member(alloc, facts, owner, index, least),
+        Level::Made(Maker::Set | Maker::Map, parts) => {
+            note_key_of(owner, parts, index, least);
+            Ok(())
         }
-        Level::Made(Maker::Set | Maker::Map, parts) => match parts.first() {
-            Some(to) => note_key(owner, to, index, least),
-            None => note_key(owner, &Type::word(Word::Unknown), index, least),
-        },
-        Level::Word(_) => note_wrong(false, owner, a, least),
+        Level::Word(_) => {
+            note_wrong(false, owner, a, least);
+            Ok(())
+        }
     }
-    Ok(())
 }
 
 fn note_two<F: Facts>(
@@ -246,6 +277,24 @@ fn note_choice(owner: u32, c: &Expr, a: &Expr, b: &Expr, least: &mut Option<Faul
     );
 }
 
+/// Notes what is wrong with a call of what has no receiver.
+fn note_plain_call<F: Facts>(
+    facts: &F,
+    owner: u32,
+    op: &ManyOp,
+    span: Span,
+    parts: &[Expr],
+    least: &mut Option<Fault>,
+) -> Result<(), NoMemory>
+    ensures { OnOk result (least.new ≡ checked least.old
+        (call_tests (F.known facts.now) owner op.now span unknown (exprs parts.now))) }
+{
+    let unknown = Type::word(Word::Unknown);
+    let noted = note_call(facts, owner, op, span, &unknown, parts, least);
+    drop(unknown);
+    noted
+}
+
 fn note_many<F: Facts>(
     facts: &F,
     owner: u32,
@@ -256,7 +305,6 @@ fn note_many<F: Facts>(
     ensures { OnOk result (least.new
         ≡ checked least.old (many_tests (F.known facts.now) owner head.now (exprs parts.now))) }
 {
-    let unknown = Type::word(Word::Unknown);
     match &head.op {
         ManyOp::Tuple => {
             note_values(owner, parts, least);
@@ -274,12 +322,12 @@ fn note_many<F: Facts>(
             note_map(owner, head.span, parts, least);
             Ok(())
         }
-        ManyOp::Call(_) => note_call(facts, owner, &head.op, head.span, &unknown, parts, least),
+        ManyOp::Call(_) => note_plain_call(facts, owner, &head.op, head.span, parts, least),
         ManyOp::Convert(_) => {
             note_convert(owner, head.span, parts, least);
             Ok(())
         }
-        ManyOp::New(_, path) => { note_call(facts, owner, &head.op, *path, &unknown, parts, least) }
+        ManyOp::New(_, path) => note_plain_call(facts, owner, &head.op, *path, parts, least),
         ManyOp::Method(..) | ManyOp::OfUnit(..) | ManyOp::OfSink(_) => {
             note_method(facts, owner, &head.op, head.span, parts, least)
         }

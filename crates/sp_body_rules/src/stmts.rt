@@ -255,6 +255,7 @@ fn note_assign<F: Facts>(
         least,
     );
     note_target(owner, &to, value, least);
+    drop(to);
     Ok(())
 }
 
