@@ -1,6 +1,7 @@
 // The typed expression of a tree.
-ghost use Rattle.std.specs.Prelude.{◌≡◌, ◌∷◌, [], false, IfOk, IfSome, IfNone};
+ghost use Rattle.std.specs.Prelude.{◌≡◌, ◌∷◌, [], ◌||◌, false, IfOk, IfSome, IfNone};
 ghost use Rattle.sp_ast.specs.Trees.{trees, tree, in_row, span_of};
+ghost use Rattle.sp_ast.specs.ExprViews.{expr_tree};
 ghost use Rattle.sp_ast.specs.declared.forms.Form.TheVariants as form_is;
 ghost use Rattle.sp_ast.specs.declared.forms.ExprForm.TheVariants as expr_is;
 ghost use Rattle.sp_typing.specs.Contexts.{Around};
@@ -10,6 +11,7 @@ ghost use Rattle.sp_types.specs.declared.words.Word.TheVariants as word_is;
 ghost use Rattle.sp_typed.specs.declared.words.LeafOp.TheVariants as leaf_is;
 ghost use Rattle.sp_typed.specs.declared.words.LeafOp.TheVariants.{Empty};
 ghost use Rattle.sp_typed.specs.declared.words.OneOp.TheVariants.{Cast};
+ghost use Rattle.sp_typing_exprs.specs.Alternatives.{has_list, has_operands};
 ghost use Rattle.sp_typing.specs.Typing.{typed, typed_all, pairs_typed, is_member, leaf_at, one_at, made_of, both_written, cast_type, led, row_at, choice_at, new_at};
 
 use crate::calls::{call_at, indexed, method_at, new_at};
@@ -236,17 +238,17 @@ fn choice_typed<C: Context>(
     choice_at(alloc, span, c, a, b)
 }
 
-/// The typed expression that a tree is, in what stands round it.
-#[cycle(typed)]
-pub fn typed<C: Context>(
+/// The typed expression of an alternative in which no expression stands.
+fn plain_typed<C: Context>(
     alloc: Global,
     context: &C,
-    tree: &Ref<'_, ExprKind>,
+    span: Span,
+    view: ExprView<'_>,
 ) -> Result<Expr, NoMemory>
-    ensures { IfOk result (λ e. e ≡ typed (C.around context.now) tree.now) }
+    requires { has_list view || has_operands view ≡ false }
+    ensures { IfOk result (λ e. e ≡ typed (C.around context.now) (expr_tree span view.entry)) }
 {
-    let span = tree.span();
-    match tree.view() {
+    match view {
         ExprView::Path(path) => context.path(alloc, span, &path),
         ExprView::Itself => context.itself(span),
         ExprView::Current => context.current(span),
@@ -259,19 +261,6 @@ pub fn typed<C: Context>(
         ExprView::String(text) => text_at(alloc, span, text),
         ExprView::Bytes(bytes) => bytes_at(alloc, span, bytes),
         ExprView::Regex(text) => regex_at(alloc, span, text),
-        ExprView::Tuple(members) => tuple_at(alloc, span, typed_all(alloc, context, &members)?),
-        ExprView::Vector(members) => {
-            let list = typed_all(alloc, context, &members)?;
-            led_row(alloc, span, Maker::Vector, ManyOp::Vector, list)
-        }
-        ExprView::Set(members) => {
-            let list = typed_all(alloc, context, &members)?;
-            led_row(alloc, span, Maker::Set, ManyOp::Set, list)
-        }
-        ExprView::Map(pairs) => {
-            let pairs = pairs_typed(alloc, context, &pairs)?;
-            map_at(alloc, span, pairs)
-        }
         ExprView::EmptyVector(element) => empty_row(alloc, context, span, Maker::Vector, &element),
         ExprView::EmptySet(element) => empty_row(alloc, context, span, Maker::Set, &element),
         ExprView::EmptyMap { key, value } => empty_map(alloc, context, span, &key, &value),
@@ -279,23 +268,30 @@ pub fn typed<C: Context>(
             let ty = Type::word(int_word(word));
             Ok(leaf_at(span, ty, LeafOp::TypedNumber(number.value())))
         }
+        _ => unreachable!(),
+    }
+}
+
+/// The typed expression of an alternative in which no list of expressions stands.
+#[cycle(typed)]
+fn operation_typed<C: Context>(
+    alloc: Global,
+    context: &C,
+    span: Span,
+    view: ExprView<'_>,
+) -> Result<Expr, NoMemory>
+    requires { has_list view ≡ false }
+    ensures { IfOk result (λ e. e ≡ typed (C.around context.now) (expr_tree span view.entry)) }
+{
+    match view {
         ExprView::Cast(to, operand) => {
             let operand = typed(alloc, context, &operand)?;
             cast_of(alloc, context, span, &to, operand)
         }
-        ExprView::New(path, arguments) => {
-            let list = typed_all(alloc, context, &arguments)?;
-            new_of(alloc, context, span, &path, list)
-        }
         ExprView::Size(operand) => {
             let operand = typed(alloc, context, &operand)?;
-            one_at(
-                alloc,
-                span,
-                Type::word(Word::Uint(Width::W64)),
-                OneOp::Size,
-                operand,
-            )
+            let ty = Type::word(Word::Uint(Width::W64));
+            one_at(alloc, span, ty, OneOp::Size, operand)
         }
         ExprView::Choice {
             condition,
@@ -314,7 +310,6 @@ pub fn typed<C: Context>(
             let (object, index) = both_typed(alloc, context, &object, &index)?;
             indexed(alloc, context, span, object, index)
         }
-        ExprView::Call(callee, arguments) => call_typed(alloc, context, span, &callee, &arguments),
         ExprView::Unary(op, operand) => {
             let operand = typed(alloc, context, &operand)?;
             unary_at(alloc, span, op, operand)
@@ -323,5 +318,39 @@ pub fn typed<C: Context>(
             let (left, right) = both_typed(alloc, context, &left, &right)?;
             binary_at(alloc, span, op, left, right)
         }
+        view => plain_typed(alloc, context, span, view),
+    }
+}
+
+/// The typed expression that a tree is, in what stands round it.
+#[cycle(typed)]
+pub fn typed<C: Context>(
+    alloc: Global,
+    context: &C,
+    tree: &Ref<'_, ExprKind>,
+) -> Result<Expr, NoMemory>
+    ensures { IfOk result (λ e. e ≡ typed (C.around context.now) tree.now) }
+{
+    let span = tree.span();
+    match tree.view() {
+        ExprView::Tuple(members) => tuple_at(alloc, span, typed_all(alloc, context, &members)?),
+        ExprView::Vector(members) => {
+            let list = typed_all(alloc, context, &members)?;
+            led_row(alloc, span, Maker::Vector, ManyOp::Vector, list)
+        }
+        ExprView::Set(members) => {
+            let list = typed_all(alloc, context, &members)?;
+            led_row(alloc, span, Maker::Set, ManyOp::Set, list)
+        }
+        ExprView::Map(pairs) => {
+            let pairs = pairs_typed(alloc, context, &pairs)?;
+            map_at(alloc, span, pairs)
+        }
+        ExprView::New(path, arguments) => {
+            let list = typed_all(alloc, context, &arguments)?;
+            new_of(alloc, context, span, &path, list)
+        }
+        ExprView::Call(callee, arguments) => call_typed(alloc, context, span, &callee, &arguments),
+        view => operation_typed(alloc, context, span, view),
     }
 }

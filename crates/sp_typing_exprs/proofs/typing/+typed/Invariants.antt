@@ -1,10 +1,14 @@
 use Rattle.std.proofs.Common.{◌≡◌, ◌+◌, ◌*◌, ◌≤◌, ◌++◌}
 use Rattle.sp_ast.specs.Trees.{trees, tree_size, trees_size}
+use Rattle.sp_ast.specs.ExprViews.{expr_tree}
 use Rattle.sp_typing.specs.Typing.{typed_all, pairs_typed}
 use Rattle.sp_typing_exprs.proofs.typing.+typed.Given as goal
 
 abbrev pub decreases-typed : goal.decreases-typed
 decreases-typed g l = 3 * tree_size l.tree.now + 2
+
+abbrev pub decreases-operation_typed : goal.decreases-operation_typed
+decreases-operation_typed g l = 3 * tree_size (expr_tree l.span l.view) + 1
 
 abbrev pub decreases-typed_all : goal.decreases-typed_all
 decreases-typed_all g l = 3 * trees_size (trees l.members.now)
