@@ -53,14 +53,23 @@ fn found(a: &Value, to: PlainType) -> Result<Value, PKind>
     requires { IsTrue (is_cast a.now to) }
     ensures { result ≡ cast a.now to }
 {
-    match (a.level(), to) {
-        (Level::Uint(_, n), PlainType::Uint(width)) => unsigned_as_unsigned(width, n),
-        (Level::Uint(_, n), PlainType::Int(width)) => unsigned_as_signed(width, n),
-        (Level::Uint(_, n), PlainType::Enum(kind)) => Ok(Value::label(kind, n)),
-        (Level::Int(_, n), PlainType::Uint(width)) => signed_as_unsigned(width, n),
-        (Level::Int(_, n), PlainType::Int(width)) => signed_as_signed(width, n),
-        (Level::Int(_, n), PlainType::Enum(kind)) => signed_as_label(kind, n),
-        (Level::Enum(_, n), PlainType::Uint(width)) => unsigned_as_unsigned(width, n),
+    match a.level() {
+        Level::Uint(_, n) => match to {
+            PlainType::Uint(width) => unsigned_as_unsigned(width, n),
+            PlainType::Int(width) => unsigned_as_signed(width, n),
+            PlainType::Enum(kind) => Ok(Value::label(kind, n)),
+            _ => unreachable!(),
+        },
+        Level::Int(_, n) => match to {
+            PlainType::Uint(width) => signed_as_unsigned(width, n),
+            PlainType::Int(width) => signed_as_signed(width, n),
+            PlainType::Enum(kind) => signed_as_label(kind, n),
+            _ => unreachable!(),
+        },
+        Level::Enum(_, n) => match to {
+            PlainType::Uint(width) => unsigned_as_unsigned(width, n),
+            _ => unreachable!(),
+        },
         _ => unreachable!(),
     }
 }

@@ -115,14 +115,12 @@ pub fn has_size(a: &Value) -> bool
 pub fn is_cast(a: &Value, to: &PlainType) -> bool
     ensures { result ≡ is_cast a.now to.now }
 {
-    match (a.level(), *to) {
-        (Level::Uint(_, _), PlainType::Uint(_)) => true,
-        (Level::Uint(_, _), PlainType::Int(_)) => true,
-        (Level::Uint(_, _), PlainType::Enum(_)) => true,
-        (Level::Int(_, _), PlainType::Uint(_)) => true,
-        (Level::Int(_, _), PlainType::Int(_)) => true,
-        (Level::Int(_, _), PlainType::Enum(_)) => true,
-        (Level::Enum(_, _), PlainType::Uint(_)) => true,
+    match a.level() {
+        Level::Uint(_, _) | Level::Int(_, _) => matches!(
+            *to,
+            PlainType::Uint(_) | PlainType::Int(_) | PlainType::Enum(_)
+        ),
+        Level::Enum(_, _) => matches!(*to, PlainType::Uint(_)),
         _ => false,
     }
 }

@@ -8,27 +8,43 @@ ghost use Rattle.sp_operators.specs.Operators.{added, binary, both_hold, either_
 use crate::contains::is_in;
 use crate::fault::{ValueFault, told};
 use crate::integers::{arithmetic, bit_operation, place_behind, shift_by};
-use sp_base::{NoMemory, PKind};
+use sp_base::{NoMemory, PKind, or_drop};
 use sp_numbers::{Arithmetic, BitOperator, Shift};
 use sp_value::{Level, Value, compare};
 use sp_words::BinaryOp;
+
+/// Bytes with more behind them.
+fn more_bytes(mut a: Value, more: &[u8]) -> Result<Value, NoMemory>
+    requires { IsBytes a }
+    ensures { IfOk result (λ value. value ≡ with_bytes a more.now) }
+{
+    or_drop!(a.append_bytes(more); a);
+    Ok(a)
+}
+
+/// A text with more behind it.
+fn more_text(mut a: Value, more: &str) -> Result<Value, NoMemory>
+    requires { IsText a }
+    ensures { IfOk result (λ value. value ≡ with_text a more.now) }
+{
+    or_drop!(a.append_str(more); a);
+    Ok(a)
+}
 
 fn with_bytes(a: &Value, more: &[u8]) -> Result<Value, NoMemory>
     requires { IsBytes a.now }
     ensures { IfOk result (λ value. value ≡ with_bytes a.now more.now) }
 {
-    let mut joined = a.copy()?;
-    joined.append_bytes(more)?;
-    Ok(joined)
+    let copied = a.copy()?;
+    more_bytes(copied, more)
 }
 
 fn with_text(a: &Value, more: &str) -> Result<Value, NoMemory>
     requires { IsText a.now }
     ensures { IfOk result (λ value. value ≡ with_text a.now more.now) }
 {
-    let mut joined = a.copy()?;
-    joined.append_str(more)?;
-    Ok(joined)
+    let copied = a.copy()?;
+    more_text(copied, more)
 }
 
 /// The answer of a call that joins two values.
@@ -47,10 +63,19 @@ fn added(a: &Value, b: &Value) -> Result<Value, ValueFault>
     requires { IsTrue (are_added a.now b.now) }
     ensures { Answers (are_joined a.now b.now) (added a.now b.now) result }
 {
-    match (a.level(), b.level()) {
-        (Level::Bytes(_), Level::Bytes(more)) => joined(with_bytes(a, more)),
-        (Level::Str(_), Level::Str(more)) => joined(with_text(a, more)),
-        (Level::Place(at), Level::Uint(_, count)) => told(place_behind(at, count)),
+    match a.level() {
+        Level::Bytes(_) => match b.level() {
+            Level::Bytes(more) => joined(with_bytes(a, more)),
+            _ => unreachable!(),
+        },
+        Level::Str(_) => match b.level() {
+            Level::Str(more) => joined(with_text(a, more)),
+            _ => unreachable!(),
+        },
+        Level::Place(at) => match b.level() {
+            Level::Uint(_, count) => told(place_behind(at, count)),
+            _ => unreachable!(),
+        },
         _ => told(arithmetic(Arithmetic::Add, a, b)),
     }
 }
@@ -65,16 +90,15 @@ fn are_joined(a: &Value, b: &Value) -> bool
     }
 }
 
-fn appended(mut a: Value, b: &Value) -> Result<Value, NoMemory>
+fn appended(a: Value, b: &Value) -> Result<Value, NoMemory>
     requires { IsTrue (are_joined a b.now) }
     ensures { IfOk result (λ value. added a b.now ≡ Ok value) }
 {
     match b.level() {
-        Level::Bytes(more) => a.append_bytes(more)?,
-        Level::Str(more) => a.append_str(more)?,
+        Level::Bytes(more) => more_bytes(a, more),
+        Level::Str(more) => more_text(a, more),
         _ => unreachable!(),
     }
-    Ok(a)
 }
 
 /// `+` of a left operand that is given away: bytes and texts are appended to it where it stands, if no copy shares it, so
@@ -86,7 +110,9 @@ pub fn add(a: Value, b: &Value) -> Result<Value, ValueFault>
     if are_joined(&a, b) {
         joined(appended(a, b))
     } else {
-        added(&a, b)
+        let sum = added(&a, b);
+        drop(a);
+        sum
     }
 }
 
