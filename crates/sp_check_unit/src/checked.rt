@@ -1,16 +1,19 @@
 // What a list of modules is in which no rule is broken.
-ghost use Rattle.std.specs.Prelude.{◌≡◌, IsTrue, None, drop};
+ghost use Rattle.std.specs.Prelude.{◌≡◌, ◌<◌, IsTrue, Some, None, IfSome, length};
 ghost use Rattle.sp_rules.specs.Least.{IsLeast};
 ghost use Rattle.sp_checked_list.specs.NameRules.{IsTyped};
 ghost use Rattle.sp_unbuilt.specs.First.{IsFirst};
 ghost use Rattle.sp_unbuilt.specs.Places.{IsUnbuilt};
 ghost use Rattle.sp_unbuilt.specs.Unbuilt.{first_unbuilt};
 ghost use Rattle.sp_checked_list.specs.Rules.{Breaks};
-ghost use Rattle.sp_check_unit.specs.Parsers.{have_numbers, takes_nothing, is_parser, is_named, parser_from, first_from, where_none, only_from};
+ghost use Rattle.sp_check_unit.specs.Parsers.{have_numbers};
+ghost use Rattle.sp_choose.specs.Choices.{chosen};
+ghost use Rattle.sp_choose.specs.Laws.{IsChoice};
 
 use sp_ast::Module;
 use sp_base::Diag;
-use sp_typed_units::{Parameter, Typed, Unit};
+use sp_choose::chosen;
+use sp_typed_units::{Typed, Unit};
 use sp_unbuilt::{Texts, unbuilt};
 
 /// A list of modules in which no rule is broken, and what is typed of it.
@@ -30,72 +33,16 @@ pub(crate) fn have_numbers(units: &[Unit]) -> bool
     units.len() <= u32::MAX as usize
 }
 
-fn takes_nothing(parameters: &[Parameter]) -> bool
-    ensures { result ≡ takes_nothing parameters.now }
+/// The number of a unit that stands at a place.
+fn number_at(units: &[Unit], place: Option<usize>) -> Option<u32>
+    requires few { IsTrue (have_numbers units.now) }
+    requires inside { IfSome place (λ n. n < length units.now) }
+    ensures { result ≡ place }
 {
-    parameters.is_empty()
-}
-
-/// A public unit without parameters that is no filter.
-fn is_parser(unit: &Unit) -> bool
-    ensures { result ≡ is_parser unit.now }
-{
-    unit.public && takes_nothing(unit.parameters.as_slice()) && !unit.filter
-}
-
-fn is_named(path: &str, unit: &Unit) -> bool
-    ensures { result ≡ is_named path.now unit.now }
-{
-    is_parser(unit) && unit.path.as_str() == path
-}
-
-/// The number of the first parser from a place on.
-fn first_from(units: &[Unit], from: usize) -> Option<u32>
-    requires { IsTrue (have_numbers units.now) }
-    ensures { result ≡ first_from from (drop from units.now) }
-{
-    for n in from..units.len() {
-        if is_parser(&units[n]) {
-            return Some(n as u32);
-        }
+    match place {
+        Some(n) => Some(n as u32),
+        None => None,
     }
-    None
-}
-
-/// A parser, where there is no other.
-fn where_none(found: Option<u32>, n: u32) -> Option<u32>
-    ensures { result ≡ where_none found n }
-{
-    match found {
-        Some(_) => None,
-        None => Some(n),
-    }
-}
-
-/// The number of the first parser with a name.
-fn named_in(path: &str, units: &[Unit]) -> Option<u32>
-    requires { IsTrue (have_numbers units.now) }
-    ensures { result ≡ parser_from path.now 0 units.now }
-{
-    for n in 0..units.len() {
-        if is_named(path, &units[n]) {
-            return Some(n as u32);
-        }
-    }
-    None
-}
-
-/// The number of the parser, where there is one alone.
-fn only_in(units: &[Unit]) -> Option<u32>
-    requires { IsTrue (have_numbers units.now) }
-    ensures { result ≡ only_from 0 units.now }
-{
-    for n in 0..units.len() {
-        if is_parser(&units[n]) {
-            return where_none(first_from(units, n + 1), n as u32);
-        }
-    }
-    None
 }
 
 impl<'a> Checked<'a> {
@@ -134,15 +81,19 @@ impl<'a> Checked<'a> {
 
     /// The number of the parser of a path, as `M::U`: a public unit without parameters that is no filter. Takes no memory.
     pub fn parser(&self, path: &str) -> Option<u32>
-        ensures { result ≡ parser_from path.now 0 self.now.typed.units }
+        ensures exact { result ≡ chosen (Some path.now) self.now.typed.units }
+        ensures choice { IsChoice (Some path.now) self.now.typed.units result }
     {
-        named_in(path, self.typed.units.as_slice())
+        let units = self.typed.units.as_slice();
+        number_at(units, chosen(Some(path), units))
     }
 
     /// The number of the only parser, where there is exactly one. Takes no memory.
     pub fn only_parser(&self) -> Option<u32>
-        ensures { result ≡ only_from 0 self.now.typed.units }
+        ensures exact { result ≡ chosen None self.now.typed.units }
+        ensures choice { IsChoice None self.now.typed.units result }
     {
-        only_in(self.typed.units.as_slice())
+        let units = self.typed.units.as_slice();
+        number_at(units, chosen(None, units))
     }
 }

@@ -1,7 +1,7 @@
 -- Functions and byte orders of a list of modules, where its constants and labels are answered, and so much is known of the
 -- members of its units.
 use Rattle.std.specs.Prelude.{ℕ, ℤ, List, [], ◌∷◌, ◌++◌, Option, Some, None}
-use Rattle.sp_ast.specs.Trees.{Tree, node, more, span_of}
+use Rattle.sp_ast.specs.Trees.{Tree, node, more}
 use Rattle.sp_ast.specs.declared.forms.Form.TheVariants as form_is
 use Rattle.sp_ast.specs.declared.forms.DeclForm.TheVariants as decl_is
 use Rattle.sp_types.specs.Types.{Ty}
@@ -12,22 +12,17 @@ use Rattle.sp_names.specs.declared.rows.Declaration.{Declaration}
 use Rattle.sp_names.specs.declared.sort.DeclSort.TheVariants as sort_is
 use Rattle.sp_names.specs.Declarations.{rows, all_of, module_name, module_at}
 use Rattle.sp_names.specs.Names.{declaration_of}
-use Rattle.sp_typing.specs.Contexts.{Around}
-use Rattle.sp_typing_units.specs.Values.{Values}
 use Rattle.sp_typing_heads.specs.Functions.{function_of}
 use Rattle.sp_constants.specs.Values.{value_of}
 use Rattle.sp_constants.specs.Places.{signed_of}
 use Rattle.sp_declared_values.specs.declared.answer.Answer.{Answer}
 use Rattle.sp_declared_values.specs.Answers.{known_values, values}
 use Rattle.sp_list_context.specs.Contexts.{in_module}
+use Rattle.sp_typing_units.specs.Orders.{order_of}
 
 -- the priority of a hook, where it is constant and a signed integer
 abbrev pub ranks : List Tree → (ℕ → Option Ty) → (ℕ → Option Answer) → Expr → Option ℤ
 ranks list f known e = signed_of (value_of (known_values list f known) e)
-
--- a byte order, by what is written behind its `=`, where this stands round it
-abbrev pub order_of : Around → Values → ℕ → Tree → OrderProperty
-order_of g v m path = record { «module» = m; value = g.path (span_of path) path; number = v.number (g.path (span_of path) path) }
 
 module _ (list : List Tree) (f : ℕ → Option Ty) (known : ℕ → Option Answer) (stored : ℕ → Option Ty) where
   -- the byte order of a module, if a declaration is one

@@ -1,37 +1,17 @@
 // The byte orders of modules.
 ghost use Rattle.std.specs.Prelude.{◌≡◌, ◌++◌, IfOk, OnOk};
 ghost use Rattle.sp_solver.specs.Told.{told};
-ghost use Rattle.sp_list_rows.specs.FunctionsAndOrders.{order_of, declared_order, orders};
+ghost use Rattle.sp_list_rows.specs.FunctionsAndOrders.{declared_order, orders};
+ghost use Rattle.sp_typing_units.specs.Orders.{order_of};
 
 use sp_around::Here;
-use sp_ast::{DeclKind, DeclView, PathKind, Ref};
+use sp_ast::{DeclKind, DeclView, Ref};
 use sp_base::{NoMemory, or_drop};
 use sp_declared_values::Known;
 use sp_typed_units::OrderProperty;
 use sp_types::Type;
-use sp_typing::Context;
-use sp_typing_units::Constants;
+use sp_typing_units::order_of;
 use std::alloc::Global;
-
-/// A byte order, by the path behind its `=`.
-fn order_of<C: Context, V: Constants>(
-    alloc: Global,
-    context: &C,
-    constants: &V,
-    module: u32,
-    path: &Ref<'_, PathKind>,
-) -> Result<OrderProperty, NoMemory>
-    ensures { IfOk result (λ o. o ≡ order_of (C.around context.now) (V.values constants.now)
-        «module» path.now) }
-{
-    let value = context.path(alloc, path.span(), path)?;
-    let number = or_drop!(constants.number(alloc, &value); value);
-    Ok(OrderProperty {
-        module,
-        value,
-        number,
-    })
-}
 
 /// Adds the byte order of a module, if a declaration is one.
 fn add_order(

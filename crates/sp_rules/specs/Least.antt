@@ -3,13 +3,13 @@ use Rattle.std.specs.Prelude.{ℕ, ◌≡◌, ◌==◌, ◌⊎◌, Bool, false, 
 use Rattle.sp_rules.specs.declared.fault.Fault.{Fault}
 use Rattle.sp_rules.specs.Rules.{rule_group, rule_number}
 
--- whether f comes before g: in their group, and in their order
-abbrev before : Fault → Fault → Bool
-before f g =
+-- whether f comes before g in their group
+abbrev pub is_before : Fault → Fault → Bool
+is_before f g =
     if f.«module» == g.«module» then (if f.span.from == g.span.from then nat_lt (rule_number f.rule) (rule_number g.rule) else nat_lt f.span.from g.span.from) else nat_lt f.«module» g.«module»
 
 abbrev pub precedes : Fault → Fault → Bool
-precedes f g = if rule_group f.rule == rule_group g.rule then before f g else nat_lt (rule_group f.rule) (rule_group g.rule)
+precedes f g = if rule_group f.rule == rule_group g.rule then is_before f g else nat_lt (rule_group f.rule) (rule_group g.rule)
 
 -- the lesser of the least so far and one more
 abbrev pub better : Option Fault → Fault → Option Fault

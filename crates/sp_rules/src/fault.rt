@@ -2,7 +2,7 @@
 ghost use Rattle.std.specs.Prelude.{◌≡◌, if◌then◌else◌};
 ghost use Rattle.sp_rules.specs.Rules.{diag_of, rule_number};
 ghost use Rattle.sp_rules.specs.Faults.{at};
-ghost use Rattle.sp_rules.specs.Least.{precedes, better};
+ghost use Rattle.sp_rules.specs.Least.{is_before, precedes, better};
 
 use crate::rule::Rule;
 use sp_base::{Diag, Span};
@@ -33,16 +33,24 @@ impl Fault {
     {
         let group = self.rule.group().number();
         let other_group = other.rule.group().number();
-        if group != other_group {
-            return group < other_group;
+        if group == other_group {
+            self.is_before(other)
+        } else {
+            group < other_group
         }
+    }
+
+    /// The same of two faults of one group.
+    fn is_before(self, other: Fault) -> bool
+        ensures { result ≡ is_before self other }
+    {
         if self.module != other.module {
-            return self.module < other.module;
+            self.module < other.module
+        } else if self.span.from != other.span.from {
+            self.span.from < other.span.from
+        } else {
+            self.rule.kind().number() < other.rule.kind().number()
         }
-        if self.span.from != other.span.from {
-            return self.span.from < other.span.from;
-        }
-        self.rule.kind().number() < other.rule.kind().number()
     }
 }
 

@@ -4,5 +4,6 @@ pub mod Values
 pub mod Attributes
 pub mod Readings
 pub mod Fields
+pub mod Orders
 pub mod Parts
 pub mod Rows

@@ -15,6 +15,7 @@ use Rattle.sp_typing_units.specs.Values.{Values}
 use Rattle.sp_typing_units.specs.Attributes.{maybe_typed}
 use Rattle.sp_ast.specs.Views.{present}
 use Rattle.sp_typing_units.specs.Parts.{Fields, part_of}
+use Rattle.sp_typing_units.specs.Orders.{order_with}
 
 -- what is written behind `=` goes to the type of the variable
 abbrev pub brought : Ty → Option Expr → Option Expr
@@ -50,10 +51,6 @@ sink_in f _ = []
 abbrev pub sinks_in : Fields → Trees → List Sink
 sinks_in f none = []
 sinks_in f (more t ts) = sink_in f t ++ sinks_in f ts
-
--- `%byte-order = path;` in the module m
-abbrev pub order_with : Values → ℕ → Expr → OrderProperty
-order_with v m e = record { «module» = m; value = e; number = v.number e }
 
 abbrev pub order_in : Around → Values → ℕ → Tree → List OrderProperty
 order_in g v m (node (form_is.Item item_is.ByteOrder) span (more path none)) = order_with v m (g.path (span_of path) path) ∷ []

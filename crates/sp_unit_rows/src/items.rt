@@ -1,8 +1,8 @@
 // What the items of a unit give its row, each in the order of the text.
 ghost use Rattle.std.specs.Prelude.{◌≡◌, ◌++◌, IfOk, OnOk};
-ghost use Rattle.sp_ast.specs.Trees.{trees, span_of};
+ghost use Rattle.sp_ast.specs.Trees.{trees};
 ghost use Rattle.sp_typing_units.specs.Attributes.{maybe_typed};
-ghost use Rattle.sp_unit_rows.specs.Items.{brought, variable_of, variable_in, variables_in, sink_of, sink_in, sinks_in, order_with, order_in, orders_in, part_in, parts_in, is_filter, has_filter};
+ghost use Rattle.sp_unit_rows.specs.Items.{brought, variable_of, variable_in, variables_in, sink_of, sink_in, sinks_in, order_in, orders_in, part_in, parts_in, is_filter, has_filter};
 
 use sp_ast::{
     ExprKind, ItemKind, ItemView, Members, NameKind, PathKind, Ref, TypeKind, is_present,
@@ -13,7 +13,7 @@ use sp_typed_units::{OrderProperty, Part, Sink, Variable};
 use sp_types::Type;
 use sp_typing::Context;
 use sp_typing_exprs::{to_target, typed};
-use sp_typing_units::{Constants, FieldTable, part_of};
+use sp_typing_units::{Constants, FieldTable, order_of, part_of};
 use std::alloc::Global;
 
 /// What is written behind `=`, where something is, goes to a type.
@@ -133,25 +133,6 @@ pub(crate) fn sinks_in<F: FieldTable>(
         add_sink(table, &mut all, &item)?;
     }
     Ok(all)
-}
-
-fn order_of<C: Context, V: Constants>(
-    alloc: Global,
-    context: &C,
-    constants: &V,
-    module: u32,
-    path: &Ref<'_, PathKind>,
-) -> Result<OrderProperty, NoMemory>
-    ensures { IfOk result (λ o. o ≡ order_with (V.values constants.now) «module»
-        ((C.around context.now).path (span_of path.now) path.now)) }
-{
-    let value = context.path(alloc, path.span(), path)?;
-    let number = or_drop!(constants.number(alloc, &value); value);
-    Ok(OrderProperty {
-        module,
-        value,
-        number,
-    })
 }
 
 fn add_order<C: Context, V: Constants>(

@@ -45,7 +45,8 @@ use Rattle.sp_around.specs.Sources.{questions}
 use Rattle.sp_unit_rules.specs.declared.here.Here.{Here}
 use Rattle.sp_unit_rules.specs.Readings.{maybe_tests, exprs_tests}
 use Rattle.sp_unit_rules.specs.Units.{part_tests as part_rules, parts_tests as parts_rules, arms_tests as arms_rules}
-use Rattle.sp_unit_rows.specs.Items.{variable_of, variables_in, order_with, orders_in, parts_in}
+use Rattle.sp_unit_rows.specs.Items.{variable_of, variables_in, orders_in, parts_in}
+use Rattle.sp_typing_units.specs.Orders.{order_with}
 use Rattle.sp_checked_list.specs.Settled.{Answers}
 use Rattle.sp_checked_list.specs.Lists.{typed_of}
 use Rattle.sp_checked_list.specs.Rules.{Breaks}

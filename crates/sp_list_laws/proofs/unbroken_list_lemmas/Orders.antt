@@ -39,7 +39,8 @@ use Rattle.sp_declared_values.specs.Answers.{constant_type, number_of, values}
 use Rattle.sp_list_context.specs.Contexts.{facts, in_module}
 use Rattle.sp_checked_list.specs.Settled.{Answers}
 use Rattle.sp_checked_list.specs.Lists.{typed_of}
-use Rattle.sp_list_rows.specs.FunctionsAndOrders.{order_of, declared_order, orders_among}
+use Rattle.sp_list_rows.specs.FunctionsAndOrders.{declared_order, orders_among}
+use Rattle.sp_typing_units.specs.Orders.{order_of}
 use Rattle.sp_checked_list.specs.Rules.{Breaks}
 use Rattle.sp_list_laws.specs.known_types.Clear.{none_hold, may_stand}
 use Rattle.sp_list_laws.specs.known_types.Given.{IsKnown}

@@ -1,6 +1,0 @@
-use Rattle.std.proofs.Common.{◌≡◌, drop}
-use Rattle.sp_check_unit.specs.Parsers.{only_from}
-use Rattle.sp_check_unit.proofs.checked.only_in.Given as goal
-
-abbrev pub invariant-loop-n : goal.invariant-loop-n
-invariant-loop-n l = only_from l.n (drop l.n l.units) ≡ only_from 0 l.units
