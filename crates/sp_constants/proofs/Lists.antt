@@ -1,12 +1,16 @@
 -- What is left of a row, and what is made of it.
 use Rattle.std.proofs.Common.{ℕ, zero, suc, ◌+◌, ◌≡◌, ◌≤◌, ◌<◌, List, [], ◌∷◌, ◌++◌, append_assoc, length, drop, get_or, refl, sym, ap, subst, ◌∙◌, arith}
+use Rattle.std.proofs.lemmas.List.{at_drop_more}
 use Rattle.sp_value.specs.Val.{Val, set, map}
 use Rattle.sp_value.specs.Changes.{IsSet, IsMap, with_member, with_entry}
 use Rattle.sp_typed.specs.Exprs.{Expr, exprs}
 use Rattle.sp_typed.specs.inside.ExprCodes.{expr_size, exprs_size}
 use Rattle.sp_constants.specs.declared.lack.Lack.{Lack}
 use Rattle.sp_constants.specs.declared.lack.Lack.TheVariants as lack_is
-use Rattle.sp_constants.specs.Outcomes.{worse}
+use Rattle.sp_constants.specs.declared.outcome.Outcome.{Outcome}
+use Rattle.sp_constants.specs.Known.{Known}
+use Rattle.sp_constants.specs.Outcomes.{lack_of, worse, worst, kept, values}
+use Rattle.sp_constants.specs.Values.{value_of, all_values}
 use Rattle.sp_constants.specs.Operations.{with_entries}
 
 pub worse_assoc : (a b c : Lack) → worse (worse a b) c ≡ worse a (worse b c)
@@ -42,6 +46,23 @@ worse_step a b c d e h is = ap (λ x. worse x c) is ∙ worse_assoc a b c ∙ h
 
 pub kept_step : (xs ys zs all new : List Val) → xs ++ (ys ++ zs) ≡ all → new ≡ xs ++ ys → new ++ zs ≡ all
 kept_step xs ys zs all new h is = ap (λ l. l ++ zs) is ∙ append_assoc xs ys zs ∙ h
+
+-- one more part of a row of expressions
+pub next_lack : (k : Known) (es : List Expr) (i : ℕ) (e : Expr) (a b l : Lack) (f o : Outcome) (q : Lack) → i < length es → e ≡ get_or es i e → f ≡ value_of k e → o ≡ f → l ≡ lack_of o → b ≡ worse a l
+    → worse a (worst (all_values k (exprs (drop i es)))) ≡ q → worse b (worst (all_values k (exprs (drop (i + 1) es)))) ≡ q
+next_lack k es i e a b l f o q lt is found out lack new before =
+    let rest = worst (all_values k (exprs (drop (i + 1) es))) in
+    let row : worst (all_values k (exprs (drop i es))) ≡ worse (lack_of (value_of k e)) rest =
+    at_drop_more (λ xs. worst (all_values k (exprs xs))) es i e lt ∙ ap (λ x. worse (lack_of (value_of k x)) rest) (sym is) in
+    worse_step a (lack_of (value_of k e)) rest q b (ap (worse a) (sym row) ∙ before) (new ∙ ap (worse a) (lack ∙ ap lack_of (out ∙ found)))
+
+pub next_values : (k : Known) (es : List Expr) (i : ℕ) (e : Expr) (xs new : List Val) (f o : Outcome) (q : List Val) → i < length es → e ≡ get_or es i e → f ≡ value_of k e → o ≡ f → new ≡ xs ++ kept o
+    → xs ++ values (all_values k (exprs (drop i es))) ≡ q → new ++ values (all_values k (exprs (drop (i + 1) es))) ≡ q
+next_values k es i e xs new f o q lt is found out put before =
+    let rest = values (all_values k (exprs (drop (i + 1) es))) in
+    let row : values (all_values k (exprs (drop i es))) ≡ kept (value_of k e) ++ rest =
+    at_drop_more (λ xs. values (all_values k (exprs xs))) es i e lt ∙ ap (λ x. kept (value_of k x) ++ rest) (sym is) in
+    kept_step xs (kept (value_of k e)) rest q new (ap (λ l. xs ++ l) (sym row) ∙ before) (put ∙ ap (λ x. xs ++ kept x) (out ∙ found))
 
 -- a set and a map stay one
 pub stays_set : (s k : Val) → IsSet s → IsSet (with_member s k)

@@ -1,6 +1,7 @@
 // Tuples, vectors, sets and maps of constants.
-ghost use Rattle.std.specs.Prelude.{◌≡◌, [], IfOk, drop};
+ghost use Rattle.std.specs.Prelude.{◌≡◌, [], IfOk, OnOk, drop};
 ghost use Rattle.sp_value.specs.Val.{set, map, no_vals, no_entries};
+ghost use Rattle.sp_value.specs.Changes.{IsMap, with_entry};
 ghost use Rattle.sp_constants.specs.Outcomes.{made};
 ghost use Rattle.sp_constants.specs.Operations.{with_members, with_entries, row_of, makes_row};
 
@@ -33,6 +34,16 @@ fn set_of(alloc: Global, values: &[Value]) -> Result<Value, NoMemory>
     Ok(all)
 }
 
+/// Puts a key and its value into a map.
+fn put_in(all: &mut Value, key: &Value, value: &Value) -> Result<(), NoMemory>
+    requires { IsMap all.old }
+    ensures { OnOk result (all.new ≡ with_entry all.old key.now value.now) }
+{
+    let key = key.copy()?;
+    let value = or_drop!(value.copy(); key);
+    all.insert(key, value)
+}
+
 /// The map of keys and values in turn, put in one after another.
 #[tactic(auto, using(crate::proofs::Lists::stays_map, crate::proofs::Lists::two_left, crate::proofs::Lists::none_left))]
 fn map_of(alloc: Global, values: &[Value]) -> Result<Value, NoMemory>
@@ -41,7 +52,7 @@ fn map_of(alloc: Global, values: &[Value]) -> Result<Value, NoMemory>
     let mut all = Value::map(Vec::new(alloc))?;
     let mut i = 0;
     while i + 1 < values.len() {
-        all.insert(values[i].copy()?, values[i + 1].copy()?)?;
+        or_drop!(put_in(&mut all, &values[i], &values[i + 1]); all);
         i += 2;
     }
     Ok(all)

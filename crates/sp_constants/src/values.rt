@@ -118,8 +118,9 @@ fn gathered<C: Constants>(
     for part in parts {
         let found = value_of(alloc, constants, part)?;
         lack = lack.worse(found.outcome().lack());
-        extent = extent.beside(found.extent())?;
+        let wider = extent.beside(found.extent());
         keep(&mut values, found.into_outcome())?;
+        extent = wider?;
     }
     Ok(Gathered {
         lack,
