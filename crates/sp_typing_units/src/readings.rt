@@ -1,9 +1,11 @@
 // How fields, elements and groups are read.
-ghost use Rattle.std.specs.Prelude.{◌≡◌, IfOk, map};
-ghost use Rattle.sp_ast.specs.Trees.{trees};
+ghost use Rattle.std.specs.Prelude.{◌≡◌, None, IfOk, map};
+ghost use Rattle.sp_ast.specs.Trees.{trees, span_of};
+ghost use Rattle.sp_typing.specs.Contexts.{Around};
 ghost use Rattle.sp_operands.specs.Operands.{unknown};
-ghost use Rattle.sp_typing.specs.Typing.{to_maybe};
+ghost use Rattle.sp_typing.specs.Typing.{typed_all, to_maybe};
 ghost use Rattle.sp_types.specs.Integers.{int_word};
+ghost use Rattle.sp_typed_units.specs.declared.readings.TokenOp.TheVariants as token_is;
 ghost use Rattle.sp_typed_units.specs.Specs.{list_read, group_read};
 ghost use Rattle.sp_typing_units.specs.Readings.{fine, unnamed, misplaced, simple, broken, decoder, literal, or_empty, constant_read, constant_of_type, named_read, unit_spec, word_read, unknown_read, type_read, arguments, in_vain, with_arguments, called_word, called, vector_of, counting, container, contained, group_of, base_read, counted_read};
 
@@ -187,24 +189,14 @@ fn unit_spec(at: Span, unit: u32, arguments: Vec<Expr>) -> Result<Read, NoMemory
 fn word_read(alloc: Global, at: Span, word: Word) -> Result<Read, NoMemory>
     ensures { IfOk result (λ r. r ≡ word_read at word) }
 {
-    let ty = Type::word(word);
     match word {
-        Word::Uint(_) | Word::Int(_) => simple(at, ty, Kind::Integer, ReadOp::Int),
-        Word::Bitfield(n) => simple(at, ty, Kind::Bitfield, ReadOp::Bits(n)),
-        Word::Bytes => simple(at, ty, Kind::Bytes, ReadOp::Bytes),
-        Word::Void => simple(at, ty, Kind::Void, ReadOp::Void),
-        Word::Unit(n) => {
-            drop(ty);
-            unit_spec(at, n, Vec::new(alloc))
-        }
-        Word::Decoder => {
-            drop(ty);
-            decoder(at)
-        }
-        _ => {
-            drop(ty);
-            broken(at, misplaced(at, at))
-        }
+        Word::Uint(_) | Word::Int(_) => simple(at, Type::word(word), Kind::Integer, ReadOp::Int),
+        Word::Bitfield(n) => simple(at, Type::word(word), Kind::Bitfield, ReadOp::Bits(n)),
+        Word::Bytes => simple(at, Type::word(word), Kind::Bytes, ReadOp::Bytes),
+        Word::Void => simple(at, Type::word(word), Kind::Void, ReadOp::Void),
+        Word::Unit(n) => unit_spec(at, n, Vec::new(alloc)),
+        Word::Decoder => decoder(at),
+        _ => broken(at, misplaced(at, at)),
     }
 }
 
@@ -342,6 +334,38 @@ fn with_arguments(alloc: Global, at: Span, list: Vec<Expr>, called: Read) -> Res
     Ok(Read { spec, ty, kind })
 }
 
+/// What can't be read here, with arguments.
+fn broken_called(alloc: Global, at: Span, wrong: Written, list: Vec<Expr>) -> Result<Read, NoMemory>
+    ensures { IfOk result (λ r. r ≡ with_arguments at list.items (broken at wrong)) }
+{
+    let read = or_drop!(broken(at, wrong); list);
+    with_arguments(alloc, at, list, read)
+}
+
+/// The decoder of the library, with arguments.
+fn decoder_called(alloc: Global, at: Span, list: Vec<Expr>) -> Result<Read, NoMemory>
+    ensures { IfOk result (λ r. r ≡ with_arguments at list.items (decoder at)) }
+{
+    let read = or_drop!(decoder(at); list);
+    with_arguments(alloc, at, list, read)
+}
+
+/// A unit with arguments.
+fn unit_called<C: Context>(
+    alloc: Global,
+    context: &C,
+    at: Span,
+    path: Span,
+    unit: u32,
+    list: Vec<Expr>,
+) -> Result<Read, NoMemory>
+    ensures { IfOk result (λ r. r
+        ≡ unit_spec at unit (arguments (C.around context.now) unit path list.items)) }
+{
+    let list = arguments(alloc, context, unit, path, list)?;
+    unit_spec(at, unit, list)
+}
+
 fn called_word<C: Context>(
     alloc: Global,
     context: &C,
@@ -353,19 +377,10 @@ fn called_word<C: Context>(
     ensures { IfOk result (λ r. r ≡ called_word (C.around context.now) at path word list.items) }
 {
     match word {
-        Word::Unit(n) => unit_spec(at, n, arguments(alloc, context, n, path, list)?),
-        Word::Unknown => {
-            let read = or_drop!(broken(at, fine(at)); list);
-            with_arguments(alloc, at, list, read)
-        }
-        Word::Decoder => {
-            let read = or_drop!(decoder(at); list);
-            with_arguments(alloc, at, list, read)
-        }
-        _ => {
-            let read = or_drop!(broken(at, misplaced(at, path)); list);
-            with_arguments(alloc, at, list, read)
-        }
+        Word::Unit(n) => unit_called(alloc, context, at, path, n, list),
+        Word::Unknown => broken_called(alloc, at, fine(at), list),
+        Word::Decoder => decoder_called(alloc, at, list),
+        _ => broken_called(alloc, at, misplaced(at, path), list),
     }
 }
 
@@ -383,23 +398,11 @@ fn called<C: Context>(
     match callee.level() {
         ExprLevel::Leaf(head) => match &head.op {
             LeafOp::TypeName(word) => called_word(alloc, context, at, path, *word, list),
-            LeafOp::Decoder => {
-                let read = or_drop!(decoder(at); list);
-                with_arguments(alloc, at, list, read)
-            }
-            LeafOp::Nothing(name) => {
-                let read = or_drop!(broken(at, unnamed(at, *name)); list);
-                with_arguments(alloc, at, list, read)
-            }
-            _ => {
-                let read = or_drop!(broken(at, misplaced(at, path)); list);
-                with_arguments(alloc, at, list, read)
-            }
+            LeafOp::Decoder => decoder_called(alloc, at, list),
+            LeafOp::Nothing(name) => broken_called(alloc, at, unnamed(at, *name), list),
+            _ => broken_called(alloc, at, misplaced(at, path), list),
         },
-        _ => {
-            let read = or_drop!(broken(at, misplaced(at, path)); list);
-            with_arguments(alloc, at, list, read)
-        }
+        _ => broken_called(alloc, at, misplaced(at, path), list),
     }
 }
 
@@ -501,6 +504,60 @@ fn group_of<C: Context, V: Constants>(
     })
 }
 
+/// What a path with arguments is read as.
+fn path_called<C: Context>(
+    alloc: Global,
+    context: &C,
+    at: Span,
+    path: &Ref<'_, PathKind>,
+    arguments: &Members<'_, ExprKind>,
+) -> Result<Read, NoMemory>
+    ensures { IfOk result (λ r. r ≡ called (C.around context.now) at (span_of path.now)
+        ((C.around context.now).named (span_of path.now) path.now)
+        (typed_all (C.around context.now) (trees arguments.now))) }
+{
+    let callee = context.named(alloc, path.span(), path)?;
+    let list = or_drop!(typed_all(alloc, context, arguments); callee);
+    let read = called(alloc, context, at, path.span(), &callee, list);
+    drop(callee);
+    read
+}
+
+/// What stands in parentheses, with its counts and its attributes.
+fn group_counted<C: Context, V: Constants>(
+    alloc: Global,
+    context: &C,
+    constants: &V,
+    at: Span,
+    base: Span,
+    counts: &Members<'_, CountKind>,
+    attributes: &Members<'_, AttributeKind>,
+    inner: Read,
+) -> Result<Read, NoMemory>
+    ensures { IfOk result (λ r. r ≡ group_of (C.around context.now) (V.values constants.now) at
+        (trees attributes.now) (contained (C.around context.now) base (trees counts.now)
+        inner)) }
+{
+    let inner = contained(alloc, context, base, counts, inner)?;
+    group_of(alloc, context, constants, at, attributes, inner)
+}
+
+/// Literal bytes that are looked for.
+fn bytes_literal(alloc: Global, at: Span, bytes: &[u8]) -> Result<Read, NoMemory>
+    ensures { IfOk result (λ r. r ≡ literal at (token_is.Bytes bytes.now) None) }
+{
+    let token = TokenOp::Bytes(ByteList::from_slice(alloc, bytes)?);
+    literal(at, token, None)
+}
+
+/// A literal regular expression that is looked for.
+fn regex_literal(alloc: Global, at: Span, text: &str) -> Result<Read, NoMemory>
+    ensures { IfOk result (λ r. r ≡ literal at (token_is.Regex text.now) None) }
+{
+    let token = TokenOp::Regex(Text::new(alloc, text)?);
+    literal(at, token, None)
+}
+
 /// How a base is read, apart from counts behind it.
 #[cycle(base)]
 fn base_read<C: Context, V: Constants>(
@@ -514,47 +571,28 @@ fn base_read<C: Context, V: Constants>(
 {
     let at = base.span();
     match base.view() {
-        BaseView::Type(tree) => {
-            let read = type_read(alloc, context, constants, at, &tree);
-            drop(tree);
-            read
-        }
-        BaseView::Unit { path, arguments } => {
-            let callee = or_drop!(context.named(alloc, path.span(), &path); path, arguments);
-            let list = or_drop!(typed_all(alloc, context, &arguments); path, arguments, callee);
-            drop(arguments);
-            let read = called(alloc, context, at, path.span(), &callee, list);
-            drop(callee);
-            drop(path);
-            read
-        }
+        BaseView::Type(tree) => type_read(alloc, context, constants, at, &tree),
+        BaseView::Unit { path, arguments } => path_called(alloc, context, at, &path, &arguments),
         BaseView::Group {
             base,
             counts,
             attributes,
         } => {
-            let inner = or_drop!(
-                base_read(alloc, context, constants, &base);
-                base,
-                counts,
-                attributes
-            );
-            let inner = contained(alloc, context, base.span(), &counts, inner);
-            drop(base);
-            drop(counts);
-            let inner = or_drop!(inner; attributes);
-            let read = group_of(alloc, context, constants, at, &attributes, inner);
-            drop(attributes);
-            read
+            let inner = base_read(alloc, context, constants, &base)?;
+            let of = base.span();
+            group_counted(
+                alloc,
+                context,
+                constants,
+                at,
+                of,
+                &counts,
+                &attributes,
+                inner,
+            )
         }
-        BaseView::Bytes(bytes) => {
-            let token = TokenOp::Bytes(ByteList::from_slice(alloc, bytes)?);
-            literal(at, token, None)
-        }
-        BaseView::Regex(text) => {
-            let token = TokenOp::Regex(Text::new(alloc, text)?);
-            literal(at, token, None)
-        }
+        BaseView::Bytes(bytes) => bytes_literal(alloc, at, bytes),
+        BaseView::Regex(text) => regex_literal(alloc, at, text),
         BaseView::Number(word, number) => {
             let op = ReadOp::Token(TokenOp::Number(number.value()), None);
             simple(at, Type::word(int_word(word)), Kind::TypedLiteral, op)
