@@ -28,7 +28,7 @@ impl Model for Lines {
 }
 
 /// The line of an event, written into a vector in place of what it holds.
-fn line_in(mut draft: Vec<u8>, flow: &str, event: &Event) -> Result<Vec<u8>, AllocError>
+pub(crate) fn line_in(mut draft: Vec<u8>, flow: &str, event: &Event) -> Result<Vec<u8>, AllocError>
     ensures { IfOk result (λ line. line.items ≡ line_of flow.now event.now) }
 {
     let alloc = *draft.allocator();

@@ -1,5 +1,5 @@
-//! The lines of a run: the JSON of an event, and the report on the bytes of a flow. `line` makes the JSON value of an event first;
-//! `Lines` writes the same text straight into a buffer.
+//! The lines of a run: the JSON of an event, and the report on the bytes of a flow. Events are written token by token, one alone (`line`)
+//! or many into one buffer (`Lines`).
 #![tactic(auto)]
 
 mod buffer;
