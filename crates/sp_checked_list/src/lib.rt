@@ -1,2 +1,9 @@
-//! What is typed of a list of modules, under what is answered of it, and which rules it breaks. Definitions alone.
+//! What is typed of a list of modules under what is answered of it, which rules it breaks, and what a check of it refuses. Its answers
+//! are one.
 #![tactic(auto)]
+
+mod fault;
+mod laws;
+
+pub use fault::CheckFault;
+pub use laws::answers_are_one;

@@ -11,10 +11,10 @@ use crate::sources::refusal_of;
 use sp_ast::Module;
 use sp_base::{Diag, NoMemory, Text};
 use sp_check_unit::check;
+use sp_checked_list::CheckFault;
 use sp_front::read_list;
 use sp_io::Modules;
 use sp_read_file::Unread;
-use sp_scope::CheckFault;
 use sp_typed_units::Typed;
 use std::alloc::Global;
 

@@ -2,11 +2,9 @@
 //! broken.
 #![tactic(auto)]
 
-mod fault;
 mod kept_values;
 mod resolving;
 mod scopes;
 
-pub use fault::CheckFault;
 pub use resolving::{resolve, type_list};
 pub use scopes::Scopes;

@@ -10,14 +10,14 @@ ghost use Rattle.sp_stored_types.specs.Tries.{AreStored};
 ghost use Rattle.sp_checked_list.specs.Lists.{list_in, typed_list};
 ghost use Rattle.sp_checked_list.specs.Settled.{AreValued, first_contexts, worth};
 ghost use Rattle.sp_checked_list.specs.NameRules.{IsTyped, IsAnswered, tests_at, tests_of, BreaksName};
-ghost use Rattle.sp_scope.specs.Refusals.{IsRefused};
+ghost use Rattle.sp_checked_list.specs.Refusals.{IsRefused};
 
-use crate::fault::CheckFault;
 use crate::kept_values::kept;
 use crate::scopes::Scopes;
 use sp_around::Tables;
 use sp_ast::Module;
 use sp_base::{NoMemory, or_drop};
+use sp_checked_list::{CheckFault, answers_are_one};
 use sp_declared_values::{Known, ValueRow, answers};
 use sp_hook_rows::{HookRow, Site, all_sites, hook_rows, note_hooks};
 use sp_list_context::{all_parameters, homes, parameter_tables, seeing_parameters};
@@ -26,7 +26,7 @@ use sp_name_answers::{note_faults, resolve_types};
 use sp_names::Names;
 use sp_rules::{Fault, least_of_checked};
 use sp_stored_types::{MemberRows, stored_types};
-use sp_typed_list::{answers_are_one, typed_list};
+use sp_typed_list::typed_list;
 use sp_typed_units::Typed;
 use sp_types::Type;
 use std::alloc::Global;
@@ -180,7 +180,7 @@ fn type_and_ask(alloc: Global, list: &[Module]) -> Result<(Scopes, Option<Fault>
 /// The typed list of a list of modules, where no rule on names is broken: modules, declarations, labels, ranges of bits,
 /// parameters, locals and members whose name is taken, names that name nothing, and hooks of nothing or with parameters that are
 /// not theirs. Else the least that is broken, by module, place and number. Time and calls are those of `type_list`.
-#[tactic(auto, using(crate::proofs::Refused::refused_at))]
+#[tactic(auto, using(sp_checked_list::proofs::Refused::refused_at))]
 pub fn resolve(alloc: Global, list: &[Module]) -> Result<Scopes, CheckFault>
     ensures resolved { IfOk result (λ s. IsTyped list.now s.typed
         × IsLeast (BreaksName list.now) None) }

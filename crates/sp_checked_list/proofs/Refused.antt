@@ -4,8 +4,8 @@ use Rattle.sp_base.specs.declared.places.Diag.{Diag}
 use Rattle.sp_rules.specs.declared.fault.Fault.{Fault}
 use Rattle.sp_rules.specs.Rules.{diag_of}
 use Rattle.sp_rules.specs.Least.{IsLeast}
-use Rattle.sp_scope.specs.declared.fault.CheckFault.TheVariants as fault_is
-use Rattle.sp_scope.specs.Refusals.{IsRefused}
+use Rattle.sp_checked_list.specs.declared.fault.CheckFault.TheVariants as fault_is
+use Rattle.sp_checked_list.specs.Refusals.{IsRefused}
 
 pub refused_at : (Breaks : Fault → Type 0) (f : Fault) (d : Diag) → IsLeast Breaks (Some f) → d ≡ diag_of f → IsRefused Breaks (fault_is.Diag d)
 refused_at Breaks f d least is = (f, least, is)

@@ -11,7 +11,7 @@ pub enum CheckFault {
 
 impl From<NoMemory> for CheckFault {
     ghost use Rattle.std.specs.Prelude.{◌≡◌};
-    ghost use Rattle.sp_scope.specs.declared.fault.CheckFault.TheVariants as fault_is;
+    ghost use Rattle.sp_checked_list.specs.declared.fault.CheckFault.TheVariants as fault_is;
 
     ghost from_gives = { λ _ fault. fault ≡ fault_is.NoMemory };
 

@@ -3,8 +3,8 @@ use Rattle.std.specs.Prelude.{◌≡◌, Some}
 use Rattle.sp_rules.specs.declared.fault.Fault.{Fault}
 use Rattle.sp_rules.specs.Rules.{diag_of}
 use Rattle.sp_rules.specs.Least.{IsLeast}
-use Rattle.sp_scope.specs.declared.fault.CheckFault.{CheckFault}
-use Rattle.sp_scope.specs.declared.fault.CheckFault.TheVariants as fault_is
+use Rattle.sp_checked_list.specs.declared.fault.CheckFault.{CheckFault}
+use Rattle.sp_checked_list.specs.declared.fault.CheckFault.TheVariants as fault_is
 
 -- A list is refused at the least of the rules of a group that are broken.
 abbrev pub IsRefused : (Fault → Type 0) → CheckFault → Type 0

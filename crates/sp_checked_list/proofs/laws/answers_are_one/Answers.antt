@@ -1,5 +1,5 @@
-use Rattle.sp_typed_list.proofs.One.{one_types, one_values, one_stored}
-use Rattle.sp_typed_list.proofs.laws.answers_are_one.Goals as goal
+use Rattle.sp_checked_list.proofs.One.{one_types, one_values, one_stored}
+use Rattle.sp_checked_list.proofs.laws.answers_are_one.Goals as goal
 
 pub returns-clause-types : goal.returns-clause-types
 returns-clause-types c = one_types
