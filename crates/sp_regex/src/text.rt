@@ -5,7 +5,7 @@ ghost use Rattle.sp_regex.specs.Syntax.{Derives, IsRegexText, IsFault};
 
 use crate::reader::Reader;
 use crate::tree::Regex;
-use sp_base::NoMemory;
+use sp_base::{NoMemory, or_drop};
 use std::alloc::Global;
 use thiserror::Error;
 
@@ -41,7 +41,9 @@ pub fn parse(alloc: Global, text: &[u8]) -> Result<Regex, RegexFault>
 {
     let mut reader = Reader::new(alloc);
     for (i, byte) in text.iter().enumerate() {
-        if !reader.step(*byte)? {
+        let goes_on = or_drop!(reader.step(*byte); reader);
+        if !goes_on {
+            drop(reader);
             return Err(RegexFault::Bad(i as u64));
         }
     }

@@ -9,17 +9,17 @@ loop-i-init c = subst (λ s. IsAt _ s) (sym c.new-reader.ensures) at_start
 pub loop-i-preserved : goal.loop-i-preserved
 loop-i-preserved c =
     let byte : get_or c.args.text.now c.loop-i.i 0 ≤ 255 = (let h = c.type_inv.text c.loop-i.i in omega (arith, h)) in
-    read_more c.args.text.now c.loop-i.i _ _ c.loop-i-test.true byte c.loop-i.invariant (step_taken _ _ _ c.in_ok-step.ensures c.if-not-branch.false)
+    read_more c.args.text.now c.loop-i.i _ _ c.loop-i-test.true byte c.loop-i.invariant (step_taken _ _ _ c.in-Ok-or_drop.ensures c.if-not-goes_on.false)
 
-pub returns-then-not-branch-clause-bad : goal.returns-then-not-branch-clause-bad
-returns-then-not-branch-clause-bad c i e =
-    let f : IsFault c.args.text.now c.loop-i.i = refused_fault c.args.text.now c.loop-i.i _ _ c.loop-i-test.true refl c.loop-i.invariant (step_refused _ _ _ c.in_ok-step.ensures c.if-not-branch.true) in
+pub returns-then-not-goes_on-clause-bad : goal.returns-then-not-goes_on-clause-bad
+returns-then-not-goes_on-clause-bad c i e =
+    let f : IsFault c.args.text.now c.loop-i.i = refused_fault c.args.text.now c.loop-i.i _ _ c.loop-i-test.true refl c.loop-i.invariant (step_refused _ _ _ c.in-Ok-or_drop.ensures c.if-not-goes_on.true) in
     f.no_text
 
-pub returns-then-not-branch-clause-place : goal.returns-then-not-branch-clause-place
-returns-then-not-branch-clause-place c i e =
+pub returns-then-not-goes_on-clause-place : goal.returns-then-not-goes_on-clause-place
+returns-then-not-goes_on-clause-place c i e =
     let g : c.loop-i.i ≡ i = cc in
-    subst (λ x. IsFault c.args.text.now x) g (refused_fault c.args.text.now c.loop-i.i _ _ c.loop-i-test.true refl c.loop-i.invariant (step_refused _ _ _ c.in_ok-step.ensures c.if-not-branch.true))
+    subst (λ x. IsFault c.args.text.now x) g (refused_fault c.args.text.now c.loop-i.i _ _ c.loop-i-test.true refl c.loop-i.invariant (step_refused _ _ _ c.in-Ok-or_drop.ensures c.if-not-goes_on.true))
 
 pub returns-in-Some-clause-text : goal.returns-in-Some-clause-text
 returns-in-Some-clause-text c = (c.in-Some.regex, finished_tree c.args.text.now _ _ (read_all _ _ _ (omega arith) c.loop-i.invariant) (sym c.in_ok-regex.ensures ∙ c.in-Some.is))
