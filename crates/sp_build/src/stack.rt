@@ -8,7 +8,7 @@ ghost use Rattle.sp_build.specs.declared.stack.Begin.{Begin};
 ghost use Rattle.sp_build.specs.Stacks.{floor_of, last_trees, AreTrees, IsFloor, IsBegun, IsNodeOnTop};
 
 use sp_ast::{Arena, BoundedTree, Form, LEFT_OUT, TreeRef};
-use sp_base::{NoMemory, Span};
+use sp_base::{NoMemory, Span, or_drop};
 use std::alloc::Global;
 use std::marker::Model;
 
@@ -163,7 +163,7 @@ impl TreeStack {
         self.arena.are_sound();
         let end = self.places.len();
         let from = end - count;
-        self.places.push(LEFT_OUT)?;
+        or_drop!(self.places.push(LEFT_OUT); form);
         let at = self.arena.push(form, span, &self.places[from..end])?;
         self.arena.are_sound();
         replace_from(&mut self.places, from, at);

@@ -3,6 +3,8 @@ ghost use Rattle.std.specs.Prelude.{◌≡◌, ◌≤◌, ◌∷◌, [], ℕ, Li
 ghost use Rattle.sp_ast.specs.Trees.{Tree, tree, trees};
 ghost use Rattle.sp_ast.specs.Slots.{slots, fill, an};
 ghost use Rattle.sp_ast.specs.declared.forms.Form.TheVariants as form_is;
+ghost use Rattle.sp_words.specs.declared.words.IntWord.TheVariants as integer_is;
+ghost use Rattle.sp_words.specs.declared.words.AttributeName.TheVariants as attribute_is;
 ghost use Rattle.sp_build.specs.Items.{built};
 ghost use Rattle.sp_build.specs.Building.{Stack, stretch_from, close_with, done_by, acted};
 ghost use Rattle.sp_build.specs.inside.Popping.{IsStep};
@@ -72,6 +74,7 @@ fn takes(
         Ok(true)
     } else {
         let Leaf::Always(form) = what else {
+            drop(what);
             return Ok(false);
         };
         stack.join(0, form, Span { from: 0, to: 0 })?;
@@ -96,6 +99,7 @@ fn closes(rest: &[Token], at: u32, form: Form, stack: &mut TreeStack) -> Result<
         stack.new) }
 {
     let Some((count, place)) = closed(stack, slots(&form)) else {
+        drop(form);
         return Ok(false);
     };
     close(
@@ -118,6 +122,16 @@ fn worded_form(worded: Worded, word: IntWord) -> Form
     }
 }
 
+/// The parts of what is built by an integer type.
+fn worded_slots(worded: Worded) -> &'static [Slot]
+    ensures { result.now ≡ slots (worded_form worded integer_is.Uint8) }
+{
+    let form = worded_form(worded, IntWord::Uint8);
+    let found = slots(&form);
+    drop(form);
+    found
+}
+
 fn closes_integer(
     rest: &[Token],
     at: u32,
@@ -127,7 +141,7 @@ fn closes_integer(
     ensures { IfOk result (λ yes. IsStep yes (done_by (closing_integer (worded_form worded)) []
         rest.now at stack.old) stack.new) }
 {
-    let Some((count, place)) = closed(stack, slots(&worded_form(worded, IntWord::Uint8))) else {
+    let Some((count, place)) = closed(stack, worded_slots(worded)) else {
         return Ok(false);
     };
     let Some(word) = integer_of(token_at(rest, place as usize).kind) else {
@@ -143,11 +157,21 @@ fn closes_integer(
     Ok(true)
 }
 
+/// The parts of an attribute.
+fn attribute_slots() -> &'static [Slot]
+    ensures { result.now ≡ slots (form_is.Attribute attribute_is.Size) }
+{
+    let form = Form::Attribute(AttributeName::Size);
+    let found = slots(&form);
+    drop(form);
+    found
+}
+
 fn closes_attribute(rest: &[Token], at: u32, stack: &mut TreeStack) -> Result<bool, NoMemory>
     ensures { IfOk result (λ yes. IsStep yes (done_by
         (closing_attribute (λ name. form_is.Attribute name)) [] rest.now at stack.old) stack.new) }
 {
-    let Some((count, place)) = closed(stack, slots(&Form::Attribute(AttributeName::Size))) else {
+    let Some((count, place)) = closed(stack, attribute_slots()) else {
         return Ok(false);
     };
     let Some(name) = attribute_of(token_at(rest, place as usize).kind) else {
@@ -194,6 +218,7 @@ fn joins(rest: &[Token], at: u32, form: Form, stack: &mut TreeStack) -> Result<b
         stack.new) }
 {
     let Some(count) = parts(stack, slots(&form)) else {
+        drop(form);
         return Ok(false);
     };
     let span = stretch_from(rest, stack, count, at);
@@ -207,6 +232,7 @@ fn wraps(group: Group, form: Form, stack: &mut TreeStack) -> Result<bool, NoMemo
         stack.new) }
 {
     if !fits_on_top(stack, Sort::One(group)) {
+        drop(form);
         return Ok(false);
     }
     let span = first_span(stack, 1);
