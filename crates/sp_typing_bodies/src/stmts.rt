@@ -2,15 +2,16 @@
 ghost use Rattle.std.specs.Prelude.{◌≡◌, false, true, IfOk, OnOk};
 ghost use Rattle.sp_ast.specs.Trees.{trees};
 ghost use Rattle.sp_ast.specs.Views.{optional_tree};
+ghost use Rattle.sp_ast.specs.StmtViews.{stmt_tree};
 ghost use Rattle.sp_typing.specs.Contexts.{Around};
 ghost use Rattle.sp_typing_stmts.specs.Statements.{typed_stmt, typed_stmts, typed_branch, typed_branches, typed_case, typed_cases, typed_body};
-ghost use Rattle.sp_typing_bodies.specs.inside.Forms.{block_tree, if_tree, while_tree, for_tree, switch_tree, plain_case, plain_cases};
+ghost use Rattle.sp_typing_bodies.specs.inside.Forms.{block_tree, if_tree, while_tree, for_tree, switch_tree, has_stmts, plain_case, plain_cases};
 
 use crate::others::{all_taken, assert_in, nothing, print_in, switch_of};
 use sp_ast::{
     BlockKind, BranchKind, CaseKind, ExprKind, Members, NameKind, Ref, StmtKind, StmtView,
 };
-use sp_base::{NoMemory, or_drop};
+use sp_base::{NoMemory, Span, or_drop};
 use sp_operands::seen;
 use sp_typed::{BareOp, Expr, Stmt, StmtNode, ValuedOp};
 use sp_types::Type;
@@ -291,47 +292,26 @@ fn switch_typed<C: Context>(
     switch_of(alloc, slot, subject, list, other)
 }
 
-/// The typed statement that a tree is. `in_loop` says whether it is in a loop of its body.
-#[cycle(stmt)]
-pub fn typed_stmt<C: Context>(
+/// The typed statement of an alternative in which no statement stands.
+fn plain_typed<C: Context>(
     alloc: Global,
     body: &Body,
     context: &C,
     in_loop: bool,
     scope: &mut Scope,
-    tree: &Ref<'_, StmtKind>,
+    span: Span,
+    view: StmtView<'_>,
 ) -> Result<Stmt, NoMemory>
+    requires { has_stmts view ≡ false }
     ensures stmt { IfOk result (λ s. s ≡ (typed_stmt body.now (C.around context.now) in_loop
-        scope.old tree.now).0) }
+        scope.old (stmt_tree span view.entry)).0) }
     ensures scope { OnOk result (scope.new ≡ (typed_stmt body.now (C.around context.now) in_loop
-        scope.old tree.now).1) }
+        scope.old (stmt_tree span view.entry)).1) }
 {
-    let span = tree.span();
-    match tree.view() {
-        StmtView::Block(block) => block_typed(alloc, body, context, in_loop, scope, &block),
+    match view {
         StmtView::Local { name, type_, value } => {
             local_in(alloc, context, scope, span, &name, &type_, &value)
         }
-        StmtView::If {
-            branches,
-            otherwise,
-        } => if_typed(alloc, body, context, in_loop, scope, &branches, &otherwise),
-        StmtView::While {
-            condition,
-            body: inner,
-        } => while_typed(alloc, body, context, scope, &condition, &inner),
-        StmtView::For {
-            name,
-            sequence,
-            body: inner,
-        } => for_typed(alloc, body, context, scope, &name, &sequence, &inner),
-        StmtView::Switch {
-            subject,
-            cases,
-            otherwise,
-        } => switch_typed(
-            alloc, body, context, in_loop, scope, &subject, &cases, &otherwise,
-        ),
         StmtView::Return(value) => return_in(alloc, body, context, scope, span, &value),
         StmtView::Break => bare_at(span, BareOp::Break(in_loop)),
         StmtView::Continue => bare_at(span, BareOp::Continue(in_loop)),
@@ -353,6 +333,48 @@ pub fn typed_stmt<C: Context>(
             target,
             value,
         } => assign_in(alloc, context, scope, operator, &target, &value),
+        _ => unreachable!(),
+    }
+}
+
+/// The typed statement that a tree is. `in_loop` says whether it is in a loop of its body.
+#[cycle(stmt)]
+pub fn typed_stmt<C: Context>(
+    alloc: Global,
+    body: &Body,
+    context: &C,
+    in_loop: bool,
+    scope: &mut Scope,
+    tree: &Ref<'_, StmtKind>,
+) -> Result<Stmt, NoMemory>
+    ensures stmt { IfOk result (λ s. s ≡ (typed_stmt body.now (C.around context.now) in_loop
+        scope.old tree.now).0) }
+    ensures scope { OnOk result (scope.new ≡ (typed_stmt body.now (C.around context.now) in_loop
+        scope.old tree.now).1) }
+{
+    match tree.view() {
+        StmtView::Block(block) => block_typed(alloc, body, context, in_loop, scope, &block),
+        StmtView::If {
+            branches,
+            otherwise,
+        } => if_typed(alloc, body, context, in_loop, scope, &branches, &otherwise),
+        StmtView::While {
+            condition,
+            body: inner,
+        } => while_typed(alloc, body, context, scope, &condition, &inner),
+        StmtView::For {
+            name,
+            sequence,
+            body: inner,
+        } => for_typed(alloc, body, context, scope, &name, &sequence, &inner),
+        StmtView::Switch {
+            subject,
+            cases,
+            otherwise,
+        } => switch_typed(
+            alloc, body, context, in_loop, scope, &subject, &cases, &otherwise,
+        ),
+        view => plain_typed(alloc, body, context, in_loop, scope, tree.span(), view),
     }
 }
 

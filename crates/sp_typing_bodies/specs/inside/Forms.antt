@@ -1,5 +1,5 @@
 -- Statements in which others stand, over their parts. Where they stand in the text is no matter to what they are.
-use Rattle.std.specs.Prelude.{List, [], ◌∷◌, map, Option}
+use Rattle.std.specs.Prelude.{Bool, true, false, List, [], ◌∷◌, map, Option}
 use Rattle.std.proofs.Common.{Global}
 use Rattle.std.specs.declared.vec.Vec.{Vec}
 use Rattle.sp_ast.specs.Trees.{Tree, tree, in_row}
@@ -7,6 +7,8 @@ use Rattle.sp_ast.specs.Views.{optional_tree}
 use Rattle.sp_ast.specs.declared.forms.Form.TheVariants as form_is
 use Rattle.sp_ast.specs.declared.forms.StmtForm.{StmtForm}
 use Rattle.sp_ast.specs.declared.forms.StmtForm.TheVariants as stmt_is
+use Rattle.sp_ast.specs.declared.views.stmt.StmtView.{StmtView}
+use Rattle.sp_ast.specs.declared.views.stmt.StmtView.TheVariants as view_is
 use Rattle.sp_typed.specs.Exprs.{Expr}
 use Rattle.sp_typed.specs.Stmts.{Stmt}
 
@@ -34,3 +36,12 @@ plain_case c = (c.0.items, c.1)
 
 abbrev pub plain_cases : List (Vec Expr Global × Stmt) → List (List Expr × Stmt)
 plain_cases cs = map plain_case cs
+
+-- whether statements stand in a statement
+abbrev pub has_stmts : StmtView → Bool
+has_stmts (view_is.Block _) = true
+has_stmts (view_is.If _ _) = true
+has_stmts (view_is.While _ _) = true
+has_stmts (view_is.For _ _ _) = true
+has_stmts (view_is.Switch _ _ _) = true
+has_stmts _ = false
