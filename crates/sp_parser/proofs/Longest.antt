@@ -45,3 +45,19 @@ phrase_again g n w v u at m j became before between clear after o p is again sam
     let x : IsParsedWhole g n w (Passes became before between) (Refused m) = subst (λ r. IsParsedWhole g n w (Passes became before between) r) is whole in
     let y : IsParsedWhole g n u (Passes became clear after) (Phrase j) = subst (λ r. IsParsedWhole g n u (Passes became clear after) r) again part in
     (m, refl, subst (λ r. IsLongestViable g n r m) same x.0, (y.1.0, cleared became before between clear after x.2.0 y.1.0 x.2.1 e y.1.1, subst (λ r. Derives g n r y.1.0) (run ∙ ap (λ k. take k w) (omega arith) ∙ ap (λ r. take m r) same) y.1.2))
+
+-- all the tokens are the longest viable prefix, and no text
+pub refused_whole : (g : Table) (n : ℕ) (w v : List ℕ) (at m : ℕ) (ArePassed : List ActionAt → Type 0) (o : Outcome) → o ≡ Refused m → w ≡ v → m ≡ length w → IsParsedWhole g n w ArePassed o → IsParsed g n v at (λ τ. ⊥) (Refused (at + m))
+refused_whole g n w v at m ArePassed o is same all whole =
+    let x : IsParsedWhole g n w ArePassed (Refused m) = subst (λ p. IsParsedWhole g n w ArePassed p) is whole in
+    let run : take m v ≡ w = ap (λ r. take m r) (sym same) ∙ take_all m w (omega (arith, all)) in
+    (m, refl, subst (λ r. IsLongestViable g n r m) same x.0, λ τ d. x.1 τ (subst (λ r. Derives g n r τ) run d))
+
+-- the longest viable prefix is no text
+pub refused_again : (g : Table) (n : ℕ) (w v u : List ℕ) (at m j : ℕ) (ArePassed WerePassed : List ActionAt → Type 0) (o p : Outcome) → o ≡ Refused m → p ≡ Refused j → w ≡ v → u ≡ take (m - 0) w
+    → IsParsedWhole g n w ArePassed o → IsParsedWhole g n u WerePassed p → IsParsed g n v at (λ τ. ⊥) (Refused (at + m))
+refused_again g n w v u at m j ArePassed WerePassed o p is again same run whole part =
+    let x : IsParsedWhole g n w ArePassed (Refused m) = subst (λ r. IsParsedWhole g n w ArePassed r) is whole in
+    let y : IsParsedWhole g n u WerePassed (Refused j) = subst (λ r. IsParsedWhole g n u WerePassed r) again part in
+    let prefix : take m v ≡ u = sym (run ∙ ap (λ k. take k w) (omega arith) ∙ ap (λ r. take m r) same) in
+    (m, refl, subst (λ r. IsLongestViable g n r m) same x.0, λ τ d. y.1 τ (subst (λ r. Derives g n r τ) prefix d))

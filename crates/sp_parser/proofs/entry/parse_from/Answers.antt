@@ -1,8 +1,8 @@
-use Rattle.std.proofs.Common.{subst, drop}
+use Rattle.std.proofs.Common.{subst, drop, ◌∙◌}
 use Rattle.sp_parser.specs.declared.outcome.Outcome.TheVariants.{Refused}
 use Rattle.sp_parser.specs.Outcome.{IsParsedWhole}
 use Rattle.sp_parser.specs.Sinks.{Passes}
-use Rattle.sp_parser.proofs.Longest.{rest_is, phrase_whole, phrase_again}
+use Rattle.sp_parser.proofs.Longest.{rest_is, phrase_whole, phrase_again, refused_whole, refused_again}
 use Rattle.sp_parser.proofs.entry.parse_from.Goals as goal
 
 pub returns-in-Phrase : goal.returns-in-Phrase
@@ -17,3 +17,11 @@ part-requires-clause-within g c =
 pub returns-in-Phrase-2 : goal.returns-in-Phrase-2
 returns-in-Phrase-2 g c =
     phrase_again g.G.Grammar.table c.args.nonterminal (g.K.Kinds.kinds c.part-rest.result) (drop c.args.at (g.K.Kinds.kinds c.args.tokens.now)) (g.K.Kinds.kinds c.part.result) c.args.at c.in-Refused.n c.in-Phrase-2.field-0 g.S.Sink.became c.args.sink.now c.parse.new.sink c.clear.new.self c.parse-in-Refused.new.sink _ _ c.in-Refused.is c.in-Phrase-2.is (rest_is _ _ c.count.result c.args.at c.count.ensures c.part-rest.ensures) c.part.ensures c.in_ok-n.ensures c.clear.ensures c.in_ok-parse-in-Refused.ensures
+
+pub returns-then-n-count : goal.returns-then-n-count
+returns-then-n-count g c =
+    refused_whole g.G.Grammar.table c.args.nonterminal (g.K.Kinds.kinds c.part-rest.result) (drop c.args.at (g.K.Kinds.kinds c.args.tokens.now)) c.args.at c.in-Refused.n _ _ c.in-Refused.is (rest_is _ _ c.count.result c.args.at c.count.ensures c.part-rest.ensures) (c.if-n-count.true ∙ c.count-in-Refused.ensures) c.in_ok-n.ensures
+
+pub returns-in-Refused-2 : goal.returns-in-Refused-2
+returns-in-Refused-2 g c =
+    refused_again g.G.Grammar.table c.args.nonterminal (g.K.Kinds.kinds c.part-rest.result) (drop c.args.at (g.K.Kinds.kinds c.args.tokens.now)) (g.K.Kinds.kinds c.part.result) c.args.at c.in-Refused.n c.in-Refused-2.field-0 _ _ _ _ c.in-Refused.is c.in-Refused-2.is (rest_is _ _ c.count.result c.args.at c.count.ensures c.part-rest.ensures) c.part.ensures c.in_ok-n.ensures c.in_ok-parse-in-Refused.ensures
