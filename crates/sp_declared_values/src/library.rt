@@ -1,5 +1,5 @@
 // The enums of the library, as they stand in the typed list.
-ghost use Rattle.std.specs.Prelude.{◌≡◌, [], ◌∷◌, ◌++◌, IfOk};
+ghost use Rattle.std.specs.Prelude.{◌≡◌, [], ◌∷◌, ◌++◌, IfOk, OnOk};
 ghost use Rattle.sp_names.specs.Names.{library_names, byte_orders, bit_orders, charsets, strategies};
 ghost use Rattle.sp_declared_values.specs.TypedRows.{name_in_module, library_label, library_rows, library_enum, library_enums_from};
 
@@ -29,14 +29,25 @@ fn library_label(alloc: Global, name: &str, number: u64) -> Result<Label, NoMemo
     })
 }
 
+/// Puts a label of the library behind others.
+fn add_label(
+    alloc: Global,
+    labels: &mut Row<Label>,
+    name: &str,
+    number: u64,
+) -> Result<(), NoMemory>
+    ensures { OnOk result (labels.new ≡ labels.old ++ library_label name.now number ∷ []) }
+{
+    let label = library_label(alloc, name, number)?;
+    labels.push(label)
+}
+
 fn two_labels(alloc: Global, first: &str, second: &str) -> Result<Row<Label>, NoMemory>
     ensures { IfOk result (λ r. r ≡ library_rows 0 (first.now ∷ second.now ∷ [])) }
 {
     let mut labels = Row::new(alloc);
-    let label = or_drop!(library_label(alloc, first, 0); labels);
-    or_drop!(labels.push(label); labels);
-    let label = or_drop!(library_label(alloc, second, 1); labels);
-    or_drop!(labels.push(label); labels);
+    or_drop!(add_label(alloc, &mut labels, first, 0); labels);
+    or_drop!(add_label(alloc, &mut labels, second, 1); labels);
     Ok(labels)
 }
 
@@ -48,13 +59,8 @@ fn three_labels(
 ) -> Result<Row<Label>, NoMemory>
     ensures { IfOk result (λ r. r ≡ library_rows 0 (first.now ∷ second.now ∷ third.now ∷ [])) }
 {
-    let mut labels = Row::new(alloc);
-    let label = or_drop!(library_label(alloc, first, 0); labels);
-    or_drop!(labels.push(label); labels);
-    let label = or_drop!(library_label(alloc, second, 1); labels);
-    or_drop!(labels.push(label); labels);
-    let label = or_drop!(library_label(alloc, third, 2); labels);
-    or_drop!(labels.push(label); labels);
+    let mut labels = two_labels(alloc, first, second)?;
+    or_drop!(add_label(alloc, &mut labels, third, 2); labels);
     Ok(labels)
 }
 
@@ -71,31 +77,65 @@ fn library_enum(alloc: Global, name: &str, labels: Row<Label>) -> Result<Enum, N
     })
 }
 
+/// Puts an enum of the library behind others.
+fn add_enum(
+    alloc: Global,
+    list: &mut Vec<Enum>,
+    name: &str,
+    labels: Row<Label>,
+) -> Result<(), NoMemory>
+    ensures { OnOk result (list.new.items ≡ list.old.items ++ library_enum name.now labels ∷ []) }
+{
+    let next = library_enum(alloc, name, labels)?;
+    list.push(next)?;
+    Ok(())
+}
+
+/// Puts an enum of two labels behind others.
+fn add_of_two(
+    alloc: Global,
+    list: &mut Vec<Enum>,
+    name: &str,
+    first: &str,
+    second: &str,
+) -> Result<(), NoMemory>
+    ensures { OnOk result (list.new.items ≡ list.old.items
+        ++ library_enum name.now (library_rows 0 (first.now ∷ second.now ∷ [])) ∷ []) }
+{
+    let labels = two_labels(alloc, first, second)?;
+    add_enum(alloc, list, name, labels)
+}
+
+/// Puts an enum of three labels behind others.
+fn add_of_three(
+    alloc: Global,
+    list: &mut Vec<Enum>,
+    name: &str,
+    first: &str,
+    second: &str,
+    third: &str,
+) -> Result<(), NoMemory>
+    ensures { OnOk result (list.new.items ≡ list.old.items
+        ++ library_enum name.now (library_rows 0 (first.now ∷ second.now ∷ third.now ∷ [])) ∷ []) }
+{
+    let labels = three_labels(alloc, first, second, third)?;
+    add_enum(alloc, list, name, labels)
+}
+
 /// The enums of the library, in the order of their numbers.
 pub(crate) fn library_enums(alloc: Global) -> Result<Vec<Enum>, NoMemory>
     ensures { IfOk result (λ v. v.items ≡ library_enums_from 0 library_names) }
 {
-    let byte_orders = three_labels(alloc, "Little", "Big", "Network")?;
-    let bit_orders = or_drop!(two_labels(alloc, "LSB0", "MSB0"); byte_orders);
-    let charsets = or_drop!(two_labels(alloc, "UTF8", "ASCII"); byte_orders, bit_orders);
-    let strategies = or_drop!(
-        three_labels(alloc, "IGNORE", "REPLACE", "STRICT");
-        byte_orders, bit_orders, charsets
-    );
     let mut list = Vec::new(alloc);
-    let next = or_drop!(
-        library_enum(alloc, "ByteOrder", byte_orders);
-        bit_orders, charsets, strategies, list
+    or_drop!(
+        add_of_three(alloc, &mut list, "ByteOrder", "Little", "Big", "Network");
+        list
     );
-    or_drop!(list.push(next); bit_orders, charsets, strategies, list);
-    let next = or_drop!(
-        library_enum(alloc, "BitOrder", bit_orders);
-        charsets, strategies, list
+    or_drop!(add_of_two(alloc, &mut list, "BitOrder", "LSB0", "MSB0"); list);
+    or_drop!(add_of_two(alloc, &mut list, "Charset", "UTF8", "ASCII"); list);
+    or_drop!(
+        add_of_three(alloc, &mut list, "DecodeErrorStrategy", "IGNORE", "REPLACE", "STRICT");
+        list
     );
-    or_drop!(list.push(next); charsets, strategies, list);
-    let next = or_drop!(library_enum(alloc, "Charset", charsets); strategies, list);
-    or_drop!(list.push(next); strategies, list);
-    let next = or_drop!(library_enum(alloc, "DecodeErrorStrategy", strategies); list);
-    or_drop!(list.push(next); list);
     Ok(list)
 }
