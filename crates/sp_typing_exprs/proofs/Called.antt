@@ -23,6 +23,15 @@ pub ok_is : {E : Type 0} (r : Result Expr E) (x y : Expr) → x ≡ y → IfOk r
 ok_is (Ok e) x y same is = is ∙ same
 ok_is (Err e) x y same is = tt
 
+-- one more tree
+pub tree_step : (g : Around) (all new : List Expr) (left behind : List Tree) (t : Tree) (x : Expr) (whole : List Expr) → left ≡ t ∷ behind → x ≡ typed g t → new ≡ all ++ x ∷ [] → all ++ typed_all g (trees left) ≡ whole → new ++ typed_all g (trees behind) ≡ whole
+tree_step g all new left behind t x whole steps item push so_far =
+    ap (λ es. es ++ typed_all g (trees behind)) push
+    ∙ append_assoc all (x ∷ []) (typed_all g (trees behind))
+    ∙ ap (λ y. all ++ y ∷ typed_all g (trees behind)) item
+    ∙ ap (λ ts. all ++ typed_all g (trees ts)) (sym steps)
+    ∙ so_far
+
 -- one more pair
 pub pair_step : (g : Around) (all new : List (Expr × Expr)) (left behind : List Tree) (pair k v : Tree) (s : Span) (x y : Expr) (whole : List (Expr × Expr)) → left ≡ pair ∷ behind → tree form_is.Pair s (k ∷ v ∷ []) ≡ pair → x ≡ typed g k → y ≡ typed g v → new ≡ all ++ (x, y) ∷ [] → all ++ pairs_typed g (trees left) ≡ whole → new ++ pairs_typed g (trees behind) ≡ whole
 pair_step g all new left behind pair k v s x y whole steps is key value push so_far =

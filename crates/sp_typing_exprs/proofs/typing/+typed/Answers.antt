@@ -1,7 +1,7 @@
 use Rattle.std.proofs.Common.{ap, ◌∙◌}
 use Rattle.sp_ast.specs.Trees.{trees, trees_size, span_of}
-use Rattle.sp_typing.specs.Typing.{typed, pairs_typed, method_at, call_at}
-use Rattle.sp_typing_exprs.proofs.Called.{call, call_of_member, call_of_other, ok_is, pair_step, less_behind}
+use Rattle.sp_typing.specs.Typing.{typed, typed_all, pairs_typed, method_at, call_at}
+use Rattle.sp_typing_exprs.proofs.Called.{call, call_of_member, call_of_other, ok_is, tree_step, pair_step, less_behind}
 use Rattle.sp_typing_exprs.proofs.typing.+typed.Goals as goal
 
 pub call_typed-returns-in-Ok-or_drop : goal.call_typed-returns-in-Ok-or_drop
@@ -46,3 +46,12 @@ typed-returns-in-Call g t c =
     ok_is c.call_typed.result (typed around (call c.span-span.result c.in-Call.callee c.in-Call.arguments)) (typed around c.args.tree.now)
     (ap (λ s. typed around (call s c.in-Call.callee c.in-Call.arguments)) c.span-span.ensures ∙ ap (typed around) c.in-Call.ensures)
     c.call_typed.ensures
+
+pub typed_all-loop-tree-preserved : goal.typed_all-loop-tree-preserved
+typed_all-loop-tree-preserved g t c =
+    let around = g.C.Context.around c.args.context.now in (
+      tt,
+      tt,
+      tree_step around c.loop-tree.all.items c.push.new.self.items c.loop-tree.tree-iterator c.next.new.self c.in-Some.tree c.in_ok-typed.field-0 (typed_all around (trees c.args.members.now)) c.in-Some.ensures.steps c.in_ok-typed.ensures c.in_ok-push.ensures.items c.loop-tree.invariant.2,
+      less_behind c.loop-tree.tree-iterator c.next.new.self c.in-Some.tree (trees_size (trees c.args.members.now)) c.in-Some.ensures.steps c.loop-tree.invariant.3,
+    )
