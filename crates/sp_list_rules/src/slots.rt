@@ -30,7 +30,6 @@ impl Model for ForSlots {
 }
 
 #[cycle(slots)]
-#[tactic(auto, using(crate::proofs::SlotSteps::append_more))]
 fn gather_all(all: &[Stmt], slots: &mut Vec<u32>) -> Result<(), NoMemory>
     ensures { OnOk result (slots.new.items ≡ slots.old.items ++ for_slots_all (stmts all.now)) }
 {
@@ -41,7 +40,6 @@ fn gather_all(all: &[Stmt], slots: &mut Vec<u32>) -> Result<(), NoMemory>
 }
 
 #[cycle(slots)]
-#[tactic(auto, using(crate::proofs::SlotSteps::append_more))]
 fn gather_branches(branches: &[(Expr, Stmt)], slots: &mut Vec<u32>) -> Result<(), NoMemory>
     ensures { OnOk result (slots.new.items ≡ slots.old.items
         ++ for_slots_branches (branch_row branches.now)) }
@@ -53,7 +51,6 @@ fn gather_branches(branches: &[(Expr, Stmt)], slots: &mut Vec<u32>) -> Result<()
 }
 
 #[cycle(slots)]
-#[tactic(auto, using(crate::proofs::SlotSteps::append_more))]
 fn gather_cases(cases: &[(Vec<Expr>, Stmt)], slots: &mut Vec<u32>) -> Result<(), NoMemory>
     ensures { OnOk result (slots.new.items ≡ slots.old.items
         ++ for_slots_cases (case_row cases.now)) }
