@@ -1,4 +1,6 @@
 // Each adapter over the real thing once, and over fakes that fail in mid-stream; and a table over the objects in memory.
+ghost use Rattle.std.specs.Prelude.{◌≡◌};
+
 use sp_base::{ByteList, Text, or_drop};
 use sp_io::{
     DirModules, FileSource, MemModules, MemOut, MemSource, Modules, Out, Source, StdOut, StdSource,
@@ -7,6 +9,7 @@ use sp_io::{
 use std::alloc::Global;
 use std::io::{ErrorKind, Read, Write};
 use std::path::PathBuf;
+use std::process::Abort;
 use std::test::Fail;
 use std::{env, fs, io, process};
 
@@ -69,6 +72,13 @@ fn puts<O: Out>(alloc: Global, out: &mut O, pieces: &[&str]) -> Result<ByteList,
         }
     }
     Ok(told)
+}
+
+/// Asserts that this is told.
+fn tells(rt: &impl Abort, told: Result<ByteList, Fail>, want: &[u8]) -> Result<(), Fail> {
+    let told = told?;
+    assert_eq!(rt; told.as_slice(), want);
+    Ok(())
 }
 
 fn pieces_of(alloc: Global, texts: &[&str]) -> Result<Vec<ByteList>, Fail> {
@@ -170,9 +180,18 @@ fn takes_from_a_reader_that_fails_in_mid_stream(rt: HostRuntime) -> Result<(), F
     let mut source = StdSource::new(rt.alloc(), fake)?;
     let told = takes(rt.alloc(), &mut source, &[2, 9, 9, 9, 1, 9, 9]);
     drop(source);
-    let told = told?;
-    assert_eq!(rt; told.as_slice(), b"ab|c|d|!e|f|.".as_slice());
-    Ok(())
+    tells(&rt, told, b"ab|c|d|!e|f|.")
+}
+
+/// How many bytes of three are taken, and whether two later puts fail, behind one that goes on until all is taken.
+fn fails_in_mid_stream(out: &mut StdOut<Fake>) -> Result<(u64, bool, bool), Fail>
+    requires { out.old.faults ≡ 0 }
+{
+    let count = out.put(b"abc")?;
+    put_all(out, b"cdef")?;
+    let first_fails = out.put(b"g").is_err();
+    let second_fails = out.put(b"h").is_err();
+    Ok((count, first_fails, second_fails))
 }
 
 #[test]
@@ -186,14 +205,9 @@ fn puts_into_a_writer_that_writes_less_and_fails(rt: HostRuntime) -> Result<(), 
         Act::Bytes(0),
     ];
     let mut out = StdOut::new(Fake::new(rt.alloc(), b"", acts));
-    let count = or_drop!(out.put(b"abc"); out);
-    or_drop!(put_all(&mut out, b"cdef"); out);
-    let first_fails = out.put(b"g").is_err();
-    let second_fails = out.put(b"h").is_err();
+    let told = fails_in_mid_stream(&mut out);
     drop(out);
-    assert_eq!(rt; count, 2);
-    assert!(rt; first_fails);
-    assert!(rt; second_fails);
+    assert_eq!(rt; told?, (2, true, true));
     Ok(())
 }
 
@@ -241,11 +255,21 @@ fn reads_one_byte_more_than_a_module_may_have(rt: HostRuntime) -> Result<(), Fai
     let path = long_path(&rt)?;
     let told = told_lengths(&rt, &path);
     drop(path);
-    let (most, one_more, two_more) = told?;
-    assert_eq!(rt; most, 1_048_577);
-    assert_eq!(rt; one_more, 1_048_578);
-    assert_eq!(rt; two_more, 1_048_578);
+    assert_eq!(rt; told?, (1_048_577, 1_048_578, 1_048_578));
     Ok(())
+}
+
+/// What was told, once the file is removed.
+fn removed_after(
+    rt: &HostRuntime,
+    path: PathBuf,
+    told: Result<ByteList, Fail>,
+) -> Result<ByteList, Fail> {
+    let removed = fs::remove_file(rt, &path);
+    drop(path);
+    let told = told?;
+    or_drop!(removed; told);
+    Ok(told)
 }
 
 /// What is told of a path below a file, and of two that are too long for the system.
@@ -272,18 +296,9 @@ fn reads_of_none(rt: &HostRuntime, path: &PathBuf) -> Result<ByteList, Fail> {
 #[test]
 fn finds_no_module_where_none_can_be(rt: HostRuntime) -> Result<(), Fail> {
     let path = small_file(&rt, "below")?;
-    let told = match reads_of_none(&rt, &path) {
-        Ok(told) => told,
-        Err(fail) => {
-            drop(path);
-            return Err(fail);
-        }
-    };
-    let removed = fs::remove_file(&rt, &path);
-    drop(path);
-    or_drop!(removed; told);
-    assert_eq!(rt; told.as_slice(), b"---".as_slice());
-    Ok(())
+    let told = reads_of_none(&rt, &path);
+    let told = removed_after(&rt, path, told);
+    tells(&rt, told, b"---")
 }
 
 #[test]
@@ -291,40 +306,38 @@ fn reads_modules_in_folders(rt: HostRuntime) -> Result<(), Fail> {
     let path = small_file(&rt, "modules")?;
     let mut modules = DirModules::new(rt.alloc(), &rt);
     // A directory can't be read.
-    let told = match reads(rt.alloc(), &mut modules, &[path.as_str(), ".", "./absent"]) {
-        Ok(told) => told,
-        Err(fail) => {
-            drop(path);
-            return Err(fail);
-        }
-    };
-    let removed = fs::remove_file(&rt, &path);
-    drop(path);
-    or_drop!(removed; told);
-    assert_eq!(rt; told.as_slice(), b"module Small;\n|!-".as_slice());
-    Ok(())
+    let told = reads(rt.alloc(), &mut modules, &[path.as_str(), ".", "./absent"]);
+    let told = removed_after(&rt, path, told);
+    tells(&rt, told, b"module Small;\n|!-")
 }
 
 #[test]
 fn reads_the_front_of_a_file_without_an_end(rt: HostRuntime) -> Result<(), Fail> {
     let mut modules = DirModules::new(rt.alloc(), &rt);
     let told = reads(rt.alloc(), &mut modules, &["/dev/zero"])?;
-    assert_eq!(rt; told.len(), 1_048_578);
+    let length = told.len();
+    drop(told);
+    assert_eq!(rt; length, 1_048_578);
     Ok(())
+}
+
+/// What is taken from a file that is removed once it is open.
+fn takes_of_removed(rt: &HostRuntime, path: PathBuf) -> Result<ByteList, Fail> {
+    let source = FileSource::new(rt.alloc(), rt, path.as_str());
+    let removed = fs::remove_file(rt, &path);
+    drop(path);
+    let mut source = source?;
+    or_drop!(removed; source);
+    let told = takes(rt.alloc(), &mut source, &[6, 65_536, 1]);
+    drop(source);
+    told
 }
 
 #[test]
 fn reads_a_file(rt: HostRuntime) -> Result<(), Fail> {
     let path = small_file(&rt, "file")?;
-    let mut source = or_drop!(FileSource::new(rt.alloc(), &rt, path.as_str()); path);
-    let removed = fs::remove_file(&rt, &path);
-    drop(path);
-    or_drop!(removed; source);
-    let told = takes(rt.alloc(), &mut source, &[6, 65_536, 1]);
-    drop(source);
-    let told = told?;
-    assert_eq!(rt; told.as_slice(), b"module| Small;\n|.".as_slice());
-    Ok(())
+    let told = takes_of_removed(&rt, path);
+    tells(&rt, told, b"module| Small;\n|.")
 }
 
 #[test]
@@ -332,9 +345,7 @@ fn fails_at_each_take_from_no_file(rt: HostRuntime) -> Result<(), Fail> {
     let mut source = FileSource::new(rt.alloc(), &rt, "./absent")?;
     let told = takes(rt.alloc(), &mut source, &[1, 1]);
     drop(source);
-    let told = told?;
-    assert_eq!(rt; told.as_slice(), b"!!".as_slice());
-    Ok(())
+    tells(&rt, told, b"!!")
 }
 
 #[test]
@@ -342,9 +353,7 @@ fn reads_the_standard_input(rt: HostRuntime) -> Result<(), Fail> {
     let mut source = StdSource::new(rt.alloc(), rt.stdin())?;
     let told = takes(rt.alloc(), &mut source, &[1]);
     drop(source);
-    let told = told?;
-    assert_eq!(rt; told.as_slice(), b".".as_slice());
-    Ok(())
+    tells(&rt, told, b".")
 }
 
 #[test]
@@ -370,9 +379,7 @@ fn takes_from_memory(rt: HostRuntime) -> Result<(), Fail> {
     let mut source = source?;
     let told = takes(rt.alloc(), &mut source, &SIZES);
     drop(source);
-    let told = told?;
-    assert_eq!(rt; told.as_slice(), b"abc|!d|ef|..".as_slice());
-    Ok(())
+    tells(&rt, told, b"abc|!d|ef|..")
 }
 
 #[test]
@@ -383,9 +390,7 @@ fn takes_surely(rt: HostRuntime) -> Result<(), Fail> {
     let mut source = source?;
     let told = takes(rt.alloc(), &mut source, &SIZES);
     drop(source);
-    let told = told?;
-    assert_eq!(rt; told.as_slice(), b"abc|d|ef|...".as_slice());
-    Ok(())
+    tells(&rt, told, b"abc|d|ef|...")
 }
 
 const FILES: [(&str, &str); 3] = [("a", "first"), ("b", "other"), ("a", "second")];
@@ -400,9 +405,7 @@ fn reads_from_memory(rt: HostRuntime) -> Result<(), Fail> {
     let mut modules = modules?;
     let told = reads(rt.alloc(), &mut modules, &PATHS);
     drop(modules);
-    let told = told?;
-    assert_eq!(rt; told.as_slice(), b"!first|other|-".as_slice());
-    Ok(())
+    tells(&rt, told, b"!first|other|-")
 }
 
 #[test]
@@ -413,9 +416,7 @@ fn reads_surely(rt: HostRuntime) -> Result<(), Fail> {
     let mut modules = modules?;
     let told = reads(rt.alloc(), &mut modules, &PATHS);
     drop(modules);
-    let told = told?;
-    assert_eq!(rt; told.as_slice(), b"first|first|other|-".as_slice());
-    Ok(())
+    tells(&rt, told, b"first|first|other|-")
 }
 
 #[test]
@@ -423,15 +424,15 @@ fn puts_into_memory(rt: HostRuntime) -> Result<(), Fail> {
     let mut out = MemOut::new(rt.alloc(), &[1])?;
     let told = puts(rt.alloc(), &mut out, &["ab", "cd", "ef"]);
     drop(out);
-    let told = told?;
-    assert_eq!(rt; told.as_slice(), b"+!+".as_slice());
-    Ok(())
+    tells(&rt, told, b"+!+")
 }
 
 #[test]
 fn puts_surely(rt: HostRuntime) -> Result<(), Fail> {
     let mut out = SureOut::new(rt.alloc())?;
     or_drop!(put_all(&mut out, b"abc"); out);
-    assert_eq!(rt; out.written(), b"abc".as_slice());
+    let is_written = out.written() == b"abc".as_slice();
+    drop(out);
+    assert!(rt; is_written);
     Ok(())
 }

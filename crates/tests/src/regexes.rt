@@ -128,7 +128,7 @@ fn in_groups(alloc: Global, groups: usize) -> Result<Result<u64, u64>, Fail>
 
 #[test]
 fn counts_groups(rt: HostRuntime) -> Result<(), Fail> {
-    assert_eq!(rt; in_groups(rt.alloc(), 64)?, Ok(1));
-    assert_eq!(rt; in_groups(rt.alloc(), 65)?, Err(64));
+    let told = [in_groups(rt.alloc(), 64)?, in_groups(rt.alloc(), 65)?];
+    assert_eq!(rt; told, [Ok(1), Err(64)]);
     Ok(())
 }

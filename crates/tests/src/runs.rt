@@ -45,30 +45,48 @@ fn found(alloc: Global, start: Start, tokens: &[Terminal]) -> Result<(usize, boo
     }
 }
 
+const SUM: [Terminal; 5] = [
+    Id,
+    Terminal::Punctuation(Punctuation::Plus),
+    Number,
+    Terminal::Punctuation(Punctuation::Star),
+    Id,
+];
+
+const SUM_OF_NOTHING: [Terminal; 3] = [
+    Id,
+    Terminal::Punctuation(Punctuation::Plus),
+    Terminal::Punctuation(Punctuation::Star),
+];
+
+const NESTED: [Terminal; 6] = [
+    Terminal::Keyword(Keyword::Vector),
+    Terminal::Punctuation(Punctuation::Less),
+    Terminal::Keyword(Keyword::Vector),
+    Terminal::Punctuation(Punctuation::Less),
+    Id,
+    Terminal::Punctuation(Punctuation::ShiftRight),
+];
+
+const BREAK: [Terminal; 3] = [
+    Terminal::Keyword(Keyword::Break),
+    Terminal::Punctuation(Punctuation::Semicolon),
+    Id,
+];
+
+// What begins with the tokens, and the place after the longest run, and whether the run is a text.
+const CASES: [(Start, &[Terminal], (usize, bool)); 4] = [
+    (Start::Expr, &SUM, (5, true)),
+    (Start::Expr, &SUM_OF_NOTHING, (2, false)),
+    (Start::Type, &NESTED, (6, true)),
+    (Start::Stmt, &BREAK, (2, true)),
+];
+
 #[test]
 fn takes_the_longest_run(rt: HostRuntime) -> Result<(), NoMemory> {
-    let alloc = rt.alloc();
-    let plus = Terminal::Punctuation(Punctuation::Plus);
-    let star = Terminal::Punctuation(Punctuation::Star);
-    let sum = [Id, plus, Number, star, Id];
-    assert!(rt; found(alloc, Start::Expr, &sum)? == (5, true));
-    assert!(rt; found(alloc, Start::Expr, &[Id, plus, star])? == (2, false));
-    let vector = Terminal::Keyword(Keyword::Vector);
-    let less = Terminal::Punctuation(Punctuation::Less);
-    let nested = [
-        vector,
-        less,
-        vector,
-        less,
-        Id,
-        Terminal::Punctuation(Punctuation::ShiftRight),
-    ];
-    assert!(rt; found(alloc, Start::Type, &nested)? == (6, true));
-    let stmt = [
-        Terminal::Keyword(Keyword::Break),
-        Terminal::Punctuation(Punctuation::Semicolon),
-        Id,
-    ];
-    assert!(rt; found(alloc, Start::Stmt, &stmt)? == (2, true));
+    for (start, tokens, want) in &CASES {
+        let found = found(rt.alloc(), *start, tokens)?;
+        assert!(rt; found == *want);
+    }
     Ok(())
 }
