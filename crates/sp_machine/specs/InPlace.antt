@@ -4,7 +4,7 @@ use Rattle.sp_words.specs.Methods.{changes}
 use Rattle.sp_value.specs.Val.{Val}
 use Rattle.sp_running.specs.States.{State, instance_of, set_local, set_member}
 use Rattle.sp_code.specs.declared.instr.Instr.{Instr}
-use Rattle.sp_code.specs.declared.instr.Instr.TheVariants.{Store, SelfUnit, SetField, Binary, SetIndex, Lib, AddKey, DeleteKey}
+use Rattle.sp_code.specs.declared.instr.Instr.TheVariants.{Store, SelfUnit, SetField, Binary, SetIndex, Lib, AddKey, DeleteKey, ReadInt}
 use Rattle.sp_code.specs.Machine.{Next, Goes, Config, At, Ending}
 use Rattle.sp_machine.specs.declared.in_place.Slot.{Slot}
 use Rattle.sp_machine.specs.declared.in_place.Slot.TheVariants.{Local, Member}
@@ -42,3 +42,8 @@ may_change SetIndex = true
 may_change AddKey = true
 may_change DeleteKey = true
 may_change i = false
+
+-- an instruction that reads the input
+abbrev pub reads_input : Instr → Bool
+reads_input (ReadInt form) = true
+reads_input i = false

@@ -77,7 +77,9 @@ impl Machine {
             else At to (below_top self.old.operands) self.old.stack (state_of self.old)) }
     {
         let value = self.operands.pop();
-        if truth(&value) {
+        let is_true = truth(&value);
+        drop(value);
+        if is_true {
             self.pc += 1;
         } else {
             self.pc = to as usize;
@@ -111,8 +113,9 @@ impl Machine {
             self.old.stack (state_of self.old))) }
     {
         let value = self.operands.pop();
-        let text = text_of(self.alloc(), &value)?;
-        self.fails_with(PKind::Throw, text);
+        let text = text_of(self.alloc(), &value);
+        drop(value);
+        self.fails_with(PKind::Throw, text?);
         Ok(())
     }
 
@@ -127,12 +130,16 @@ impl Machine {
     {
         let message = self.operands.pop();
         let value = self.operands.pop();
-        if truth(&value) {
+        let is_true = truth(&value);
+        drop(value);
+        if is_true {
+            drop(message);
             self.pc += 1;
-        } else {
-            let text = text_of(self.alloc(), &message)?;
-            self.fails_with(PKind::Assert, text);
+            return Ok(());
         }
+        let text = text_of(self.alloc(), &message);
+        drop(message);
+        self.fails_with(PKind::Assert, text?);
         Ok(())
     }
 }

@@ -360,8 +360,8 @@ impl Machine {
             return self.join_in(slot);
         }
         let found = self.operated(op);
-        let _right = self.operands.pop();
-        let _left = self.operands.pop();
+        drop(self.operands.pop());
+        drop(self.operands.pop());
         match found {
             Ok(found) => {
                 self.store_in(slot, found);

@@ -181,13 +181,18 @@ impl Machine {
         let vector = self.operands.pop();
         let key = self.operands.pop();
         let container = self.operands.pop();
-        match self.opened(container, &key, slot)? {
+        match or_drop!(self.opened(container, &key, slot); key, vector, item) {
             Some(emptied) => {
                 let mut all = vector;
-                all.push_back(item)?;
+                or_drop!(all.push_back(item); all, emptied, key);
                 self.put_open(emptied, key, all, slot)
             }
-            None => Ok(()),
+            None => {
+                drop(key);
+                drop(vector);
+                drop(item);
+                Ok(())
+            }
         }
     }
 
@@ -207,13 +212,18 @@ impl Machine {
         let set = self.operands.pop();
         let key = self.operands.pop();
         let container = self.operands.pop();
-        match self.opened(container, &key, slot)? {
+        match or_drop!(self.opened(container, &key, slot); key, set, member) {
             Some(emptied) => {
                 let mut all = set;
-                all.add(member)?;
+                or_drop!(all.add(member); all, emptied, key);
                 self.put_open(emptied, key, all, slot)
             }
-            None => Ok(()),
+            None => {
+                drop(key);
+                drop(set);
+                drop(member);
+                Ok(())
+            }
         }
     }
 
@@ -233,13 +243,20 @@ impl Machine {
         let keyed = self.operands.pop();
         let key = self.operands.pop();
         let container = self.operands.pop();
-        match self.opened(container, &key, slot)? {
+        match or_drop!(self.opened(container, &key, slot); key, keyed, member) {
             Some(emptied) => {
                 let mut rest = keyed;
-                rest.delete(&member)?;
+                let deleted = rest.delete(&member);
+                drop(member);
+                or_drop!(deleted; rest, emptied, key);
                 self.put_open(emptied, key, rest, slot)
             }
-            None => Ok(()),
+            None => {
+                drop(key);
+                drop(keyed);
+                drop(member);
+                Ok(())
+            }
         }
     }
 

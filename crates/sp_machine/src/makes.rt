@@ -7,7 +7,7 @@ ghost use Rattle.sp_machine.specs.declared.machine.Mode.TheVariants.{Running};
 ghost use Rattle.sp_machine.specs.Plain.{state_of, plain};
 
 use crate::machine::Machine;
-use sp_base::NoMemory;
+use sp_base::{NoMemory, or_drop};
 use sp_frames::Operands;
 use sp_value::Value;
 
@@ -28,8 +28,9 @@ fn set_from(keys: Vec<Value>) -> Result<Value, NoMemory>
     let mut set = Value::set(Vec::new(*keys.allocator()))?;
     let mut rest = in_order(keys);
     while !rest.is_empty() {
-        set.add(rest.pop())?;
+        or_drop!(set.add(rest.pop()); set, rest);
     }
+    drop(rest);
     Ok(set)
 }
 
@@ -42,10 +43,12 @@ fn map_from(values: Vec<Value>) -> Result<Value, NoMemory>
     while !rest.is_empty() {
         let key = rest.pop();
         if rest.is_empty() {
+            drop(key);
             break;
         }
-        map.insert(key, rest.pop())?;
+        or_drop!(map.insert(key, rest.pop()); map, rest);
     }
+    drop(rest);
     Ok(map)
 }
 

@@ -11,7 +11,7 @@ ghost use Rattle.sp_machine.specs.Plain.{state_of, plain, Leads};
 
 use crate::library::{of_one, of_three, of_two};
 use crate::machine::Machine;
-use sp_base::NoMemory;
+use sp_base::{NoMemory, or_drop};
 use sp_lib::{pop_back, push_back};
 use sp_operators::ValueFault;
 use sp_words::Method;
@@ -27,7 +27,7 @@ impl Machine {
     {
         let item = self.operands.pop();
         let mut vector = self.operands.pop();
-        push_back(&mut vector, item)?;
+        or_drop!(push_back(&mut vector, item); vector);
         self.push_next(vector)
     }
 
@@ -42,14 +42,18 @@ impl Machine {
         let mut vector = self.operands.pop();
         match pop_back(&mut vector) {
             Ok(item) => {
-                self.operands.push(item)?;
+                or_drop!(self.operands.push(item); vector);
                 self.push_next(vector)
             }
             Err(ValueFault::Run(kind)) => {
+                drop(vector);
                 self.fails(kind);
                 Ok(())
             }
-            Err(ValueFault::NoMemory) => Err(NoMemory),
+            Err(ValueFault::NoMemory) => {
+                drop(vector);
+                Err(NoMemory)
+            }
         }
     }
 
@@ -64,14 +68,9 @@ impl Machine {
             (self.old.pc + 1) (drop 1 self.old.operands) self.old.stack (state_of self.old))) }
     {
         let x = self.operands.pop();
-        match of_one(self.alloc(), called, &x) {
-            Ok(value) => self.push_next(value),
-            Err(ValueFault::Run(kind)) => {
-                self.fails(kind);
-                Ok(())
-            }
-            Err(ValueFault::NoMemory) => Err(NoMemory),
-        }
+        let found = of_one(self.alloc(), called, &x);
+        drop(x);
+        self.put_found(found)
     }
 
     fn with_two(&mut self, called: Method) -> Result<(), NoMemory>
@@ -86,14 +85,10 @@ impl Machine {
     {
         let y = self.operands.pop();
         let x = self.operands.pop();
-        match of_two(self.alloc(), called, &y, &x) {
-            Ok(value) => self.push_next(value),
-            Err(ValueFault::Run(kind)) => {
-                self.fails(kind);
-                Ok(())
-            }
-            Err(ValueFault::NoMemory) => Err(NoMemory),
-        }
+        let found = of_two(self.alloc(), called, &y, &x);
+        drop(x);
+        drop(y);
+        self.put_found(found)
     }
 
     fn with_three(&mut self, called: Method) -> Result<(), NoMemory>
@@ -108,14 +103,11 @@ impl Machine {
         let z = self.operands.pop();
         let y = self.operands.pop();
         let x = self.operands.pop();
-        match of_three(self.alloc(), called, &z, &y, &x) {
-            Ok(value) => self.push_next(value),
-            Err(ValueFault::Run(kind)) => {
-                self.fails(kind);
-                Ok(())
-            }
-            Err(ValueFault::NoMemory) => Err(NoMemory),
-        }
+        let found = of_three(self.alloc(), called, &z, &y, &x);
+        drop(x);
+        drop(y);
+        drop(z);
+        self.put_found(found)
     }
 
     /// Calls a method of the library with the operands on top.

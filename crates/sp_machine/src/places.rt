@@ -13,9 +13,8 @@ ghost use Rattle.sp_machine.specs.Rows.{number_of};
 
 use crate::machine::Machine;
 use crate::rows::{item_at, put_at, row_item};
-use sp_base::{Limits, NoMemory, PKind};
+use sp_base::{Limits, NoMemory, or_drop};
 use sp_numbers::Width;
-use sp_operators::ValueFault;
 use sp_value::{Level, Value};
 
 /// The number that a value is.
@@ -41,14 +40,10 @@ impl Machine {
     {
         let key = self.operands.pop();
         let container = self.operands.pop();
-        match item_at(&container, &key) {
-            Ok(value) => self.push_next(value),
-            Err(ValueFault::Run(kind)) => {
-                self.fails(kind);
-                Ok(())
-            }
-            Err(ValueFault::NoMemory) => Err(NoMemory),
-        }
+        let found = item_at(&container, &key);
+        drop(container);
+        drop(key);
+        self.put_found(found)
     }
 
     pub(crate) fn set_index(&mut self) -> Result<(), NoMemory>
@@ -63,9 +58,10 @@ impl Machine {
         let x = self.operands.pop();
         let key = self.operands.pop();
         let mut container = self.operands.pop();
-        match put_at(&mut container, key, x)? {
+        match or_drop!(put_at(&mut container, key, x); container) {
             Ok(()) => self.push_next(container),
             Err(kind) => {
+                drop(container);
                 self.fails(kind);
                 Ok(())
             }
@@ -83,7 +79,7 @@ impl Machine {
     {
         let key = self.operands.pop();
         let mut set = self.operands.pop();
-        set.add(key)?;
+        or_drop!(set.add(key); set);
         self.push_next(set)
     }
 
@@ -98,7 +94,9 @@ impl Machine {
     {
         let key = self.operands.pop();
         let mut keyed = self.operands.pop();
-        keyed.delete(&key)?;
+        let deleted = keyed.delete(&key);
+        drop(key);
+        or_drop!(deleted; keyed);
         self.push_next(keyed)
     }
 
@@ -126,14 +124,19 @@ impl Machine {
     {
         // no container has so many items that their number doesn't fit
         let Some(next) = i.checked_add(1) else {
+            drop(item);
+            drop(row);
             return Err(NoMemory);
         };
         if self.count_turn(limits) {
-            self.operands.push(row)?;
-            self.operands.push(Value::uint(Width::W64, next))?;
-            self.push_next(item)?;
+            or_drop!(self.operands.push(row); item);
+            or_drop!(self.operands.push(Value::uint(Width::W64, next)); item);
+            self.push_next(item)
+        } else {
+            drop(item);
+            drop(row);
+            Ok(())
         }
-        Ok(())
     }
 
     /// The next item of what a loop goes over, or the way out of the loop.
@@ -149,11 +152,13 @@ impl Machine {
             self.old.stack (state_of self.old))) }
     {
         let counter = self.operands.pop();
-        let row = self.operands.pop();
         let i = number(&counter);
-        match row_item(self.alloc(), &row, i)? {
+        drop(counter);
+        let row = self.operands.pop();
+        match or_drop!(row_item(self.alloc(), &row, i); row) {
             Some(item) => self.next_round(limits, item, i, row),
             None => {
+                drop(row);
                 self.pc = to as usize;
                 Ok(())
             }

@@ -12,7 +12,7 @@ ghost use Rattle.sp_running.specs.Values as values;
 ghost use Rattle.sp_code.specs.Can.{IsItem, IsPlace, IsRow};
 ghost use Rattle.sp_machine.specs.Rows.{IsSpot, Changes};
 
-use sp_base::{NoMemory, PKind};
+use sp_base::{NoMemory, PKind, or_drop};
 use sp_numbers::Width;
 use sp_operators::ValueFault;
 use sp_value::{Level, Value};
@@ -111,10 +111,15 @@ pub(crate) fn put_at(
 {
     match spot_of(container, &key) {
         Spot::Within(i) => {
-            container.set_item(i, x)?;
+            or_drop!(container.set_item(i, x); key);
+            drop(key);
             Ok(Ok(()))
         }
-        Spot::Past => Ok(Err(PKind::Index)),
+        Spot::Past => {
+            drop(key);
+            drop(x);
+            Ok(Err(PKind::Index))
+        }
         Spot::Keyed => {
             container.insert(key, x)?;
             Ok(Ok(()))

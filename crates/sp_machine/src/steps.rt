@@ -8,8 +8,8 @@ ghost use Rattle.sp_code.specs.Programs.{plain_of};
 ghost use Rattle.sp_code.specs.Turns.{Turns};
 ghost use Rattle.sp_machine.specs.declared.machine.Mode.TheVariants.{Running};
 ghost use Rattle.sp_machine.specs.declared.machine.Stop.TheVariants.{GoesOn};
-ghost use Rattle.sp_machine.specs.InPlace.{may_change};
-ghost use Rattle.sp_machine.specs.Plain.{state_of, plain, reads_of, Leads, Does};
+ghost use Rattle.sp_machine.specs.InPlace.{may_change, reads_input};
+ghost use Rattle.sp_machine.specs.Plain.{state_of, plain, reads_of, Leads, Does, Tells};
 ghost use Rattle.sp_machine.specs.Ran.{Ran, Advanced};
 ghost use Rattle.sp_machine.specs.Safe.{IsSafe};
 
@@ -34,9 +34,99 @@ fn field_at(p: &Program, at: usize) -> Option<u32>
 }
 
 impl Machine {
-    /// One instruction, unless it can change a container.
+    /// One instruction, unless it can change a container or reads the input.
     #[inline(always)]
     #[tactic(auto, using(crate::proofs::Entries::body_there, crate::proofs::Entries::unit_there))]
+    fn act_without_input(
+        &mut self,
+        p: &Program,
+        limits: &Limits,
+        instr: &Instr,
+        window: &Window,
+        is_ended: bool,
+        told: &mut Vec<What>,
+    ) -> Result<(), NoMemory>
+        requires running { self.old.mode ≡ Running }
+        requires within { self.old.pc + 1 < 2 ^ 64 }
+        requires keeps { IsFalse (may_change instr.now) }
+        requires reads { IsFalse (reads_input instr.now) }
+        requires can { Can (plain_of limits.now p.now) (Some instr.now) self.old.operands (state_of self.old) }
+        ensures { OnOk result (Tells told.old.items told.new.items (plain self.new)
+            (act (plain_of limits.now p.now) (reads_of window.now is_ended) (Some instr.now) self.old.pc self.old.operands
+            self.old.stack (state_of self.old))) }
+    {
+        match *instr {
+            Instr::Const(c) => self.constant(p, c),
+            Instr::Load(l) => self.load(l),
+            Instr::Store(l) => {
+                self.store(l);
+                Ok(())
+            }
+            Instr::Param(n) => self.parameter(n),
+            Instr::SelfUnit => self.self_unit(),
+            Instr::GetField(m) => self.get_field(m),
+            Instr::HasField(m) => self.has_field(m),
+            Instr::SetField(m) => {
+                self.set_field(m);
+                Ok(())
+            }
+            Instr::Unary(op) => self.unary(op),
+            Instr::Cast(to) => self.cast(to),
+            Instr::MakeTuple(n) => self.make_tuple(n),
+            Instr::MakeVector(n) => self.make_vector(n),
+            Instr::MakeSet(n) => self.make_set(n),
+            Instr::MakeMap(n) => self.make_map(n),
+            Instr::Index => self.index(),
+            Instr::Size => self.size(),
+            Instr::Lib(called) => self.call_method(called),
+            Instr::Pop => {
+                self.drop_top();
+                Ok(())
+            }
+            Instr::Dup => self.duplicate(),
+            Instr::Jump(to) => {
+                self.pc = to as usize;
+                Ok(())
+            }
+            Instr::JumpNot(to) => {
+                self.jump_not(to);
+                Ok(())
+            }
+            Instr::Call(f) => self.enter_body(limits, body_at(p, f)),
+            Instr::Return => {
+                self.returns();
+                Ok(())
+            }
+            Instr::Turn => {
+                self.turn(limits);
+                Ok(())
+            }
+            Instr::EachStart => self.each_start(),
+            Instr::EachNext(to) => self.each_next(limits, to),
+            Instr::Print(n) => self.print(p, n, told),
+            Instr::Assert => self.assert(),
+            Instr::Throw => self.throw(),
+            Instr::Fail(kind) => {
+                self.fails(kind);
+                Ok(())
+            }
+            Instr::EnterUnit(u) => self.enter_unit(limits, u, unit_at(p, u)),
+            Instr::LeaveUnit => {
+                self.mode = Mode::Leaving;
+                Ok(())
+            }
+            Instr::Hook(h) => self.run_hook(p, limits, body_at(p, h), told),
+            Instr::Offset => self.offset(),
+            Instr::ReadInt(_)
+            | Instr::Binary(_)
+            | Instr::SetIndex
+            | Instr::AddKey
+            | Instr::DeleteKey => unreachable!(),
+        }
+    }
+
+    /// One instruction, unless it can change a container.
+    #[inline(always)]
     fn act(
         &mut self,
         p: &Program,
@@ -55,45 +145,13 @@ impl Machine {
             (act (plain_of limits.now p.now) (reads_of window.now is_ended) (Some instr.now) self.old.pc self.old.operands
             self.old.stack (state_of self.old))) }
     {
-        match *instr {
-            Instr::Const(c) => self.constant(p, c)?,
-            Instr::Load(l) => self.load(l)?,
-            Instr::Store(l) => self.store(l),
-            Instr::Param(n) => self.parameter(n)?,
-            Instr::SelfUnit => self.self_unit()?,
-            Instr::GetField(m) => self.get_field(m)?,
-            Instr::HasField(m) => self.has_field(m)?,
-            Instr::SetField(m) => self.set_field(m),
-            Instr::Unary(op) => self.unary(op)?,
-            Instr::Cast(to) => self.cast(to)?,
-            Instr::MakeTuple(n) => self.make_tuple(n)?,
-            Instr::MakeVector(n) => self.make_vector(n)?,
-            Instr::MakeSet(n) => self.make_set(n)?,
-            Instr::MakeMap(n) => self.make_map(n)?,
-            Instr::Index => self.index()?,
-            Instr::Size => self.size()?,
-            Instr::Lib(called) => self.call_method(called)?,
-            Instr::Pop => self.drop_top(),
-            Instr::Dup => self.duplicate()?,
-            Instr::Jump(to) => self.pc = to as usize,
-            Instr::JumpNot(to) => self.jump_not(to),
-            Instr::Call(f) => self.enter_body(limits, body_at(p, f))?,
-            Instr::Return => self.returns(),
-            Instr::Turn => self.turn(limits),
-            Instr::EachStart => self.each_start()?,
-            Instr::EachNext(to) => self.each_next(limits, to)?,
-            Instr::Print(n) => self.print(p, n, told)?,
-            Instr::Assert => self.assert()?,
-            Instr::Throw => self.throw()?,
-            Instr::Fail(kind) => self.fails(kind),
-            Instr::EnterUnit(u) => self.enter_unit(limits, u, unit_at(p, u))?,
-            Instr::LeaveUnit => self.mode = Mode::Leaving,
-            Instr::Hook(h) => self.run_hook(p, limits, body_at(p, h), told)?,
-            Instr::Offset => self.offset()?,
-            Instr::ReadInt(form) => return self.read_integer(form, window, is_ended),
-            Instr::Binary(_) | Instr::SetIndex | Instr::AddKey | Instr::DeleteKey => unreachable!(),
+        match instr {
+            Instr::ReadInt(form) => self.read_integer(*form, window, is_ended),
+            _ => {
+                self.act_without_input(p, limits, instr, window, is_ended, told)?;
+                Ok(Stop::GoesOn)
+            }
         }
-        Ok(Stop::GoesOn)
     }
 
     /// One instruction that can change a container.

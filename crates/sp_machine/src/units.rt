@@ -83,7 +83,9 @@ impl Machine {
             (self.old.pc + 1) (below_top self.old.operands) self.old.stack (state_of self.old))) }
     {
         let unit = self.operands.pop();
-        match self.member(&unit, m)? {
+        let found = self.member(&unit, m);
+        drop(unit);
+        match found? {
             Some(value) => self.push_next(value),
             None => {
                 self.fails(PKind::Unset);
@@ -117,6 +119,7 @@ impl Machine {
     {
         let unit = self.operands.pop();
         let is_set = self.has_member(&unit, m);
+        drop(unit);
         self.push_next(Value::bool(is_set))
     }
 
@@ -130,13 +133,18 @@ impl Machine {
             self.old.stack (put_member (top self.old.operands) m (second self.old.operands) (state_of self.old))) }
     {
         let unit = self.operands.pop();
+        let number = unit.as_unit();
+        drop(unit);
         let value = self.operands.pop();
-        match unit.as_unit() {
+        match number {
             Some(n) => {
                 self.instances[n].set_member(m as usize, value);
                 self.pc += 1;
             }
-            None => self.fails(PKind::Unset),
+            None => {
+                drop(value);
+                self.fails(PKind::Unset);
+            }
         }
     }
 
@@ -162,6 +170,7 @@ impl Machine {
     {
         let unit = self.operands.pop();
         let distance = self.distance(&unit);
+        drop(unit);
         self.push_next(Value::uint(Width::W64, distance))
     }
 }

@@ -1,22 +1,26 @@
 // Instructions on values.
-ghost use Rattle.std.specs.Prelude.{◌≡◌, ◌+◌, ◌<◌, ◌^◌, ◌∷◌, [], length, IsTrue, IfOk, IfSome, OnOk, Ok, Some, slice_get};
+ghost use Rattle.std.specs.Prelude.{◌≡◌, ◌+◌, ◌<◌, ◌^◌, ◌∷◌, [], length, Bool, List, Result, IsTrue, IfOk, IfSome, OnOk, Ok, Some, slice_get};
+ghost use Rattle.sp_base.specs.declared.kinds.PKind.{PKind as ErrorKind};
+ghost use Rattle.sp_words.specs.declared.methods.Method.{Method as Called};
 ghost use Rattle.sp_words.specs.declared.operators.BinaryOp.TheVariants.{Add};
 ghost use Rattle.sp_numbers.specs.Numbers.{width_bits};
 ghost use Rattle.sp_numbers.specs.declared.width.Width.TheVariants.{W64};
 ghost use Rattle.sp_value.specs.Parts.{number_in};
-ghost use Rattle.sp_value.specs.Val.{uint};
+ghost use Rattle.sp_value.specs.Val.{Val, uint};
 ghost use Rattle.sp_operators.specs.Operands.{takes, takes_memory, takes_one, has_size, is_cast};
 ghost use Rattle.sp_operators.specs.Operators.{binary, unary, cast};
 ghost use Rattle.sp_operators.specs.Outcomes.{Answers};
+ghost use Rattle.sp_methods.specs.Methods.{method};
 ghost use Rattle.sp_running.specs.States.{local_of, set_local};
 ghost use Rattle.sp_running.specs.Values.{size_value};
 ghost use Rattle.sp_code.specs.Can.{top, second, below_top};
-ghost use Rattle.sp_code.specs.Machine.{At, put, const_of};
+ghost use Rattle.sp_code.specs.Machine.{At, put, put_all, const_of};
+ghost use Rattle.sp_machine.specs.Methods.{TellsOne};
 ghost use Rattle.sp_machine.specs.declared.machine.Mode.TheVariants.{Running};
 ghost use Rattle.sp_machine.specs.Plain.{state_of, plain, Leads};
 
 use crate::machine::Machine;
-use sp_base::NoMemory;
+use sp_base::{NoMemory, or_drop};
 use sp_code::Program;
 use sp_numbers::Width;
 use sp_operators::{PlainType, ValueFault, binary, cast, size, unary};
@@ -147,6 +151,27 @@ impl Machine {
         self.pc += 1;
     }
 
+    /// Ends an instruction that gives what was found, or fails with its error.
+    #[inline(always)]
+    pub(crate) fn put_found(&mut self, found: Result<Value, ValueFault>) -> Result<(), NoMemory>
+        requires running { self.old.mode ≡ Running }
+        requires within { self.old.pc + 1 < 2 ^ 64 }
+        ensures answer { (takes : Bool) (has : Result Val ErrorKind) → Answers takes has found → OnOk result
+            (Leads (plain self.new) (put has (self.old.pc + 1) self.old.operands self.old.stack (state_of self.old))) }
+        ensures method { (called : Called) (vs : List Val) → TellsOne called vs found → OnOk result
+            (Leads (plain self.new) (put_all (method called vs) (self.old.pc + 1) self.old.operands self.old.stack
+            (state_of self.old))) }
+    {
+        match found {
+            Ok(value) => self.push_next(value),
+            Err(ValueFault::Run(kind)) => {
+                self.fails(kind);
+                Ok(())
+            }
+            Err(ValueFault::NoMemory) => Err(NoMemory),
+        }
+    }
+
     pub(crate) fn unary(&mut self, op: UnaryOp) -> Result<(), NoMemory>
         requires running { self.old.mode ≡ Running }
         requires within { self.old.pc + 1 < 2 ^ 64 }
@@ -156,14 +181,9 @@ impl Machine {
             (below_top self.old.operands) self.old.stack (state_of self.old))) }
     {
         let value = self.operands.pop();
-        match unary(op, &value) {
-            Ok(found) => self.push_next(found),
-            Err(ValueFault::Run(kind)) => {
-                self.fails(kind);
-                Ok(())
-            }
-            Err(ValueFault::NoMemory) => Err(NoMemory),
-        }
+        let found = unary(op, &value);
+        drop(value);
+        self.put_found(found)
     }
 
     /// What an operator makes of the two operands on top.
@@ -189,16 +209,9 @@ impl Machine {
             (below_top (below_top self.old.operands)) self.old.stack (state_of self.old))) }
     {
         let found = self.operated(op);
-        let _right = self.operands.pop();
-        let _left = self.operands.pop();
-        match found {
-            Ok(found) => self.push_next(found),
-            Err(ValueFault::Run(kind)) => {
-                self.fails(kind);
-                Ok(())
-            }
-            Err(ValueFault::NoMemory) => Err(NoMemory),
-        }
+        drop(self.operands.pop());
+        drop(self.operands.pop());
+        self.put_found(found)
     }
 
     pub(crate) fn cast(&mut self, to: PlainType) -> Result<(), NoMemory>
@@ -210,14 +223,9 @@ impl Machine {
             (below_top self.old.operands) self.old.stack (state_of self.old))) }
     {
         let value = self.operands.pop();
-        match cast(&value, &to) {
-            Ok(found) => self.push_next(found),
-            Err(ValueFault::Run(kind)) => {
-                self.fails(kind);
-                Ok(())
-            }
-            Err(ValueFault::NoMemory) => Err(NoMemory),
-        }
+        let found = cast(&value, &to);
+        drop(value);
+        self.put_found(found)
     }
 
     pub(crate) fn size(&mut self) -> Result<(), NoMemory>
@@ -229,7 +237,9 @@ impl Machine {
             (size_value (top self.old.operands) ∷ below_top self.old.operands) self.old.stack (state_of self.old)) }
     {
         let value = self.operands.pop();
-        self.push_next(size(&value))
+        let size = size(&value);
+        drop(value);
+        self.push_next(size)
     }
 
     pub(crate) fn drop_top(&mut self)
@@ -238,7 +248,7 @@ impl Machine {
         requires operand { 0 < length self.old.operands }
         ensures { plain self.new ≡ At (self.old.pc + 1) (below_top self.old.operands) self.old.stack (state_of self.old) }
     {
-        let _value = self.operands.pop();
+        drop(self.operands.pop());
         self.pc += 1;
     }
 
@@ -250,11 +260,10 @@ impl Machine {
         ensures { OnOk result (plain self.new ≡ At (self.old.pc + 1)
             (top self.old.operands ∷ second self.old.operands ∷ self.old.operands) self.old.stack (state_of self.old)) }
     {
-        let key = self.operands.pop();
-        let again = self.operands.top().copy()?;
-        let key_again = key.copy()?;
-        self.operands.push(key)?;
-        self.operands.push(again)?;
-        self.push_next(key_again)
+        let two = self.operands.on_top(2);
+        let below = two[0].copy()?;
+        let top = or_drop!(two[1].copy(); below);
+        or_drop!(self.operands.push(below); top);
+        self.push_next(top)
     }
 }

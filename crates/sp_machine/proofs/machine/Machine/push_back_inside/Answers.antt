@@ -13,8 +13,8 @@ use Rattle.sp_machine.specs.Inside.{IsOpened, IsShut, IsPutInside}
 use Rattle.sp_machine.proofs.Nested.{put_behind}
 use Rattle.sp_machine.proofs.machine.Machine.push_back_inside.Goals as goal
 
-pub returns-in_ok-push_back-in-Some : goal.returns-in_ok-push_back-in-Some
-returns-in_ok-push_back-in-Some c =
+pub returns-in-Ok-or_drop-2 : goal.returns-in-Ok-or_drop-2
+returns-in-Ok-or_drop-2 c =
     let m = c.args.self.now in
     let n = c.opened.new.self in
     let item = c.pop-item.result in
@@ -24,9 +24,9 @@ returns-in_ok-push_back-in-Some c =
     let vs = c.pop-container.new.self in
     let ops = c.pop-item.ensures ∙ ap (λ l. item ∷ l) (c.pop-vector.ensures ∙ ap (λ l. vector ∷ l) (c.pop-key.ensures ∙ ap (λ l. k ∷ l) c.pop-container.ensures)) in
     let found = subst (λ f. MatchOption f ((plain n ≡ Ending (Failed (error_at Index (state_of m))) m.stack (state_of m)) × IsShut container k)
-    (λ (emptied : Val). IsOpened container k c.args.slot (state_of m) (state_of n) emptied × (n ≡ record m { operands = vs; locals = n.locals; instances = n.instances }))) c.in-Some.is c.in_ok-emptied.ensures in
+    (λ (emptied : Val). IsOpened container k c.args.slot (state_of m) (state_of n) emptied × (n ≡ record m { operands = vs; locals = n.locals; instances = n.instances }))) c.in-Some.is c.in-Ok-or_drop.ensures in
     on_ok_weaker c.put_open.result (λ h.
     subst (λ l. IsPutInside c.args.slot (m.pc + 1) (put_all (method PushBack (take 2 l)) (m.pc + 1) (drop 2 l) m.stack (state_of m)) (plain c.put_open.new.self)) (sym ops)
     (put_behind m n c.args.slot (with_last vector item) c.push_back.new.self k container (k ∷ container ∷ vs) vs c.in-Some.emptied (plain c.put_open.new.self)
-    found.1 refl c.in_ok-push_back-in-Some.ensures.ok found.0 h))
+    found.1 refl c.in-Ok-or_drop-2.ensures.ok found.0 h))
     c.put_open.ensures
