@@ -213,7 +213,7 @@ impl Machine {
         let stack = self.spare.take_stack();
         let used = mem::replace(&mut self.operands, stack);
         self.spare.give_stack(used);
-        self.mode = Mode::Running;
+        self.set_mode(Mode::Running);
         self.pc = to as usize;
     }
 
@@ -226,7 +226,7 @@ impl Machine {
     {
         match self.stack.pop() {
             None => {
-                self.mode = Mode::Leaving;
+                self.set_mode(Mode::Leaving);
                 Ok(Stop::Over)
             }
             Some(
@@ -243,7 +243,7 @@ impl Machine {
                 self.leave_to(own, locals, to, operands);
                 self.depth = self.depth.saturating_sub(1);
                 self.operands.push(Value::unit(instance as usize))?;
-                self.mode = Mode::Running;
+                self.set_mode(Mode::Running);
                 Ok(Stop::GoesOn)
             }
             Some(
@@ -261,7 +261,7 @@ impl Machine {
                     ending: _ending,
                 },
             ) => {
-                self.mode = Mode::Failing(error);
+                self.set_mode(Mode::Failing(error));
                 Ok(Stop::GoesOn)
             }
             Some(Frame::Call { .. }) => unreachable!(),
@@ -286,7 +286,7 @@ impl Machine {
             }
             Callee::FailingHook => drop(value),
         }
-        self.mode = Mode::Running;
+        self.set_mode(Mode::Running);
         Ok(())
     }
 
@@ -298,7 +298,7 @@ impl Machine {
     {
         match self.stack.pop() {
             None => {
-                self.mode = Mode::Returning(value);
+                self.set_mode(Mode::Returning(value));
                 Ok(Stop::Over)
             }
             Some(
@@ -329,8 +329,8 @@ impl Machine {
             self.depth = self.depth.saturating_sub(1);
         }
         match callee {
-            Callee::FailingHook if !ends_fiber(error.kind) => self.mode = Mode::Running,
-            _ => self.mode = Mode::Failing(error),
+            Callee::FailingHook if !ends_fiber(error.kind) => self.set_mode(Mode::Running),
+            _ => self.set_mode(Mode::Failing(error)),
         }
     }
 
@@ -342,7 +342,7 @@ impl Machine {
             (state_of self.old) (Goes [] (Ending (Failed (error_of error)) self.old.stack (state_of self.old))))) }
     {
         if ends_fiber(error.kind) {
-            self.mode = Mode::Failing(error);
+            self.set_mode(Mode::Failing(error));
             return Ok(());
         }
         self.stack.push(Frame::Failing { error, ending })?;
@@ -357,7 +357,7 @@ impl Machine {
     {
         match self.stack.pop() {
             None => {
-                self.mode = Mode::Failing(error);
+                self.set_mode(Mode::Failing(error));
                 Ok(Stop::Over)
             }
             Some(
@@ -373,7 +373,7 @@ impl Machine {
             ) => {
                 self.leave_to(own, locals, to, operands);
                 self.depth = self.depth.saturating_sub(1);
-                self.mode = Mode::Failing(error);
+                self.set_mode(Mode::Failing(error));
                 Ok(Stop::GoesOn)
             }
             Some(Frame::Parts { failing, ending }) => {
@@ -386,7 +386,7 @@ impl Machine {
                     ending: _ending,
                 },
             ) => {
-                self.mode = Mode::Failing(error);
+                self.set_mode(Mode::Failing(error));
                 Ok(Stop::GoesOn)
             }
             Some(

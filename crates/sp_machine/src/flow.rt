@@ -92,7 +92,7 @@ impl Machine {
         ensures { plain self.new ≡ Ending (Returned (top self.old.operands)) self.old.stack (state_of self.old) }
     {
         let value = self.operands.pop();
-        self.mode = Mode::Returning(value);
+        self.set_mode(Mode::Returning(value));
     }
 
     /// Fails with a text.
@@ -100,11 +100,8 @@ impl Machine {
         ensures { plain self.new ≡ Ending (Failed (error_with kind text (state_of self.old))) self.old.stack
             (state_of self.old) }
     {
-        self.mode = Mode::Failing(ParseError {
-            kind,
-            offset: self.place,
-            text,
-        });
+        let offset = self.place;
+        self.set_mode(Mode::Failing(ParseError { kind, offset, text }));
     }
 
     pub(crate) fn throw(&mut self) -> Result<(), NoMemory>

@@ -81,6 +81,14 @@ impl Machine {
         *self.locals.allocator()
     }
 
+    /// Changes how the machine goes on.
+    #[inline(always)]
+    pub(crate) fn set_mode(&mut self, mode: Mode)
+        ensures { self.new ≡ record self.old { mode = mode } }
+    {
+        self.mode = mode;
+    }
+
     /// Ends an instruction that gives a value.
     #[inline(always)]
     pub(crate) fn push_next(&mut self, value: Value) -> Result<(), NoMemory>
@@ -99,10 +107,11 @@ impl Machine {
         ensures { plain self.new ≡ Ending (Failed (error_at kind (state_of self.old))) self.old.stack
             (state_of self.old) }
     {
-        self.mode = Mode::Failing(ParseError {
+        let offset = self.place;
+        self.set_mode(Mode::Failing(ParseError {
             kind,
-            offset: self.place,
+            offset,
             text: None,
-        });
+        }));
     }
 }
