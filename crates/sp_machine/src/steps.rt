@@ -112,7 +112,7 @@ impl Machine {
             }
             Instr::EnterUnit(u) => self.enter_unit(limits, u, unit_at(p, u)),
             Instr::LeaveUnit => {
-                self.mode = Mode::Leaving;
+                self.set_mode(Mode::Leaving);
                 Ok(())
             }
             Instr::Hook(h) => self.run_hook(p, limits, body_at(p, h), told),
