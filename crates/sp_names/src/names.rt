@@ -12,7 +12,7 @@ use crate::sort::{DeclSort, Meaning, Scope};
 use crate::table::{ModuleNames, module_table};
 use crate::tell::{name_of, sort_of};
 use sp_ast::Module;
-use sp_base::NoMemory;
+use sp_base::{NoMemory, or_drop};
 use sp_name_tables::{NameTable, look_up};
 use std::alloc::Global;
 use std::marker::Model;
@@ -138,11 +138,12 @@ impl<'a> Names<'a> {
         ensures { IfOk result (λ names. names ≡ modules.now) }
     {
         let rows = all_rows(alloc, modules)?;
-        let (sorted, numbers) = all_sorted(alloc, &rows)?;
-        let labels = all_labels(alloc, &rows, &sorted.enums)?;
-        let names = all_names(alloc, modules)?;
-        let by_name = module_table(alloc, modules)?;
-        let (bits, places) = all_bitfields(alloc, modules)?;
+        let (sorted, numbers) = or_drop!(all_sorted(alloc, &rows); rows);
+        let labels = or_drop!(all_labels(alloc, &rows, &sorted.enums); rows, sorted, numbers);
+        let names = or_drop!(all_names(alloc, modules); rows, sorted, numbers, labels);
+        let by_name = or_drop!(module_table(alloc, modules); rows, sorted, numbers, labels, names);
+        let (bits, places) =
+            or_drop!(all_bitfields(alloc, modules); rows, sorted, numbers, labels, names, by_name);
         Ok(Names {
             modules,
             rows,

@@ -6,7 +6,7 @@ ghost use Rattle.sp_name_tables.specs.Tables.{told_by};
 
 use crate::tell::{declared_name, import_name, label_name, name_of};
 use sp_ast::{DeclKind, LabelKind, Members, Module};
-use sp_base::NoMemory;
+use sp_base::{NoMemory, or_drop};
 use sp_name_tables::{NameTable, declare, sum};
 use std::alloc::Global;
 
@@ -26,8 +26,8 @@ pub(crate) fn module_table(alloc: Global, modules: &[Module]) -> Result<NameTabl
     let mut table = NameTable::new(alloc);
     let mut number = 0;
     for i in 0..modules.len() {
-        note_name(alloc, &mut table, Some(name_of(&modules[i])), number)?;
-        number = sum(number, 1)?;
+        or_drop!(note_name(alloc, &mut table, Some(name_of(&modules[i])), number); table);
+        number = or_drop!(sum(number, 1); table);
     }
     Ok(table)
 }
@@ -58,8 +58,8 @@ pub(crate) fn label_table(
     let mut table = NameTable::new(alloc);
     let mut number = 0;
     for label in labels {
-        note_name(alloc, &mut table, label_name(&label), number)?;
-        number = sum(number, 1)?;
+        or_drop!(note_name(alloc, &mut table, label_name(&label), number); table);
+        number = or_drop!(sum(number, 1); table);
     }
     Ok(table)
 }
@@ -79,9 +79,9 @@ pub(crate) fn module_names(
     let mut imported = NameTable::new(alloc);
     let mut number = first;
     for declaration in declarations {
-        note_name(alloc, &mut declared, declared_name(&declaration), number)?;
-        note_name(alloc, &mut imported, import_name(&declaration), number)?;
-        number = sum(number, 1)?;
+        or_drop!(note_name(alloc, &mut declared, declared_name(&declaration), number); declared, imported);
+        or_drop!(note_name(alloc, &mut imported, import_name(&declaration), number); declared, imported);
+        number = or_drop!(sum(number, 1); declared, imported);
     }
     Ok(ModuleNames { declared, imported })
 }

@@ -10,6 +10,6 @@ loop-declaration-preserved c =
     let steps = c.in-Some.ensures.steps in (
       tt,
       tt,
-      one_more declared_name c.args.first c.args.declarations c.loop-declaration.number c.in_ok-number.number c.in-Some.declaration c.next.new.self left (option_copied c.declared_name.result) (told_by c.loop-declaration.declared) (told_by c.note_name.new.table) steps c.declared_name.ensures c.in_ok-number.ensures c.in_ok-note_name.ensures c.loop-declaration.invariant.2,
-      one_more import_name c.args.first c.args.declarations c.loop-declaration.number c.in_ok-number.number c.in-Some.declaration c.next.new.self left (option_copied c.import_name.result) (told_by c.loop-declaration.imported) (told_by c.note_name-in-loop-declaration.new.table) steps c.import_name.ensures c.in_ok-number.ensures c.in_ok-note_name-2.ensures c.loop-declaration.invariant.3,
+      one_more declared_name c.args.first c.args.declarations c.loop-declaration.number c.in-Ok-or_drop-number.field-0 c.in-Some.declaration c.next.new.self left (option_copied c.declared_name.result) (told_by c.loop-declaration.declared) (told_by c.note_name.new.table) steps c.declared_name.ensures c.in-Ok-or_drop-number.ensures c.in-Ok-or_drop.ensures c.loop-declaration.invariant.2,
+      one_more import_name c.args.first c.args.declarations c.loop-declaration.number c.in-Ok-or_drop-number.field-0 c.in-Some.declaration c.next.new.self left (option_copied c.import_name.result) (told_by c.loop-declaration.imported) (told_by c.note_name-in-loop-declaration.new.table) steps c.import_name.ensures c.in-Ok-or_drop-number.ensures c.in-Ok-or_drop-2.ensures c.loop-declaration.invariant.3,
     )
