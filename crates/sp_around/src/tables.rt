@@ -16,12 +16,10 @@ ghost use Rattle.sp_name_tables.specs.Tables.{told_by};
 ghost use Rattle.sp_around.specs.inside.Tables.{IsUnit, IsFunction, IsBits, from_first};
 
 use crate::members::{MemberTable, member_table, no_members};
-use sp_ast::{
-    DeclKind, DeclView, Members, ParameterKind, RangeKind, Ref, TypeKind, TypeView, UnitKind,
-};
+use sp_ast::{DeclView, Members, ParameterKind, RangeKind, Ref, TypeKind, TypeView, UnitKind};
 use sp_base::{NoMemory, or_drop};
 use sp_name_tables::{NameTable, declare, look_up, number, sum};
-use sp_names::{Declaration, Names};
+use sp_names::{Declaration, Names, RowTree, RowView, type_of};
 use sp_numbers::Width;
 use sp_typed::OneOp;
 use sp_typed_units::MemberKind;
@@ -105,13 +103,13 @@ fn unit_in_type<'a>(tree: &Ref<'a, TypeKind>) -> Option<Ref<'a, UnitKind>>
 }
 
 /// The unit that a declaration declares.
-pub fn unit_in<'a>(tree: &Ref<'a, DeclKind>) -> Option<Ref<'a, UnitKind>>
+pub fn unit_in<'a>(tree: &RowTree<'a>) -> Option<Ref<'a, UnitKind>>
     ensures some { IfSome result (λ u. unit_in (type_tree_of tree.now) ≡ u) }
     ensures none { IfNone result (unit_in (type_tree_of tree.now) ≡ absent) }
 {
-    match tree.view() {
-        DeclView::Type { type_, .. } => unit_in_type(&type_),
-        _ => None,
+    match type_of(tree) {
+        Some(type_) => unit_in_type(&type_),
+        None => None,
     }
 }
 
@@ -245,11 +243,13 @@ fn function_table(
         ≡ result_of names.now (told known.now) (Some declaration.now)) }
 {
     match declaration.tree.view() {
-        DeclView::Function {
-            parameters,
-            returns,
-            ..
-        } => Ok(FunctionTable {
+        RowView::Declared(
+            DeclView::Function {
+                parameters,
+                returns,
+                ..
+            },
+        ) => Ok(FunctionTable {
             takes: parameter_types(alloc, names, known, declaration.module, parameters)?,
             gives: result_type(alloc, names, known, declaration.module, returns.as_ref())?,
         }),

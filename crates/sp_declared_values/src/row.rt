@@ -14,7 +14,7 @@ use crate::valued::Valued;
 use sp_around::{Tables, declaration_at};
 use sp_ast::{DeclView, LabelKind, Members, Ref, is_present};
 use sp_base::{NoMemory, or_drop};
-use sp_names::{Declaration, LIBRARY_ENUMS, Names, labels_of};
+use sp_names::{Declaration, LIBRARY_ENUMS, Names, RowView, labels_of};
 use sp_types::Type;
 use std::alloc::Global;
 use std::marker::Model;
@@ -69,7 +69,7 @@ fn add_constant<'a>(
         ++ if_constant names.now (told known.now) row.now (sort_of row.now.tree)) }
 {
     match row.tree.view() {
-        DeclView::Const { type_, value, .. } => {
+        RowView::Declared(DeclView::Const { type_, value, .. }) => {
             is_present(&type_);
             let owner = row.module;
             let written = written_type(alloc, names, known, owner, &type_)?;

@@ -9,10 +9,10 @@ ghost use Rattle.sp_declared_values.specs.TypedRows.{declared_name_tree, number_
 
 use crate::known::Known;
 use crate::library::{library_enums, name_in_module};
-use sp_ast::{DeclKind, DeclView, ExprKind, LabelKind, Members, Ref, is_present};
+use sp_ast::{DeclView, ExprKind, LabelKind, Members, Ref, is_present};
 use sp_base::{NoMemory, Span, Text, or_drop};
 use sp_constants::Outcome;
-use sp_names::{Declaration, LIBRARY_ENUMS, labels_of};
+use sp_names::{Declaration, LIBRARY_ENUMS, RowTree, RowView, labels_of};
 use sp_typed::Expr;
 use sp_typed_units::{Enum, Label, LabelNumber, Row};
 use sp_value::{Level, Value};
@@ -52,21 +52,23 @@ fn or_past(before: LabelNumber, number: LabelNumber) -> LabelNumber
 }
 
 /// The name that is declared.
-fn declared_name<'a>(tree: &Ref<'a, DeclKind>) -> &'a str
+fn declared_name<'a>(tree: &RowTree<'a>) -> &'a str
     ensures { result.now ≡ name_of (declared_name_tree tree.now) }
 {
     match tree.view() {
-        DeclView::Type { name, .. } | DeclView::Const { name, .. } => name.text(),
+        RowView::Declared(DeclView::Type { name, .. })
+        | RowView::Declared(DeclView::Const { name, .. }) => name.text(),
         _ => "",
     }
 }
 
 /// Where the name stands that is declared.
-fn declared_span(tree: &Ref<'_, DeclKind>) -> Span
+fn declared_span(tree: &RowTree<'_>) -> Span
     ensures { result ≡ span_of (declared_name_tree tree.now) }
 {
     match tree.view() {
-        DeclView::Type { name, .. } | DeclView::Const { name, .. } => name.span(),
+        RowView::Declared(DeclView::Type { name, .. })
+        | RowView::Declared(DeclView::Const { name, .. }) => name.span(),
         _ => Span { from: 0, to: 0 },
     }
 }

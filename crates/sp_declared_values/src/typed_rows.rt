@@ -12,7 +12,7 @@ use sp_around::written_in;
 use sp_ast::{DeclView, ExprKind, Ref, TypeKind, is_present};
 use sp_base::{NoMemory, Span, or_drop};
 use sp_constants::Outcome;
-use sp_names::Declaration;
+use sp_names::{Declaration, RowView};
 use sp_typed::Written;
 use sp_typed_units::{Constant, ConstantValue};
 use std::alloc::Global;
@@ -92,12 +92,14 @@ impl<'a> Known<'a> {
             (sort_of row.now.tree)) }
     {
         match row.tree.view() {
-            DeclView::Const {
-                name,
-                type_,
-                value,
-                ..
-            } => {
+            RowView::Declared(
+                DeclView::Const {
+                    name,
+                    type_,
+                    value,
+                    ..
+                },
+            ) => {
                 is_present(&type_);
                 let span = name.span();
                 list.push(self.constant_row(alloc, number, row.module, span, &type_, &value)?)?;

@@ -7,7 +7,7 @@ use Rattle.sp_ast.specs.declared.forms.ItemForm.TheVariants as item_is
 use Rattle.sp_ast.specs.declared.forms.PartForm.TheVariants as part_is
 use Rattle.sp_ast.specs.declared.forms.BodyForm.TheVariants as body_is
 use Rattle.sp_names.specs.declared.rows.Declaration.{Declaration}
-use Rattle.sp_names.specs.Declarations.{rows, number_at}
+use Rattle.sp_names.specs.Declarations.{rows, type_tree_of, number_at}
 use Rattle.sp_around.specs.Members.{unit_in, unit_items}
 use Rattle.sp_hook_rows.specs.declared.sites.Holder.{Holder}
 use Rattle.sp_hook_rows.specs.declared.sites.Holder.TheVariants as holder_is
@@ -33,11 +33,10 @@ abbrev mutual
   sites_among m n none = []
   sites_among m n (more t ts) = sites_in m n t ++ sites_among m n ts
 
--- those of a declaration, which is of this number among its sort
+-- those of a declaration, which is of this number among its sort: itself, or those of the unit that it declares
 abbrev pub sites_of : ℕ → ℕ → Tree → List Site
 sites_of m n (node (form_is.Decl decl_is.On) span ts) = site m 0 (holder_is.Declaration (node (form_is.Decl decl_is.On) span ts))
-sites_of m n (node (form_is.Decl (decl_is.Type public)) span (more name (more type ts))) = sites_among m n (unit_items (unit_in type))
-sites_of m n _ = []
+sites_of m n d = sites_among m n (unit_items (unit_in (type_tree_of d)))
 
 -- those of declarations, where the first has the number g
 abbrev pub sites_from : List Tree → ℕ → List Declaration → List Site

@@ -10,7 +10,7 @@ use sp_ast::{
 };
 use sp_base::{NoMemory, or_drop};
 use sp_name_tables::number;
-use sp_names::Names;
+use sp_names::{Names, RowTree, RowView};
 use std::alloc::Global;
 
 /// What has hooks.
@@ -177,13 +177,13 @@ fn add_declaration<'a>(
     sites: &mut Vec<Site<'a>>,
     module: u32,
     unit: u32,
-    tree: &Ref<'a, DeclKind>,
+    tree: &RowTree<'a>,
 ) -> Result<(), NoMemory>
     ensures { OnOk result (sites.new.items ≡ sites.old.items ++ sites_of «module» unit tree.now) }
 {
     match tree.view() {
-        DeclView::On { .. } => {
-            let holder = Holder::Declaration(tree.again());
+        RowView::Declared(DeclView::On { .. }) => {
+            let holder = Holder::Declaration(Ref::new(tree.lend()));
             sites.push(Site {
                 module,
                 unit: 0,
@@ -191,8 +191,9 @@ fn add_declaration<'a>(
             })?;
             Ok(())
         }
-        DeclView::Type { type_, .. } => add_type(sites, module, unit, &type_),
-        _ => Ok(()),
+        RowView::Declared(DeclView::Type { type_, .. }) => { add_type(sites, module, unit, &type_) }
+        RowView::Declared(_) | RowView::Enum(_) => Ok(()),
+        RowView::Unit(inner) => add_items(sites, module, unit, inner.view().items),
     }
 }
 

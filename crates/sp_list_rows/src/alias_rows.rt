@@ -7,7 +7,7 @@ ghost use Rattle.sp_list_rows.specs.Aliases.{is_alias, if_alias, aliases};
 use sp_around::written_in;
 use sp_ast::{DeclView, Ref, TypeKind, TypeView};
 use sp_base::{NoMemory, or_drop};
-use sp_names::{Declaration, Names};
+use sp_names::{Declaration, Names, RowView};
 use sp_typed_units::Alias;
 use sp_types::Type;
 use std::alloc::Global;
@@ -67,7 +67,7 @@ fn add_alias(
         (is_alias (sort_of row.now.tree))) }
 {
     match row.tree.view() {
-        DeclView::Type { type_, .. } => {
+        RowView::Declared(DeclView::Type { type_, .. }) => {
             add_type(list, names, known, declaration, row.module, &type_)
         }
         _ => Ok(()),

@@ -7,14 +7,15 @@ ghost use Rattle.sp_list_context.specs.Contexts.{in_module};
 ghost use Rattle.sp_list_rows.specs.FunctionsAndOrders.{declared_function, functions};
 
 use sp_around::Here;
+use sp_ast::{DeclView, Ref};
 use sp_base::NoMemory;
 use sp_declared_values::Known;
 use sp_list_context::declared;
-use sp_names::Declaration;
+use sp_names::{Declaration, RowTree, RowView};
 use sp_typed_units::Function;
 use sp_types::Type;
 use sp_typing::Context;
-use sp_typing_heads::function_of;
+use sp_typing_heads::{function_of, no_function};
 use std::alloc::Global;
 
 /// The name of the module of a number in a list.
@@ -22,6 +23,25 @@ fn owner_name<'k>(known: &'k Known<'_>, number: u32) -> &'k str
     ensures { result.now ≡ module_name (module_at known.now.row.now.0 number) }
 {
     known.row.tables().names().module_name(number)
+}
+
+/// The function that a tree declares, in what stands round it in its module.
+fn tree_function<C: Context>(
+    alloc: Global,
+    context: &C,
+    owner: &str,
+    module: u32,
+    tree: &RowTree<'_>,
+) -> Result<Function, NoMemory>
+    ensures { IfOk result (λ g. g
+        ≡ function_of (C.around context.now) owner.now «module» tree.now) }
+{
+    match tree.view() {
+        RowView::Declared(DeclView::Function { .. }) => {
+            function_of(alloc, context, owner, module, &Ref::new(tree.lend()))
+        }
+        _ => no_function(alloc, module),
+    }
 }
 
 /// The function of a declaration, in what stands round it.
@@ -36,7 +56,7 @@ fn function_in<C: Context>(
         found.now.tree) }
 {
     let owner = owner_name(known, found.module);
-    function_of(alloc, context, owner, found.module, &found.tree)
+    tree_function(alloc, context, owner, found.module, &found.tree)
 }
 
 /// The function of a declaration.

@@ -5,9 +5,10 @@ ghost use Rattle.sp_list_rows.specs.FunctionsAndOrders.{declared_order, orders};
 ghost use Rattle.sp_typing_units.specs.Orders.{order_of};
 
 use sp_around::Here;
-use sp_ast::{DeclKind, DeclView, Ref};
+use sp_ast::DeclView;
 use sp_base::{NoMemory, or_drop};
 use sp_declared_values::Known;
+use sp_names::{RowTree, RowView};
 use sp_typed_units::OrderProperty;
 use sp_types::Type;
 use sp_typing_units::order_of;
@@ -20,14 +21,14 @@ fn add_order(
     stored: &[Option<Type>],
     all: &mut Vec<OrderProperty>,
     module: u32,
-    tree: &Ref<'_, DeclKind>,
+    tree: &RowTree<'_>,
 ) -> Result<(), NoMemory>
     ensures { OnOk result (all.new.items ≡ all.old.items ++ declared_order known.now.row.now.0
         (told known.now.row.now.1) (told known.now.answers.now) (told stored.now) «module»
         tree.now) }
 {
     match tree.view() {
-        DeclView::ByteOrder(path) => {
+        RowView::Declared(DeclView::ByteOrder(path)) => {
             let here = Here {
                 tables: known.row.tables(),
                 stored,

@@ -7,10 +7,9 @@ ghost use Rattle.sp_names.specs.Aliases.{first_open, sort_asks, asks, sort_type,
 ghost use Rattle.sp_names.specs.Tables.{Each};
 
 use crate::mentions::add_mentions;
-use sp_ast::DeclView;
 use sp_base::NoMemory;
 use sp_name_tables::number;
-use sp_names::{DeclSort, Declaration, Names, sort_of};
+use sp_names::{DeclSort, Declaration, Names, sort_of, type_of};
 use sp_solver::{Attempt, Questions, answers};
 use sp_types::{Type, Word};
 use std::alloc::Global;
@@ -47,9 +46,9 @@ fn add_asks(names: &Names<'_>, list: &mut Vec<u32>, row: &Declaration<'_>) -> Re
         ++ sort_asks names.now row.now (sort_of row.now.tree)) }
 {
     match sort_of(&row.tree) {
-        DeclSort::Alias => match row.tree.view() {
-            DeclView::Type { type_, .. } => add_mentions(names, list, row.module, &type_),
-            _ => Ok(()),
+        DeclSort::Alias => match type_of(&row.tree) {
+            Some(type_) => add_mentions(names, list, row.module, &type_),
+            None => Ok(()),
         },
         _ => Ok(()),
     }
@@ -90,9 +89,9 @@ fn row_type(
     match sort_of(&row.tree) {
         DeclSort::Unit => Ok(Type::word(Word::Unit(names.number(declaration)))),
         DeclSort::Enum => Ok(Type::word(Word::Enum(names.number(declaration)))),
-        DeclSort::Alias => match row.tree.view() {
-            DeclView::Type { type_, .. } => { names.type_in(alloc, known, row.module, &type_) }
-            _ => Ok(Type::word(Word::Unknown)),
+        DeclSort::Alias => match type_of(&row.tree) {
+            Some(type_) => names.type_in(alloc, known, row.module, &type_),
+            None => Ok(Type::word(Word::Unknown)),
         },
         _ => Ok(Type::word(Word::Unknown)),
     }

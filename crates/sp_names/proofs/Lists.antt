@@ -1,12 +1,16 @@
--- Rows of trees as lists, and what stands at a place of a list.
-use Rattle.std.proofs.Common.{ℕ, ◌≡◌, ◌<◌, ◌+◌, zero, suc, refl, sym, ap, subst, ◌∙◌, arith, List, [], ◌∷◌, ◌++◌, length, Some, None, slice_get, get_or, ◌⊎◌, inl, inr}
+-- Rows of trees as lists, what stands at a place of a list, and that a declaration stands in the row of declarations.
+use Rattle.std.proofs.Common.{ℕ, ◌≡◌, ◌<◌, ◌+◌, zero, suc, refl, sym, ap, subst, ◌∙◌, arith, Bool, true, false, List, [], ◌∷◌, ◌++◌, length, Some, None, slice_get, get_or, ◌⊎◌, inl, inr}
 use Rattle.std.proofs.lemmas.List.{length-append}
-use Rattle.sp_ast.specs.Trees.{Tree, trees}
+use Rattle.sp_ast.specs.Trees.{Tree, absent, row, node, trees}
+use Rattle.sp_ast.specs.Groups.{is_of}
+use Rattle.sp_ast.specs.declared.groups.Group.TheVariants as group_is
+use Rattle.sp_ast.specs.declared.forms.Form.TheVariants as form_is
 use Rattle.sp_ast.specs.declared.views.decl.ModuleView.{ModuleView}
 use Rattle.sp_ast.specs.DeclViews.{module_tree}
 use Rattle.sp_base.specs.declared.places.Span.{Span}
 use Rattle.sp_names.specs.Declarations.{list_of, module_declarations}
 use Rattle.sp_names.specs.Tables.{Each}
+use Rattle.sp_names.specs.RowViews.{is_row}
 
 pub list_of_trees : (xs : List Tree) → list_of (trees xs) ≡ xs
 list_of_trees [] = refl
@@ -39,3 +43,12 @@ each_more Is xs ys n y is long each one = λ i x e. elim (last_or xs y i x (ap (
   | inl l ↦ each i x l
   | inr r ↦ subst (λ j. Is j x) (sym (r.0 ∙ long)) (subst (Is n) r.1 one)
 ]
+
+no_declaration : {X : Type 0} → false ≡ true → X
+no_declaration e = absurd (let z : ⊥ = cc in z)
+
+pub declaration_is_row : (t : Tree) → is_of group_is.Declarations t ≡ true → is_row t ≡ true
+declaration_is_row (node (form_is.Decl form) span ts) e = refl
+declaration_is_row (node _ span ts) e = no_declaration e
+declaration_is_row absent e = no_declaration e
+declaration_is_row (row ts) e = no_declaration e

@@ -19,7 +19,7 @@ use Rattle.sp_names.specs.declared.sort.Meaning.{Meaning}
 use Rattle.sp_names.specs.declared.sort.Meaning.TheVariants as meaning_is
 use Rattle.sp_names.specs.declared.sort.Scope.{Scope}
 use Rattle.sp_names.specs.declared.sort.Scope.TheVariants as scope_is
-use Rattle.sp_names.specs.Declarations.{rows, rows_of, rows_from, base, module_at, module_declarations, declaration_at, sort_of, type_tree_of}
+use Rattle.sp_names.specs.Declarations.{declarations, inner_of, rows, rows_of, rows_from, base, module_at, module_declarations, declaration_at, sort_of, type_tree_of}
 use Rattle.sp_names.specs.Names.{is_name, first_named, declared_name, declared, visible, place_among, library_names, label_in, some_declaration, some_library, some_label, named_in, enum_type, enum_of, own_enum, label_of, behind, in_scope, in_own, meaning_or, means, path_names}
 use Rattle.sp_names.specs.Types.{whole_type, meaning_type, or_unknown, type_in, types_in, one_or_none, named_numbers, mentions, mentions_in, mentions_among}
 use Rattle.sp_names.specs.Aliases.{open_or, first_open, sort_asks, asks, sort_type, when_open, nowhere, try_one, tries, ready}
@@ -211,7 +211,8 @@ declared_within : (list : List Tree) (m : ℕ) (x : List ℕ) (g : ℕ) → decl
 declared_within list m x g e =
     let a = first_within declared_name x (base list m) (module_declarations (module_at list m)) g e in
     let b = base_within 0 list m in
-    omega (arith, a, b)
+    let c = length-append (declarations list) (inner_of (declarations list)) in
+    omega (arith, a, b, c)
 
 one_within : (list : List Tree) (f : ℕ → Option Ty) (m : ℕ) (x : List ℕ) (j : ℕ) → first_open f (one_or_none (declared list m x)) ≡ Some j → j < length (rows list)
 one_within list f m x j e = by_option (j < length (rows list)) (declared list m x)

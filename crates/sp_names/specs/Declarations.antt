@@ -1,4 +1,4 @@
--- A list of modules: its declarations in one row, what each declares, and how they are numbered.
+-- A list of modules: its declarations in one row, with the units and enums in them, what each declares, and how they are numbered.
 use Rattle.std.specs.Prelude.{ℕ, ◌+◌, ◌==◌, suc, Bool, if◌then◌else◌, List, [], ◌∷◌, ◌++◌, length, take, Option, Some, None, slice_get}
 use Rattle.sp_ast.specs.Trees.{Tree, Trees, absent, row, node, none, more}
 use Rattle.sp_ast.specs.declared.forms.Form.TheVariants as form_is
@@ -30,9 +30,10 @@ abbrev pub module_declarations : Tree → List Tree
 module_declarations (node form_is.Module span (more name (more ds ts))) = members ds
 module_declarations _ = []
 
--- the type that a declaration of a type names
+-- the type that a declaration of a type names; a unit or an enum that stands in the row by itself is that type
 abbrev pub type_tree_of : Tree → Tree
 type_tree_of (node (form_is.Decl (decl_is.Type _)) span (more name (more t ts))) = t
+type_tree_of (node (form_is.Type form) span ts) = node (form_is.Type form) span ts
 type_tree_of _ = absent
 
 -- what a declaration declares: a type is a unit or an enum where it is written as one
@@ -47,6 +48,7 @@ sort_of (node (form_is.Decl decl_is.On) span ts) = sort_is.Hook
 sort_of (node (form_is.Decl (decl_is.Type public)) span ts) = type_sort (type_tree_of (node (form_is.Decl (decl_is.Type public)) span ts))
 sort_of (node (form_is.Decl (decl_is.Const _)) span ts) = sort_is.Constant
 sort_of (node (form_is.Decl (decl_is.Function _)) span ts) = sort_is.Function
+sort_of (node (form_is.Type form) span ts) = type_sort (node (form_is.Type form) span ts)
 sort_of _ = sort_is.Property
 
 -- the declarations of a module, with its number
@@ -55,13 +57,52 @@ rows_of m [] = []
 rows_of m (d ∷ ds) = record { «module» = m; tree = d } ∷ rows_of m ds
 
 -- All declarations of a list whose first module has the number m: the modules in order, and in each its declarations in
--- order. A declaration's number is its place in this row, from 0.
+-- order.
 abbrev pub rows_from : ℕ → List Tree → List Declaration
 rows_from m [] = []
 rows_from m (t ∷ ts) = rows_of m (module_declarations t) ++ rows_from (suc m) ts
 
+abbrev pub declarations : List Tree → List Declaration
+declarations list = rows_from 0 list
+
+-- a tree where it is a unit or an enum
+abbrev pub if_inner : Tree → List Tree
+if_inner (node (form_is.Type type_is.Unit) span ts) = node (form_is.Type type_is.Unit) span ts ∷ []
+if_inner (node (form_is.Type type_is.Enum) span ts) = node (form_is.Type type_is.Enum) span ts ∷ []
+if_inner _ = []
+
+-- the units and enums in a tree, in the order of the text, those in others too
+abbrev mutual
+  pub inner_in : Tree → List Tree
+  inner_in absent = []
+  inner_in (row ts) = inner_among ts
+  inner_in (node form span ts) = if_inner (node form span ts) ++ inner_among ts
+
+  pub inner_among : Trees → List Tree
+  inner_among none = []
+  inner_among (more t ts) = inner_in t ++ inner_among ts
+
+-- what a tree is made of
+abbrev pub parts_of : Tree → Trees
+parts_of absent = none
+parts_of (row ts) = ts
+parts_of (node form span ts) = ts
+
+-- what stands inside of a declaration: of one of a type, what stands inside of that type
+abbrev pub inside : Tree → Trees
+inside (node (form_is.Decl (decl_is.Type _)) span (more name (more t ts))) = parts_of t
+inside d = parts_of d
+
+-- The inner units and enums of declarations: those that aren't the whole type of one. None can stand there, and yet all names
+-- in them are asked as in others, so they are in the row of declarations, too. They have no name, and nothing names them.
+abbrev pub inner_of : List Declaration → List Declaration
+inner_of [] = []
+inner_of (d ∷ ds) = rows_of d.«module» (inner_among (inside d.tree)) ++ inner_of ds
+
+-- The declarations of a list, and behind them all its inner units and enums. A declaration's number is its place in this row,
+-- from 0.
 abbrev pub rows : List Tree → List Declaration
-rows list = rows_from 0 list
+rows list = declarations list ++ inner_of (declarations list)
 
 -- the declaration of a number
 abbrev pub declaration_at : List Tree → ℕ → Option Declaration
@@ -69,7 +110,7 @@ declaration_at list g = slice_get (rows list) g
 
 -- the number of the first declaration of a module
 abbrev pub base : List Tree → ℕ → ℕ
-base list m = length (rows (take m list))
+base list m = length (declarations (take m list))
 
 abbrev pub tree_or : Option Tree → Tree
 tree_or None = absent

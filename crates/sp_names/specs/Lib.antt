@@ -1,4 +1,5 @@
 pub mod Declarations
+pub mod RowViews
 pub mod Names
 pub mod Types
 pub mod Aliases

@@ -1,5 +1,5 @@
 -- Rows on which the definitions are run: two modules that import each other, with an enum by aliases, an alias that is made of
--- itself, and names that are both a declaration and a module.
+-- itself, and names that are both a declaration and a module; and one with units and an enum where none can stand.
 use Rattle.std.specs.Prelude.{ℕ, ◌≡◌, false, List, [], ◌∷◌, Option, Some, None, length, map, codes, refl}
 use Rattle.sp_base.specs.declared.places.Span.{Span}
 use Rattle.sp_ast.specs.Trees.{Tree, absent, in_row, tree}
@@ -8,6 +8,7 @@ use Rattle.sp_ast.specs.declared.forms.Form.TheVariants as form_is
 use Rattle.sp_ast.specs.declared.forms.DeclForm.TheVariants as decl_is
 use Rattle.sp_ast.specs.declared.forms.TypeForm.TheVariants as type_is
 use Rattle.sp_ast.specs.declared.forms.ExprForm.TheVariants as expr_is
+use Rattle.sp_ast.specs.declared.forms.ItemForm.TheVariants as item_is
 use Rattle.sp_types.specs.Types.{Ty, word}
 use Rattle.sp_types.specs.declared.words.Word.TheVariants as word_is
 use Rattle.sp_rules.specs.declared.rule.Rule.TheVariants as rule_is
@@ -15,7 +16,7 @@ use Rattle.sp_rules.specs.Least.{broken}
 use Rattle.sp_solver.specs.Rounds.{round}
 use Rattle.sp_names.specs.declared.sort.DeclSort.TheVariants as sort_is
 use Rattle.sp_names.specs.declared.sort.Meaning.TheVariants as meaning_is
-use Rattle.sp_names.specs.Declarations.{rows, all_of}
+use Rattle.sp_names.specs.Declarations.{rows, all_of, number_at}
 use Rattle.sp_names.specs.Names.{declared, means}
 use Rattle.sp_names.specs.Aliases.{tries}
 use Rattle.sp_names.specs.Faults.{name_faults, fault_at}
@@ -147,3 +148,45 @@ faults_row = refl
 
 pub twice_row : broken (name_faults (m ∷ m ∷ []) (λ g. None)) ≡ fault_at rule_is.NameTwice 0 (name (codes "N")) ∷ fault_at rule_is.UnknownName 0 (name (codes "F")) ∷ fault_at rule_is.ModuleTwice 1 (name (codes "M")) ∷ fault_at rule_is.NameTwice 1 (name (codes "N")) ∷ fault_at rule_is.UnknownName 1 (name (codes "F")) ∷ []
 twice_row = refl
+
+-- module O; const C: tuple<unit { var x: enum { A }; }> = 1; type U = unit (p: unit { }) { };
+abbrev unit_of : List Tree → List Tree → Tree
+unit_of parameters items =
+    of (form_is.Type type_is.Unit) (of form_is.Unit (in_row parameters ∷ in_row items ∷ []) ∷ [])
+
+abbrev o : Tree
+o =
+    module_of (codes "O") (
+    of (form_is.Decl (decl_is.Const false)) (
+    name (codes "C")
+    ∷ of (form_is.Type type_is.Tuple) (
+    unit_of [] (
+    of (form_is.Item item_is.Variable) (
+    name (codes "x")
+    ∷ of (form_is.Type type_is.Enum) (label (codes "A") ∷ [])
+    ∷ absent
+    ∷ [])
+    ∷ [])
+    ∷ [])
+    ∷ of (form_is.Expr (expr_is.Number 1)) []
+    ∷ [])
+    ∷ type (codes "U") (
+    unit_of (of (form_is.Parameter false) (name (codes "p") ∷ unit_of [] [] ∷ []) ∷ []) [])
+    ∷ [])
+
+-- behind both declarations stand the unit in C, the enum in that, and the unit in U
+pub inner_units : all_of sort_is.Unit (o ∷ []) ≡ 1 ∷ 2 ∷ 4 ∷ []
+inner_units = refl
+
+pub inner_enum : all_of sort_is.Enum (o ∷ []) ≡ 3 ∷ []
+inner_enum = refl
+
+-- those of all modules stand behind all declarations, and have the numbers behind those that are declared
+pub behind_all : all_of sort_is.Enum (o ∷ m ∷ []) ≡ 3 ∷ 9 ∷ []
+behind_all = refl
+
+pub inner_number : number_at (o ∷ []) 4 ≡ 2
+inner_number = refl
+
+pub inner_type : round (tries (o ∷ [])) 1 3 ≡ Some (word (word_is.Enum 4))
+inner_type = refl

@@ -2,6 +2,7 @@
 #![tactic(auto)]
 
 mod bitfields;
+mod inner;
 mod names;
 mod passes;
 mod paths;
@@ -13,7 +14,7 @@ mod types;
 
 pub use names::Names;
 pub use passes::LIBRARY_ENUMS;
-pub use rows::{Bitfield, Declaration};
+pub use rows::{Bitfield, Declaration, RowTree, RowView};
 pub use sort::{DeclSort, Meaning, Scope};
 pub use table::note_name;
-pub use tell::{declarations_of, is_reserved, labels_of, name_of, sort_of};
+pub use tell::{declarations_of, is_reserved, labels_of, name_of, sort_of, type_of};

@@ -1,22 +1,35 @@
 // The tables over a list of modules, each made in one pass.
 ghost use Rattle.std.specs.Prelude.{◌≡◌, ◌++◌, true, length, slice_get, IfOk, OnOk};
-ghost use Rattle.sp_names.specs.Declarations.{rows, rows_of};
+ghost use Rattle.sp_names.specs.Declarations.{declarations, rows, rows_of};
 ghost use Rattle.sp_names.specs.Names.{label_name, labels_of};
 ghost use Rattle.sp_names.specs.declared.sort.DeclSort.TheVariants as sort_is;
 ghost use Rattle.sp_names.specs.Tables.{Each, IsOf, IsLabels, IsNumber, IsTable, AreSorted, grown, grown_by, number_by};
 ghost use Rattle.sp_name_tables.specs.Tables.{told_by};
 
-use crate::rows::Declaration;
+use crate::inner::inner_of;
+use crate::rows::{Declaration, RowTree};
 use crate::sort::DeclSort;
 use crate::table::{ModuleNames, label_table, module_names};
 use crate::tell::{declarations_of, labels_of, sort_of};
-use sp_ast::{DeclKind, Members, Module};
+use sp_ast::{DeclKind, Members, Module, Ref};
 use sp_base::NoMemory;
 use sp_name_tables::{NameTable, number, sum};
 use std::alloc::Global;
 
 /// How many enums the library has. Their numbers are the first.
 pub const LIBRARY_ENUMS: u32 = 4;
+
+/// The row of a declaration.
+#[tactic(auto, using(crate::proofs::Lists::declaration_is_row))]
+fn declared<'a>(module: u32, tree: &Ref<'a, DeclKind>) -> Declaration<'a>
+    ensures { result ≡ record { «module» = «module»; tree = tree.now } }
+{
+    tree.is_sound();
+    Declaration {
+        module,
+        tree: RowTree::new(tree.lend()),
+    }
+}
 
 fn add_rows<'a>(
     rows: &mut Vec<Declaration<'a>>,
@@ -26,22 +39,32 @@ fn add_rows<'a>(
     ensures { OnOk result (rows.new.items ≡ rows.old.items ++ rows_of «module» declarations.entry) }
 {
     for tree in declarations {
-        rows.push(Declaration { module, tree })?;
+        rows.push(declared(module, &tree))?;
     }
     Ok(())
 }
 
 /// All declarations in one row.
+fn declarations<'a>(alloc: Global, modules: &'a [Module]) -> Result<Vec<Declaration<'a>>, NoMemory>
+    ensures { IfOk result (λ v. v.items ≡ declarations modules.now) }
+{
+    let mut rows = Vec::new(alloc);
+    for i in 0..modules.len() {
+        add_rows(&mut rows, number(i)?, declarations_of(&modules[i]))?;
+    }
+    Ok(rows)
+}
+
+/// All declarations in one row, and behind them all inner units and enums.
 pub(crate) fn all_rows<'a>(
     alloc: Global,
     modules: &'a [Module],
 ) -> Result<Vec<Declaration<'a>>, NoMemory>
     ensures { IfOk result (λ v. v.items ≡ rows modules.now) }
 {
-    let mut rows = Vec::new(alloc);
-    for i in 0..modules.len() {
-        add_rows(&mut rows, number(i)?, declarations_of(&modules[i]))?;
-    }
+    let mut rows = declarations(alloc, modules)?;
+    let mut inner = inner_of(alloc, &rows)?;
+    rows.append(&mut inner)?;
     Ok(rows)
 }
 

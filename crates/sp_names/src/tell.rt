@@ -1,9 +1,11 @@
 // What declarations tell: which name they give, and what they declare.
 ghost use Rattle.std.specs.Prelude.{◌≡◌, [], option_copied, IfSome, IfNone};
+ghost use Rattle.sp_ast.specs.Trees.{absent};
 ghost use Rattle.sp_names.specs.Declarations.{sort_of, type_sort, type_tree_of, module_name, module_declarations};
 ghost use Rattle.sp_names.specs.Faults.{is_reserved};
 ghost use Rattle.sp_names.specs.Names.{declared_name, import_name, label_name, enum_labels};
 
+use crate::rows::{RowTree, RowView};
 use crate::sort::DeclSort;
 use sp_ast::{DeclKind, DeclView, LabelKind, Members, Module, Ref, TypeKind, TypeView};
 
@@ -46,17 +48,32 @@ fn type_sort(tree: &Ref<'_, TypeKind>) -> DeclSort
     }
 }
 
-/// What a declaration declares.
-pub fn sort_of(tree: &Ref<'_, DeclKind>) -> DeclSort
+/// What a declaration declares. An inner unit or enum is one, too.
+pub fn sort_of(tree: &RowTree<'_>) -> DeclSort
     ensures { result ≡ sort_of tree.now }
 {
     match tree.view() {
-        DeclView::Import(_) => DeclSort::Import,
-        DeclView::ByteOrder(_) | DeclView::Version(_) => DeclSort::Property,
-        DeclView::On { .. } => DeclSort::Hook,
-        DeclView::Type { type_, .. } => type_sort(&type_),
-        DeclView::Const { .. } => DeclSort::Constant,
-        DeclView::Function { .. } => DeclSort::Function,
+        RowView::Declared(DeclView::Import(_)) => DeclSort::Import,
+        RowView::Declared(DeclView::ByteOrder(_)) => DeclSort::Property,
+        RowView::Declared(DeclView::Version(_)) => DeclSort::Property,
+        RowView::Declared(DeclView::On { .. }) => DeclSort::Hook,
+        RowView::Declared(DeclView::Type { type_, .. }) => type_sort(&type_),
+        RowView::Declared(DeclView::Const { .. }) => DeclSort::Constant,
+        RowView::Declared(DeclView::Function { .. }) => DeclSort::Function,
+        RowView::Unit(_) => DeclSort::Unit,
+        RowView::Enum(_) => DeclSort::Enum,
+    }
+}
+
+/// The type that a declaration of a type names; an inner unit or enum itself.
+pub fn type_of<'a>(tree: &RowTree<'a>) -> Option<Ref<'a, TypeKind>>
+    ensures some { IfSome result (λ t. type_tree_of tree.now ≡ t) }
+    ensures none { IfNone result (type_tree_of tree.now ≡ absent) }
+{
+    match tree.view() {
+        RowView::Declared(DeclView::Type { type_, .. }) => Some(type_),
+        RowView::Declared(_) => None,
+        RowView::Unit(_) | RowView::Enum(_) => Some(Ref::new(tree.lend())),
     }
 }
 
@@ -86,13 +103,13 @@ fn labels_in<'a>(tree: &Ref<'a, TypeKind>) -> Option<Members<'a, LabelKind>>
 }
 
 /// The labels of a declaration of an enum.
-pub fn labels_of<'a>(tree: &Ref<'a, DeclKind>) -> Option<Members<'a, LabelKind>>
+pub fn labels_of<'a>(tree: &RowTree<'a>) -> Option<Members<'a, LabelKind>>
     ensures some { IfSome result (λ ls. enum_labels (type_tree_of tree.now) ≡ ls) }
     ensures none { IfNone result (enum_labels (type_tree_of tree.now) ≡ []) }
 {
-    match tree.view() {
-        DeclView::Type { type_, .. } => labels_in(&type_),
-        _ => None,
+    match type_of(tree) {
+        Some(type_) => labels_in(&type_),
+        None => None,
     }
 }
 

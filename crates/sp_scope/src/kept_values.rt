@@ -12,7 +12,7 @@ use sp_ast::DeclView;
 use sp_base::{NoMemory, or_drop};
 use sp_constants::{Constants, Measured, Outcome};
 use sp_declared_values::Known;
-use sp_names::Declaration;
+use sp_names::{Declaration, RowView};
 use std::alloc::Global;
 
 /// What a constant is to the typed list: where its value is an error, it has none.
@@ -47,7 +47,7 @@ fn add_constant(
         (told known.now.row.now.1) (told known.now.answers.now) number (sort_of row.now.tree)) }
 {
     match row.tree.view() {
-        DeclView::Const { .. } => {
+        RowView::Declared(DeclView::Const { .. }) => {
             all.push(kept_value(known, number)?)?;
             number.checked_add(1).ok_or(NoMemory)
         }

@@ -88,7 +88,7 @@ fn head_of<C: Context>(
 }
 
 /// What is no function.
-fn no_function(alloc: Global, module: u32) -> Result<Function, NoMemory>
+pub fn no_function(alloc: Global, module: u32) -> Result<Function, NoMemory>
     ensures { IfOk result (λ f. f ≡ no_function «module») }
 {
     let path = Text::new(alloc, "")?;

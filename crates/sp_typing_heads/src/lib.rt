@@ -8,7 +8,7 @@ mod ranks;
 mod site;
 
 pub use events::fits;
-pub use functions::function_of;
+pub use functions::{function_of, no_function};
 pub use hooks::{hook_behind, hook_on};
 pub use ranks::Ranks;
 pub use site::Site;

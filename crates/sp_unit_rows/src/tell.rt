@@ -5,37 +5,37 @@ ghost use Rattle.sp_names.specs.Declarations.{name_of, module_name, module_at};
 ghost use Rattle.sp_typing.specs.Names.{path_of};
 ghost use Rattle.sp_unit_rows.specs.UnitRows.{type_name, is_public};
 
-use sp_ast::{DeclKind, DeclView, Ref};
+use sp_ast::DeclView;
 use sp_base::{NoMemory, Span, Text};
-use sp_names::{Declaration, Names};
+use sp_names::{Declaration, Names, RowTree, RowView};
 use sp_typing::path_of;
 use std::alloc::Global;
 
 /// The name of a type that is declared.
-fn type_name<'a>(tree: &Ref<'a, DeclKind>) -> &'a str
+fn type_name<'a>(tree: &RowTree<'a>) -> &'a str
     ensures { result.now ≡ name_of (type_name tree.now) }
 {
     match tree.view() {
-        DeclView::Type { name, .. } => name.text(),
+        RowView::Declared(DeclView::Type { name, .. }) => name.text(),
         _ => "",
     }
 }
 
 /// Where the name stands of a type that is declared.
-fn name_span(tree: &Ref<'_, DeclKind>) -> Span
+fn name_span(tree: &RowTree<'_>) -> Span
     ensures { result ≡ span_of (type_name tree.now) }
 {
     match tree.view() {
-        DeclView::Type { name, .. } => name.span(),
+        RowView::Declared(DeclView::Type { name, .. }) => name.span(),
         _ => Span { from: 0, to: 0 },
     }
 }
 
-fn is_public(tree: &Ref<'_, DeclKind>) -> bool
+fn is_public(tree: &RowTree<'_>) -> bool
     ensures { result ≡ is_public tree.now }
 {
     match tree.view() {
-        DeclView::Type { public, .. } => public,
+        RowView::Declared(DeclView::Type { public, .. }) => public,
         _ => false,
     }
 }

@@ -25,7 +25,7 @@ use Rattle.sp_ast.specs.declared.forms.TypeForm.TheVariants as type_is
 use Rattle.sp_ast.specs.declared.forms.ItemForm.TheVariants as item_is
 use Rattle.sp_ast.specs.declared.forms.PartForm.TheVariants as part_is
 use Rattle.sp_ast.specs.declared.forms.BodyForm.TheVariants as body_is
-use Rattle.sp_names.specs.Declarations.{list_of, type_tree_of}
+use Rattle.sp_names.specs.Declarations.{list_of, type_tree_of, inner_among, inside as inside_of}
 use Rattle.sp_around.specs.Members.{unit_in, unit_items}
 use Rattle.sp_build.specs.Items.{built}
 use Rattle.sp_build.specs.Building.{IsBuilt}
@@ -33,9 +33,10 @@ use Rattle.sp_build.proofs.Formed.{all_formed}
 use Rattle.sp_build.proofs.Standing.{some_equal}
 use Rattle.sp_build.proofs.Told.{never}
 use Rattle.sp_read_unit.specs.Modules.{IsModule, IsModuleTree}
-use Rattle.sp_list_laws.specs.field_places.Apart.{fields_in, fields_among, place_of, stands_there, are_apart, declared_items, unit_apart, fields_apart}
+use Rattle.sp_list_laws.specs.field_places.Apart.{fields_in, fields_among, place_of, stands_there, are_apart, declared_items, unit_apart, units_apart, fields_apart}
+use Rattle.sp_list_laws.proofs.known_constants_lemmas.Declarations.{AllOf, Passes, inner_pass}
 use Rattle.sp_list_laws.proofs.field_places_lemmas.Rising.{Rises, rises_from, rises_to, in_bounds, rises_parts}
-use Rattle.sp_list_laws.proofs.field_places_lemmas.Places.{places, places_among, is_plain, plain_places}
+use Rattle.sp_list_laws.proofs.field_places_lemmas.Places.{places, places_among, AllRise, EachRises, is_plain, plain_places}
 use Rattle.sp_list_laws.proofs.field_places_lemmas.Stacks.{Holds, bound}
 use Rattle.sp_list_laws.proofs.field_places_lemmas.Runs.{runs}
 
@@ -130,9 +131,6 @@ record AreRising (ts : Trees) : Type 0 where
   high : ℕ
   rises : Rises low (places_among ts) high
 
-nothing_rises : IsRising absent
-nothing_rises = record { formed = refl; low = 0; high = 0; rises = (let z : 0 ≤ 0 = omega arith in z) }
-
 none_rise : AreRising none
 none_rise = record { formed = refl; low = 0; high = 0; rises = (let z : 0 ≤ 0 = omega arith in z) }
 
@@ -168,34 +166,69 @@ items_rise (node _ span ts) h = none_rise
 items_rise absent h = none_rise
 items_rise (row ts) h = none_rise
 
-unit_rises : (t : Tree) → IsRising t → IsRising (unit_in t)
-unit_rises (node (form_is.Type type_is.Unit) span (more unit ts)) h = first unit ts (inside (form_is.Type type_is.Unit) span (more unit ts) refl h)
-unit_rises (node (form_is.Type type_is.Unit) span none) h = nothing_rises
-unit_rises (node (form_is.Type _) span ts) h = nothing_rises
-unit_rises (node _ span ts) h = nothing_rises
-unit_rises absent h = nothing_rises
-unit_rises (row ts) h = nothing_rises
+-- trees that are formed, and in all of which places rise
+abbrev IsOrdered : Tree → Type 0
+IsOrdered t = (is_formed t ≡ true) × AllRise t
 
-type_rises : (d : Tree) → IsRising d → IsRising (type_tree_of d)
-type_rises (node (form_is.Decl (decl_is.Type public)) span (more name (more type ts))) h = first type ts (rest name (more type ts) (inside (form_is.Decl (decl_is.Type public)) span (more name (more type ts)) refl h))
-type_rises (node (form_is.Decl (decl_is.Type public)) span none) h = nothing_rises
-type_rises (node (form_is.Decl (decl_is.Type public)) span (more name none)) h = nothing_rises
-type_rises (node (form_is.Decl _) span ts) h = nothing_rises
-type_rises (node _ span ts) h = nothing_rises
-type_rises absent h = nothing_rises
-type_rises (row ts) h = nothing_rises
+abbrev AreOrdered : Trees → Type 0
+AreOrdered ts = (are_formed ts ≡ true) × EachRises ts
 
-one_apart : (d : Tree) → IsRising d → unit_apart d ≡ true
+ordered_passes : Passes IsOrdered AreOrdered
+ordered_passes = record {
+  parts = λ form span ts h. ((and_parts (fill (slots form) ts) (are_formed ts) h.0).1, h.1.1);
+  in_row = λ ts h. h;
+  first = λ t ts h. ((and_parts (is_formed t) (are_formed ts) h.0).0, h.1.0);
+  rest = λ t ts h. ((and_parts (is_formed t) (are_formed ts) h.0).1, h.1.1);
+  left_out = (refl, tt);
+  nothing = (refl, tt);
+}
+
+own_items : (u : Tree) → IsOrdered u → AreRising (unit_items u)
+own_items (node form_is.Unit span ts) h = items_rise (node form_is.Unit span ts) (record { formed = h.0; low = h.1.0.0; high = h.1.0.1; rises = h.1.0.2 })
+own_items (node _ span ts) h = none_rise
+own_items absent h = none_rise
+own_items (row ts) h = none_rise
+
+unit_ordered : (t : Tree) → IsOrdered t → IsOrdered (unit_in t)
+unit_ordered (node (form_is.Type type_is.Unit) span (more unit ts)) h = ordered_passes.first unit ts (ordered_passes.parts (form_is.Type type_is.Unit) span (more unit ts) h)
+unit_ordered (node (form_is.Type type_is.Unit) span none) h = ordered_passes.left_out
+unit_ordered (node (form_is.Type _) span ts) h = ordered_passes.left_out
+unit_ordered (node _ span ts) h = ordered_passes.left_out
+unit_ordered absent h = ordered_passes.left_out
+unit_ordered (row ts) h = ordered_passes.left_out
+
+type_ordered : (d : Tree) → IsOrdered d → IsOrdered (type_tree_of d)
+type_ordered (node (form_is.Decl (decl_is.Type public)) span (more name (more type ts))) h =
+    ordered_passes.first type ts (ordered_passes.rest name (more type ts) (ordered_passes.parts (form_is.Decl (decl_is.Type public)) span (more name (more type ts)) h))
+type_ordered (node (form_is.Decl (decl_is.Type public)) span none) h = ordered_passes.left_out
+type_ordered (node (form_is.Decl (decl_is.Type public)) span (more name none)) h = ordered_passes.left_out
+type_ordered (node (form_is.Decl _) span ts) h = ordered_passes.left_out
+type_ordered (node (form_is.Type form) span ts) h = h
+type_ordered (node _ span ts) h = ordered_passes.left_out
+type_ordered absent h = ordered_passes.left_out
+type_ordered (row ts) h = ordered_passes.left_out
+
+one_apart : (d : Tree) → IsOrdered d → unit_apart d ≡ true
 one_apart d h =
-    let items = items_rise (unit_in (type_tree_of d)) (unit_rises (type_tree_of d) (type_rises d h)) in
+    let items = own_items (unit_in (type_tree_of d)) (unit_ordered (type_tree_of d) (type_ordered d h)) in
     rising_apart items.low items.high (fields_among (declared_items d)) (among (declared_items d) items.formed items.low items.high items.rises)
 
-row_apart : (ds : Trees) → AreRising ds → list_all unit_apart (list_of ds) ≡ true
-row_apart none h = refl
-row_apart (more d ds) h = and_from (unit_apart d) (list_all unit_apart (list_of ds)) (one_apart d (first d ds h)) (row_apart ds (rest d ds h))
+each_apart : (ts : List Tree) → AllOf IsOrdered ts → list_all unit_apart ts ≡ true
+each_apart [] h = refl
+each_apart (t ∷ ts) h = and_from (unit_apart t) (list_all unit_apart ts) (one_apart t h.0) (each_apart ts h.1)
 
-whole_apart : (t : Tree) → IsRising t → fields_apart t ≡ true
-whole_apart (node form_is.Module span (more name (more (row ds) ts))) h = row_apart ds (in_row ds (first (row ds) ts (rest name (more (row ds) ts) (inside form_is.Module span (more name (more (row ds) ts)) refl h))))
+declared_apart : (d : Tree) → IsOrdered d → units_apart d ≡ true
+declared_apart d h =
+    let ts = inner_among (inside_of d) in
+    and_from (unit_apart d) (list_all unit_apart ts) (one_apart d h) (each_apart ts (inner_pass IsOrdered AreOrdered ordered_passes d h))
+
+row_apart : (ds : Trees) → AreOrdered ds → list_all units_apart (list_of ds) ≡ true
+row_apart none h = refl
+row_apart (more d ds) h = and_from (units_apart d) (list_all units_apart (list_of ds)) (declared_apart d (ordered_passes.first d ds h)) (row_apart ds (ordered_passes.rest d ds h))
+
+whole_apart : (t : Tree) → IsOrdered t → fields_apart t ≡ true
+whole_apart (node form_is.Module span (more name (more (row ds) ts))) h =
+    row_apart ds (ordered_passes.first (row ds) ts (ordered_passes.rest name (more (row ds) ts) (ordered_passes.parts form_is.Module span (more name (more (row ds) ts)) h)))
 whole_apart (node form_is.Module span none) h = refl
 whole_apart (node form_is.Module span (more name none)) h = refl
 whole_apart (node form_is.Module span (more name (more absent ts))) h = refl
@@ -205,7 +238,7 @@ whole_apart absent h = refl
 whole_apart (row ts) h = refl
 
 -- what is built of a module's text
-module_rises : (text : List ℕ) (tokens : List Token) (end : ℕ) (actions : List ActionAt) (t : Tree) → InOrder 0 tokens end → IsModule tokens actions → IsBuilt text tokens actions t → IsRising t
+module_rises : (text : List ℕ) (tokens : List Token) (end : ℕ) (actions : List ActionAt) (t : Tree) → InOrder 0 tokens end → IsModule tokens actions → IsBuilt text tokens actions t → IsOrdered t
 module_rises text tokens end actions t order is done =
     let r = reads_derived (derived Module (numbers_of tokens) actions is) in
     let many : length (numbers_of tokens) ≡ length tokens = numbers_length tokens in
@@ -213,7 +246,7 @@ module_rises text tokens end actions t order is done =
     let p = runs text tokens end order (built t ∷ []) r.1 false refl [] (inl tt) count done in
     let left = some_equal p.does in
     let holds = subst (Holds tokens (bound false r.0) _) left p.holds in
-    record { formed = (all_formed text tokens actions [] (built t ∷ []) done tt).0; low = holds.0; high = _; rises = holds.1 }
+    ((all_formed text tokens actions [] (built t ∷ []) done tt).0, holds.1.1)
 
 pub modules_apart : (lexed : Lexed) (t : Tree) → reading lexed.text ≡ whole lexed.list → IsModuleTree lexed t → fields_apart t ≡ true
 modules_apart lexed t read is = whole_apart t (module_rises lexed.text lexed.list (length lexed.text) is.0 t (order_read lexed.text lexed.list read) is.1 is.2)

@@ -22,6 +22,17 @@ abbrev mutual
   places_among none = []
   places_among (more t ts) = places t ++ places_among ts
 
+-- In each tree, also in fields, the places of the parts rise.
+abbrev mutual
+  pub AllRise : Tree → Type 0
+  AllRise absent = Unit {0}
+  AllRise (row ts) = EachRises ts
+  AllRise (node form span ts) = ((low : ℕ) × (high : ℕ) × Rises low (places_among ts) high) × EachRises ts
+
+  pub EachRises : Trees → Type 0
+  EachRises none = Unit {0}
+  EachRises (more t ts) = AllRise t × EachRises ts
+
 abbrev pub is_name : Form → Bool
 is_name (form_is.Name x) = true
 is_name _ = false

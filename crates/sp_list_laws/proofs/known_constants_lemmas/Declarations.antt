@@ -1,14 +1,17 @@
--- Each declaration of a list in which no rule on the names of declarations is broken is fine in its module; and the parts of constants.
+-- Each declaration of a list in which no rule on the names of declarations is broken is fine in its module, and so is each inner unit and
+-- enum; and the parts of constants.
 use Rattle.std.specs.Prelude.{◌==◌, is_some, not, if◌then◌else◌}
 use Rattle.std.specs.List.{list_all}
 use Rattle.std.proofs.Common.{ℕ, ◌≡◌, ◌+◌, zero, suc, Bool, true, false, ◌&&◌, ◌||◌, refl, sym, ap, subst, ◌∙◌, arith, List, [], ◌∷◌, ◌++◌, length, take, Option, Some, None, slice_get}
 use Rattle.std.proofs.lemmas.Bool.{and_parts, and_from}
 use Rattle.std.proofs.lemmas.Bool.Decides.{nat_tests}
+use Rattle.sp_base.specs.declared.places.Span.{Span}
 use Rattle.sp_ast.specs.Trees.{Tree, Trees, absent, row, node, none, more, span_of}
 use Rattle.sp_ast.specs.Slots.{is_formed, are_formed}
 use Rattle.sp_ast.specs.Groups.{is_of, fits}
 use Rattle.sp_ast.specs.declared.groups.Group.TheVariants as group_is
 use Rattle.sp_ast.specs.declared.groups.Sort.TheVariants as slot_is
+use Rattle.sp_ast.specs.declared.forms.Form.{Form}
 use Rattle.sp_ast.specs.declared.forms.Form.TheVariants as form_is
 use Rattle.sp_ast.specs.declared.forms.DeclForm.TheVariants as decl_is
 use Rattle.sp_ast.specs.declared.forms.TypeForm.TheVariants as type_is
@@ -16,7 +19,7 @@ use Rattle.sp_types.specs.Types.{Ty}
 use Rattle.sp_names.specs.declared.rows.Declaration.{Declaration}
 use Rattle.sp_names.specs.declared.sort.DeclSort.{DeclSort}
 use Rattle.sp_names.specs.declared.sort.DeclSort.TheVariants as sort_is
-use Rattle.sp_names.specs.Declarations.{list_of, module_name, module_declarations, type_tree_of, type_sort, sort_of, rows_of, rows_from, rows, module_at, tree_or, declaration_at}
+use Rattle.sp_names.specs.Declarations.{list_of, module_name, module_declarations, type_tree_of, type_sort, sort_of, rows_of, rows_from, rows, module_at, tree_or, declaration_at, if_inner, inner_in, inner_among, parts_of, inside as inside_of, inner_of, declarations}
 use Rattle.sp_names.specs.Names.{module_named}
 use Rattle.sp_names.specs.Types.{bitfields, bitfields_in, first_placed}
 use Rattle.sp_names.specs.Faults.{is_later, is_reserved, faults_in, module_faults, faults_from, name_faults}
@@ -48,6 +51,73 @@ pub at_all : {A : Type 0} (P : A → Type 0) (xs : List A) (n : ℕ) (x : A) →
 at_all P [] n x h e = none_there x e
 at_all {A} P (y ∷ xs) zero x h e = subst P (some_is y x e) h.0
 at_all P (y ∷ xs) (suc n) x h e = at_all P xs n x h.1 e
+
+-- What holds of some trees holds of each; of a tree it passes to its parts; and it holds of none, and of what is left out.
+pub record Passes (P : Tree → Type 0) (All : Trees → Type 0) : Type 0 where
+  pub parts : (form : Form) (span : Span) (ts : Trees) → P (node form span ts) → All ts
+  pub in_row : (ts : Trees) → P (row ts) → All ts
+  pub first : (t : Tree) (ts : Trees) → All (more t ts) → P t
+  pub rest : (t : Tree) (ts : Trees) → All (more t ts) → All ts
+  pub left_out : P absent
+  pub nothing : All none
+
+module _ (P : Tree → Type 0) (All : Trees → Type 0) (passes : Passes P All) where
+  itself : (t : Tree) → P t → AllOf P (if_inner t)
+  itself (node (form_is.Type type_is.Unit) span ts) h = (h, tt)
+  itself (node (form_is.Type type_is.Enum) span ts) h = (h, tt)
+  itself (node (form_is.Type _) span ts) h = tt
+  itself (node _ span ts) h = tt
+  itself absent h = tt
+  itself (row ts) h = tt
+
+  mutual
+    in_tree : (t : Tree) → P t → AllOf P (inner_in t)
+    in_tree absent h = tt
+    in_tree (row ts) h = among ts (passes.in_row ts h)
+    in_tree (node form span ts) h = both_of P (if_inner (node form span ts)) (inner_among ts) (itself (node form span ts) h) (among ts (passes.parts form span ts h))
+
+    among : (ts : Trees) → All ts → AllOf P (inner_among ts)
+    among none h = tt
+    among (more t ts) h = both_of P (inner_in t) (inner_among ts) (in_tree t (passes.first t ts h)) (among ts (passes.rest t ts h))
+
+  own_parts : (t : Tree) → P t → All (parts_of t)
+  own_parts absent h = passes.nothing
+  own_parts (row ts) h = passes.in_row ts h
+  own_parts (node form span ts) h = passes.parts form span ts h
+
+  within_passes : (d : Tree) → P d → All (inside_of d)
+  within_passes absent h = passes.nothing
+  within_passes (row ts) h = passes.in_row ts h
+  within_passes (node (form_is.Decl (decl_is.Type public)) span (more name (more t ts))) h =
+      own_parts t (passes.first t ts (passes.rest name (more t ts) (passes.parts (form_is.Decl (decl_is.Type public)) span (more name (more t ts)) h)))
+  within_passes (node (form_is.Decl (decl_is.Type public)) span (more name none)) h = passes.parts (form_is.Decl (decl_is.Type public)) span (more name none) h
+  within_passes (node (form_is.Decl (decl_is.Type public)) span none) h = passes.parts (form_is.Decl (decl_is.Type public)) span none h
+  within_passes (node (form_is.Decl form) span ts) h = passes.parts (form_is.Decl form) span ts h
+  within_passes (node form span ts) h = passes.parts form span ts h
+
+  -- the inner units and enums of a declaration
+  pub inner_pass : (d : Tree) → P d → AllOf P (inner_among (inside_of d))
+  inner_pass d h = among (inside_of d) (within_passes d h)
+
+-- in each module what holds there
+module _ (P : ℕ → Tree → Type 0) (All : ℕ → Trees → Type 0) (walk : (m : ℕ) → Passes (P m) (All m)) where
+  abbrev pub Declares : Declaration → Type 0
+  Declares d = P d.«module» d.tree
+
+  placed : (m : ℕ) (ts : List Tree) → AllOf (P m) ts → AllOf Declares (rows_of m ts)
+  placed m [] h = tt
+  placed m (t ∷ ts) h = (h.0, placed m ts h.1)
+
+  inner_declare : (ds : List Declaration) → AllOf Declares ds → AllOf Declares (inner_of ds)
+  inner_declare [] h = tt
+  inner_declare (d ∷ ds) h =
+      let m = d.«module» in
+      let ts = inner_among (inside_of d.tree) in
+      both_of Declares (rows_of m ts) (inner_of ds) (placed m ts (inner_pass (P m) (All m) (walk m) d.tree h.0)) (inner_declare ds h.1)
+
+  -- What holds of all declarations of a list holds of all that stands in their row.
+  pub rows_declare : (list : List Tree) → AllOf Declares (declarations list) → AllOf Declares (rows list)
+  rows_declare list h = both_of Declares (declarations list) (inner_of (declarations list)) h (inner_declare (declarations list) h)
 
 -- a bitfield of a module is found where it begins
 begins_at : (t : Tree) (j : ℕ) (ts : List Tree) → is_some (first_placed (span_of t).from j (t ∷ ts)) ≡ true
@@ -111,8 +181,19 @@ module _ (list : List Tree) (f : ℕ → Option Ty) where
       let found = ap (λ t. list_all (is_found list f m) (bitfields_in t)) (sym (here m t ts at)) ∙ all_found list f m in
       both_of DeclaredFine (rows_of m (module_declarations t)) (rows_from (suc m) ts) (module_fine m t (a.0, c.1, found)) (modules_fine (suc m) ts (later m t ts at) a.1 b.1)
 
+  pub fine_passes : (m : ℕ) → Passes (IsFine list f m) (AreFine list f m)
+  fine_passes m = record {
+    parts = inside list f m;
+    in_row = λ ts h. h;
+    first = first list f m;
+    rest = rest list f m;
+    left_out = (refl, refl, refl);
+    nothing = (refl, refl, refl);
+  }
+
   pub all_fine : list_all is_formed list ≡ true → none_hold (name_faults list f) ≡ true → AllOf DeclaredFine (rows list)
-  all_fine formed names = modules_fine 0 list (λ j. (let e : 0 + j ≡ j = omega arith in ap (slice_get list) e)) formed names
+  all_fine formed names =
+      rows_declare (IsFine list f) (AreFine list f) fine_passes list (modules_fine 0 list (λ j. (let e : 0 + j ≡ j = omega arith in ap (slice_get list) e)) formed names)
 
   pub declaration_fine : list_all is_formed list ≡ true → none_hold (name_faults list f) ≡ true → (g : ℕ) (d : Declaration) → declaration_at list g ≡ Some d → IsFine list f d.«module» d.tree
   declaration_fine formed names g d at = at_all DeclaredFine (rows list) g d (all_fine formed names) at
@@ -175,6 +256,7 @@ constant_parts list f m (node (form_is.Decl (decl_is.Const p)) span (more name (
 constant_parts list f m (node (form_is.Decl (decl_is.Type p)) span ts) s h =
     never (sym (no_type_sort (type_tree_of (node (form_is.Decl (decl_is.Type p)) span ts))) ∙ s)
 constant_parts list f m (node (form_is.Decl _) span ts) s h = never s
+constant_parts list f m (node (form_is.Type form) span ts) s h = never (sym (no_type_sort (node (form_is.Type form) span ts)) ∙ s)
 constant_parts list f m (node _ span ts) s h = never s
 constant_parts list f m absent s h = never s
 constant_parts list f m (row ts) s h = never s

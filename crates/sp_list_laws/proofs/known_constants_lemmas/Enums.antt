@@ -168,6 +168,7 @@ module _ (list : List Tree) (f : ℕ → Option Ty) where
   labels_fine m (node (form_is.Decl (decl_is.Type p)) span (more name (more t ts))) h =
       enum_fine m t (first list f m t ts (rest list f m name (more t ts) (inside list f m (form_is.Decl (decl_is.Type p)) span (more name (more t ts)) h)))
   labels_fine m (node (form_is.Decl _) span ts) h = tt
+  labels_fine m (node (form_is.Type form) span ts) h = enum_fine m (node (form_is.Type form) span ts) h
   labels_fine m (node _ span ts) h = tt
 
   -- the labels of enums before one, and the place of one of its own

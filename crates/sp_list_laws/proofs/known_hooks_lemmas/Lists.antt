@@ -175,6 +175,7 @@ module _ (list : List Tree) (a : Answers list) (formed_list : list_all is_formed
     no_items (node (form_is.Decl (decl_is.Type public)) span none) e = refl
     no_items (node (form_is.Decl (decl_is.Type public)) span (more name none)) e = refl
     no_items (node (form_is.Decl _) span ts) e = refl
+    no_items (node (form_is.Type form) span ts) e = no_unit (node (form_is.Type form) span ts) e
     no_items (node _ span ts) e = refl
     no_items absent e = refl
     no_items (row ts) e = refl

@@ -40,6 +40,7 @@ sites_are m n (node (form_is.Decl (decl_is.Type public)) span (more name (more t
 sites_are m n (node (form_is.Decl (decl_is.Type public)) span none) s = never s
 sites_are m n (node (form_is.Decl (decl_is.Type public)) span (more name none)) s = never s
 sites_are m n (node (form_is.Decl _) span ts) s = never s
+sites_are m n (node (form_is.Type form) span ts) s = refl
 sites_are m n (node _ span ts) s = never s
 sites_are m n absent s = never s
 sites_are m n (row ts) s = never s

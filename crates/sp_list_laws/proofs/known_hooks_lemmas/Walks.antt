@@ -16,22 +16,13 @@ use Rattle.sp_hook_rows.specs.declared.sites.Holder.{Holder}
 use Rattle.sp_hook_rows.specs.declared.sites.Holder.TheVariants as holder_is
 use Rattle.sp_hook_rows.specs.declared.sites.Site.{Site}
 use Rattle.sp_hook_rows.specs.Sites.{sites_in, sites_among, sites_of, sites_from, sites}
-use Rattle.sp_list_laws.proofs.known_constants_lemmas.Declarations.{AllOf, both_of}
+use Rattle.sp_list_laws.proofs.known_constants_lemmas.Declarations.{AllOf, both_of, Passes}
 
 -- the tree that stands at a place
 abbrev pub tree_at : Holder → Tree
 tree_at (holder_is.Declaration t) = t
 tree_at (holder_is.Item t) = t
 tree_at (holder_is.Field t) = t
-
--- What holds of some trees holds of each; of a tree it passes to its parts; and it holds of none, and of what is left out.
-pub record Passes (P : Tree → Type 0) (All : Trees → Type 0) : Type 0 where
-  pub parts : (form : Form) (span : Span) (ts : Trees) → P (node form span ts) → All ts
-  pub in_row : (ts : Trees) → P (row ts) → All ts
-  pub first : (t : Tree) (ts : Trees) → All (more t ts) → P t
-  pub rest : (t : Tree) (ts : Trees) → All (more t ts) → All ts
-  pub left_out : P absent
-  pub nothing : All none
 
 module _ (m n : ℕ) where
   -- those of a declaration: what holds of the items of the unit that it declares, and of itself, if it is a hook
@@ -41,6 +32,7 @@ module _ (m n : ℕ) where
   declared Q (node (form_is.Decl (decl_is.Type public)) span none) own items = tt
   declared Q (node (form_is.Decl (decl_is.Type public)) span (more name none)) own items = tt
   declared Q (node (form_is.Decl _) span ts) own items = tt
+  declared Q (node (form_is.Type form) span ts) own items = items
   declared Q (node _ span ts) own items = tt
   declared Q absent own items = tt
   declared Q (row ts) own items = tt
@@ -107,6 +99,7 @@ module _ (P : ℕ → Tree → Type 0) (All : ℕ → Trees → Type 0) (walk : 
   declared_passes (node (form_is.Decl (decl_is.Type public)) span none) h = passes.left_out
   declared_passes (node (form_is.Decl (decl_is.Type public)) span (more name none)) h = passes.left_out
   declared_passes (node (form_is.Decl _) span ts) h = passes.left_out
+  declared_passes (node (form_is.Type form) span ts) h = h
   declared_passes (node _ span ts) h = passes.left_out
   declared_passes absent h = passes.left_out
   declared_passes (row ts) h = passes.left_out

@@ -14,7 +14,7 @@ use Rattle.sp_names.specs.declared.sort.Meaning.{Meaning}
 use Rattle.sp_names.specs.declared.sort.Meaning.TheVariants as meaning_is
 use Rattle.sp_names.specs.declared.sort.Scope.{Scope}
 use Rattle.sp_names.specs.declared.sort.Scope.TheVariants as scope_is
-use Rattle.sp_names.specs.Declarations.{type_tree_of, type_sort, sort_of, sort_or, sort_at, module_declarations, rows_of, rows_from, tree_or, module_at, base}
+use Rattle.sp_names.specs.Declarations.{declarations, inner_of, type_tree_of, type_sort, sort_of, sort_or, sort_at, module_declarations, rows_of, rows_from, tree_or, module_at, base}
 use Rattle.sp_names.specs.Names.{declared_name, is_name, first_named, declared, visible, place_among, library_names, some_declaration, some_library, named_in, enum_of, own_enum, some_label, label_in, label_of, behind, meaning_or, in_scope, in_own, means}
 use Rattle.sp_list_laws.proofs.known_types_lemmas.Full.{never}
 use Rattle.sp_list_laws.proofs.whole_list_lemmas.Modules.{none_found, some_found}
@@ -81,24 +81,30 @@ row_there h (x ∷ ts) zero t e = ap (λ y. Some (record { «module» = h; tree 
 row_there h (x ∷ ts) (suc j) t e = row_there h ts j t e
 
 there : (h : ℕ) (list : List Tree) (m j : ℕ) (t : Tree) → slice_get (module_declarations (tree_or (slice_get list m))) j ≡ Some t
-    → sort_or (slice_get (rows_from h list) (length (rows_from h (take m list)) + j)) ≡ sort_of t
+    → (d : Declaration) × (slice_get (rows_from h list) (length (rows_from h (take m list)) + j) ≡ Some d) × (sort_of d.tree ≡ sort_of t)
 there h [] m j t e = none_found t e
 there h (x ∷ list) zero j t e =
     let s : 0 + j ≡ j = omega arith in
-    ap (λ i. sort_or (slice_get (rows_of h (module_declarations x) ++ rows_from (suc h) list) i)) s
-    ∙ ap sort_or (in_front (rows_of h (module_declarations x)) (rows_from (suc h) list) j (record { «module» = h; tree = t }) (row_there h (module_declarations x) j t e))
+    let d : Declaration = record { «module» = h; tree = t } in (
+      d,
+      ap (slice_get (rows_of h (module_declarations x) ++ rows_from (suc h) list)) s ∙ in_front (rows_of h (module_declarations x)) (rows_from (suc h) list) j d (row_there h (module_declarations x) j t e),
+      refl,
+    )
 there h (x ∷ list) (suc m) j t e =
     let here = rows_of h (module_declarations x) in
     let later = rows_from (suc h) (take m list) in
     let l = length-append here later in
     let s : length (here ++ later) + j ≡ length here + (length later + j) = omega (arith, l) in
-    ap sort_or (past_front here (rows_from (suc h) list) (length (here ++ later) + j) (length later + j) s) ∙ there (suc h) list m j t e
+    let r = there (suc h) list m j t e in
+    (r.0, past_front here (rows_from (suc h) list) (length (here ++ later) + j) (length later + j) s ∙ r.1, r.2)
 
 module _ (list : List Tree) where
   declared_sort : (m : ℕ) (x : List ℕ) (g : ℕ) → declared list m x ≡ Some g → is_named_sort (sort_at list g) ≡ true
   declared_sort m x g e =
       let r = first_at declared_name x (base list m) (module_declarations (module_at list m)) g e in
-      ap (λ i. is_named_sort (sort_at list i)) (sym r.number) ∙ ap is_named_sort (there 0 list m r.place r.tree r.stands) ∙ tree_named x r.tree r.named
+      let d = there 0 list m r.place r.tree r.stands in
+      let at = in_front (declarations list) (inner_of (declarations list)) (base list m + r.place) d.0 d.1 in
+      ap (λ i. is_named_sort (sort_at list i)) (sym r.number) ∙ ap (λ o. is_named_sort (sort_or o)) at ∙ ap is_named_sort d.2 ∙ tree_named x r.tree r.named
 
   -- what a path means, if that is a declaration, gives a name
   abbrev pub IsNamed : Meaning → Type 0

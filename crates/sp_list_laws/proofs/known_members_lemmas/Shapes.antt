@@ -107,6 +107,7 @@ module _ (list : List Tree) (f : ℕ → Option Ty) (m : ℕ) where
   type_of_unit (node (form_is.Decl (decl_is.Type p)) span none) s h = never s
   type_of_unit (node (form_is.Decl (decl_is.Type p)) span (more name none)) s h = never s
   type_of_unit (node (form_is.Decl _) span ts) s h = never s
+  type_of_unit (node (form_is.Type form) span ts) s h = (h, s)
   type_of_unit (node _ span ts) s h = never s
   type_of_unit absent s h = never s
   type_of_unit (row ts) s h = never s

@@ -43,10 +43,10 @@ use Rattle.sp_checked_list.specs.Rules.{Breaks}
 use Rattle.sp_list_laws.proofs.known_types_lemmas.Full.{never}
 use Rattle.sp_list_laws.specs.known_constants.Fine.{IsFine, AreFine}
 use Rattle.sp_list_laws.proofs.known_constants_lemmas.Fine.{formed, inside, first, rest}
-use Rattle.sp_list_laws.proofs.known_constants_lemmas.Declarations.{AllOf, both_of, at_all, declaration_fine}
+use Rattle.sp_list_laws.proofs.known_constants_lemmas.Declarations.{AllOf, both_of, at_all, declaration_fine, Passes, rows_declare}
 use Rattle.sp_list_laws.proofs.known_members_lemmas.Built.{nothing, none_noted, two_parts}
 use Rattle.sp_list_laws.proofs.known_members_lemmas.Shapes.{no_second, no_third, field_parts, field_whole}
-use Rattle.sp_list_laws.proofs.known_hooks_lemmas.Walks.{Passes, tree_at, places_pass, all_places}
+use Rattle.sp_list_laws.proofs.known_hooks_lemmas.Walks.{tree_at, places_pass, all_places}
 use Rattle.sp_list_laws.proofs.unbroken_list_lemmas.Split.{declared_names}
 
 -- what holds of the trees of modules holds of their declarations
@@ -262,7 +262,7 @@ module _ (list : List Tree) (f : ℕ → Option Ty) where
 pub declarations_built : (texts : Texts) (list : List Tree) (t : Typed) → first_unbuilt texts list t ≡ None → AllOf (λ (x : Declaration). IsBuilt x.tree) (rows list)
 declarations_built texts list t e =
     let none_ = two_parts (tests_from texts 0 list) (kinds_in_units t.units) (none_noted (unbuilt_tests texts list t) e) in
-    modules_pass IsBuilt AreBuilt (built_passes 0) 0 list (all_built texts 0 list none_.0)
+    rows_declare (λ m x. IsBuilt x) (λ m xs. AreBuilt xs) built_passes list (modules_pass IsBuilt AreBuilt (built_passes 0) 0 list (all_built texts 0 list none_.0))
 
 -- no hook is one of elements
 pub rows_whole : (texts : Texts) (list : List Tree) (a : Answers list) → list_all is_formed list ≡ true → ((x : Fault) → Breaks list x → ⊥) → first_unbuilt texts list (typed_of list a) ≡ None → AllOf (λ (r : HookRow). is_of_elements r.of ≡ false) (hook_rows list (told a.types))

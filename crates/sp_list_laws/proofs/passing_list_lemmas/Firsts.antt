@@ -94,6 +94,7 @@ module _ {X : Type 0} (p : Site → Option X) (m n : ℕ) where
     declared none_declared (node (form_is.Decl (decl_is.Type public)) span none) = refl
     declared none_declared (node (form_is.Decl (decl_is.Type public)) span (more name none)) = refl
     declared none_declared (node (form_is.Decl _) span ts) = refl
+    declared none_declared (node (form_is.Type form) span ts) = among (unit_items (unit_in (node (form_is.Type form) span ts)))
     declared none_declared (node _ span ts) = refl
     declared none_declared absent = refl
     declared none_declared (row ts) = refl
@@ -111,6 +112,7 @@ no_items (node (form_is.Decl (decl_is.Type public)) span (more name (more type t
 no_items (node (form_is.Decl (decl_is.Type public)) span none) e = refl
 no_items (node (form_is.Decl (decl_is.Type public)) span (more name none)) e = refl
 no_items (node (form_is.Decl _) span ts) e = refl
+no_items (node (form_is.Type form) span ts) e = no_unit (node (form_is.Type form) span ts) e
 no_items (node _ span ts) e = refl
 no_items absent e = refl
 no_items (row ts) e = refl

@@ -25,7 +25,7 @@ use Rattle.sp_solver.specs.Told.{told}
 use Rattle.sp_names.specs.Types.{or_unknown}
 use Rattle.sp_names.specs.declared.rows.Declaration.{Declaration}
 use Rattle.sp_names.specs.declared.sort.DeclSort.TheVariants as sort_is
-use Rattle.sp_names.specs.Declarations.{module_declarations, rows_of as declared_rows, rows_from, rows, all_of, sort_of, declaration_at, number_at}
+use Rattle.sp_names.specs.Declarations.{inner_among, inside, inner_of, declarations, module_declarations, rows_of as declared_rows, rows_from, rows, all_of, sort_of, declaration_at, number_at}
 use Rattle.sp_around.specs.Members.{unit_items}
 use Rattle.sp_declared_values.specs.Answers.{values}
 use Rattle.sp_hook_order.specs.declared.keys.HookKey.{HookKey}
@@ -61,7 +61,7 @@ use Rattle.sp_list_laws.proofs.known_hooks_lemmas.Sites.{SiteFine, places_fine}
 use Rattle.sp_list_laws.proofs.known_hooks_lemmas.Seen.{IsSeen, all_own}
 use Rattle.sp_list_laws.proofs.known_hooks_lemmas.Contexts.{unit_here}
 use Rattle.sp_list_laws.proofs.known_hooks_lemmas.Rows.{RowGood, rows_good}
-use Rattle.sp_list_laws.specs.field_places.Apart.{place_of, fields_among, are_apart, declared_items, unit_apart, fields_apart}
+use Rattle.sp_list_laws.specs.field_places.Apart.{place_of, fields_among, are_apart, declared_items, unit_apart, units_apart, fields_apart}
 use Rattle.sp_list_laws.specs.passing_list.Hooked.{AreHooked}
 use Rattle.sp_list_laws.proofs.passing_list_lemmas.Members.{found_below}
 use Rattle.sp_list_laws.proofs.passing_list_lemmas.UnitRows.{row_found, of_row}
@@ -69,19 +69,41 @@ use Rattle.sp_list_laws.proofs.passing_list_lemmas.Firsts.{either_of, first_of, 
 use Rattle.sp_list_laws.proofs.passing_list_lemmas.Bodied.{IsWhole, with_body, items_walked}
 use Rattle.sp_list_laws.proofs.passing_list_lemmas.Placed.{own_key, key_there, IsFound, each_found, field_typed, has_body}
 
--- the fields of each declaration stand apart
+-- the fields of each declaration stand apart, those of the units in it, too
 abbrev StandApart : Declaration → Type 0
 StandApart d = unit_apart d.tree ≡ true
 
-declared_apart : (m : ℕ) (ts : List Tree) → list_all unit_apart ts ≡ true → AllOf StandApart (declared_rows m ts)
-declared_apart m [] e = tt
-declared_apart m (t ∷ ts) e = (let p = and_parts (unit_apart t) (list_all unit_apart ts) e in (p.0, declared_apart m ts p.1))
+abbrev AllApart : Declaration → Type 0
+AllApart d = units_apart d.tree ≡ true
 
-modules_apart : (m : ℕ) (ts : List Tree) → list_all fields_apart ts ≡ true → AllOf StandApart (rows_from m ts)
+declared_apart : (m : ℕ) (ts : List Tree) → list_all units_apart ts ≡ true → AllOf AllApart (declared_rows m ts)
+declared_apart m [] e = tt
+declared_apart m (t ∷ ts) e = (let p = and_parts (units_apart t) (list_all units_apart ts) e in (p.0, declared_apart m ts p.1))
+
+modules_apart : (m : ℕ) (ts : List Tree) → list_all fields_apart ts ≡ true → AllOf AllApart (rows_from m ts)
 modules_apart m [] e = tt
 modules_apart m (t ∷ ts) e =
     let p = and_parts (fields_apart t) (list_all fields_apart ts) e in
-    both_of StandApart (declared_rows m (module_declarations t)) (rows_from (suc m) ts) (declared_apart m (module_declarations t) p.0) (modules_apart (suc m) ts p.1)
+    both_of AllApart (declared_rows m (module_declarations t)) (rows_from (suc m) ts) (declared_apart m (module_declarations t) p.0) (modules_apart (suc m) ts p.1)
+
+units_stand : (m : ℕ) (ts : List Tree) → list_all unit_apart ts ≡ true → AllOf StandApart (declared_rows m ts)
+units_stand m [] e = tt
+units_stand m (t ∷ ts) e = (let p = and_parts (unit_apart t) (list_all unit_apart ts) e in (p.0, units_stand m ts p.1))
+
+own_apart : (ds : List Declaration) → AllOf AllApart ds → AllOf StandApart ds
+own_apart [] h = tt
+own_apart (d ∷ ds) h = ((and_parts (unit_apart d.tree) (list_all unit_apart (inner_among (inside d.tree))) h.0).0, own_apart ds h.1)
+
+inner_apart : (ds : List Declaration) → AllOf AllApart ds → AllOf StandApart (inner_of ds)
+inner_apart [] h = tt
+inner_apart (d ∷ ds) h =
+    let ts = inner_among (inside d.tree) in
+    both_of StandApart (declared_rows d.«module» ts) (inner_of ds) (units_stand d.«module» ts (and_parts (unit_apart d.tree) (list_all unit_apart ts) h.0).1) (inner_apart ds h.1)
+
+rows_apart : (list : List Tree) → list_all fields_apart list ≡ true → AllOf StandApart (rows list)
+rows_apart list e =
+    let all = modules_apart 0 list e in
+    both_of StandApart (declarations list) (inner_of (declarations list)) (own_apart (declarations list) all) (inner_apart (declarations list) all)
 
 -- two numbers that differ
 not_same : (i n : ℕ) → (i ≡ n → ⊥) → nat_eq i n ≡ false
@@ -243,7 +265,7 @@ module _ (list : List Tree) (a : Answers list) (formed_list : list_all is_formed
         ∙ ap (λ ts. first_of (key_there list n place) (fields_among ts)) items_are
 
     pub all_apart : are_apart (fields_among here) ≡ true
-    all_apart = subst (λ ts. are_apart (fields_among ts) ≡ true) items_are (at_all StandApart (rows list) g d (modules_apart 0 list apart) is)
+    all_apart = subst (λ ts. are_apart (fields_among ts) ≡ true) items_are (at_all StandApart (rows list) g d (rows_apart list apart) is)
 
     module _ (h : ℕ) (r : HookKey) (x : ℕ × ℕ × ℕ) (below : h < length (ranks_of hs)) (key : key_of_hook (keys_of rs) h ≡ Some r) (mark : mark_of (Some r) ≡ Some x) where
       -- what a field stores that has the body

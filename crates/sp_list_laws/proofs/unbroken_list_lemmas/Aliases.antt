@@ -45,6 +45,7 @@ module _ (list : List Tree) (f : ℕ → Option Ty) where
       let q = rest list f m name (more t ts) (inside list f m (form_is.Decl (decl_is.Type p)) span all h) in
       type_fine list f m t (and_parts (is_of group_is.Types t) (fill [] ts) a.1).0 (first list f m t ts q)
   alias_type m (node (form_is.Decl _) span ts) s h = never s
+  alias_type m (node (form_is.Type form) span ts) s h = type_fine list f m (node (form_is.Type form) span ts) refl h
   alias_type m (node _ span ts) s h = never s
   alias_type m absent s h = never s
   alias_type m (row ts) s h = never s

@@ -106,6 +106,7 @@ shape (node (form_is.Decl (decl_is.Function p)) span (more name (more ps (more r
     no_body (is_of group_is.Names name) (fits (slot_is.Rows group_is.Parameters) ps) (fits (slot_is.Optional group_is.Types) result) (is_of group_is.Blocks body) (are_formed (more name (more ps (more result (more body (more x xs)))))) h
 shape (node (form_is.Decl (decl_is.Type p)) span ts) s h = never (sym (no_type_sort (type_tree_of (node (form_is.Decl (decl_is.Type p)) span ts))) ∙ s)
 shape (node (form_is.Decl _) span ts) s h = never s
+shape (node (form_is.Type form) span ts) s h = never (sym (no_type_sort (node (form_is.Type form) span ts)) ∙ s)
 shape (node _ span ts) s h = never s
 shape absent s h = never s
 shape (row ts) s h = never s

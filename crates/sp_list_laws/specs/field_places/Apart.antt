@@ -6,7 +6,7 @@ use Rattle.sp_ast.specs.declared.forms.Form.TheVariants as form_is
 use Rattle.sp_ast.specs.declared.forms.ItemForm.TheVariants as item_is
 use Rattle.sp_ast.specs.declared.forms.PartForm.TheVariants as part_is
 use Rattle.sp_ast.specs.declared.forms.BodyForm.TheVariants as body_is
-use Rattle.sp_names.specs.Declarations.{module_declarations, type_tree_of}
+use Rattle.sp_names.specs.Declarations.{module_declarations, type_tree_of, inner_among, inside}
 use Rattle.sp_around.specs.Members.{unit_in, unit_items}
 
 -- The fields in items and parts of a unit, in the order of the text, also those in the arms of switches.
@@ -47,8 +47,12 @@ declared_items d = unit_items (unit_in (type_tree_of d))
 abbrev pub unit_apart : Tree → Bool
 unit_apart d = are_apart (fields_among (declared_items d))
 
+-- those of each unit in a declaration, too
+abbrev pub units_apart : Tree → Bool
+units_apart d = unit_apart d && list_all unit_apart (inner_among (inside d))
+
 abbrev pub fields_apart : Tree → Bool
-fields_apart m = list_all unit_apart (module_declarations m)
+fields_apart m = list_all units_apart (module_declarations m)
 
 abbrev pub AreApart : List Tree → Type 0
 AreApart list = IsTrue (list_all fields_apart list)

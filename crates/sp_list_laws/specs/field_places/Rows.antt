@@ -35,14 +35,17 @@ abbrev arm : Tree → Tree
 arm part = of form_is.Arm (of (form_is.Guard guard_is.LookAhead) [] ∷ of (form_is.Body body_is.One) (part ∷ []) ∷ [])
 
 -- type U = unit { a: uint8; switch { -> a: uint8; -> : uint8; } }; where the fields stand at three places
-abbrev declared : ℕ → ℕ → ℕ → Tree
-declared i j k =
-    of (form_is.Decl (decl_is.Type false)) (name 0 (codes "U") ∷ of (form_is.Type type_is.Unit) (
+abbrev unit_type : ℕ → ℕ → ℕ → Tree
+unit_type i j k =
+    of (form_is.Type type_is.Unit) (
     of form_is.Unit (in_row [] ∷ in_row (
     item (field i (name i (codes "a")))
     ∷ item (of (form_is.Part part_is.Switch) (absent ∷ in_row (arm (field j (name j (codes "a"))) ∷ arm (field k absent) ∷ []) ∷ []))
-    ∷ []) ∷ []) ∷ []
-    ) ∷ [])
+    ∷ []) ∷ []) ∷ [])
+
+abbrev declared : ℕ → ℕ → ℕ → Tree
+declared i j k =
+    of (form_is.Decl (decl_is.Type false)) (name 0 (codes "U") ∷ unit_type i j k ∷ [])
 
 abbrev module_tree : ℕ → ℕ → ℕ → Tree
 module_tree i j k = of form_is.Module (name 0 (codes "M") ∷ in_row (declared i j k ∷ []) ∷ [])
@@ -59,3 +62,7 @@ not_apart = refl
 -- other units don't count
 two_units : fields_apart (of form_is.Module (name 0 (codes "M") ∷ in_row (declared 1 2 3 ∷ declared 1 2 3 ∷ []) ∷ [])) ≡ true
 two_units = refl
+
+-- a unit that is the whole type of no declaration counts, too
+inner_unit : fields_apart (of form_is.Module (name 0 (codes "M") ∷ in_row (of (form_is.Decl (decl_is.Const false)) (name 0 (codes "C") ∷ unit_type 1 2 2 ∷ absent ∷ []) ∷ []) ∷ [])) ≡ false
+inner_unit = refl

@@ -10,5 +10,5 @@ returns g c =
     let m = c.args.found.now.«module» in
     let t = c.args.found.now.tree in
     let named = module_name (module_at c.args.known.now.row.now.0 m) in
-    IfOk-weaker c.function_of.result (λ f. f ≡ function_of around c.owner_name-owner.result.now m t) (λ f. f ≡ function_of around named m t)
-    (λ f is. is ∙ ap (λ (o : List ℕ). function_of around o m t) c.owner_name-owner.ensures) c.function_of.ensures
+    IfOk-weaker c.tree_function.result (λ f. f ≡ function_of around c.owner_name-owner.result.now m t) (λ f. f ≡ function_of around named m t)
+    (λ f is. is ∙ ap (λ (o : List ℕ). function_of around o m t) c.owner_name-owner.ensures) c.tree_function.ensures
