@@ -6,10 +6,10 @@ use Rattle.sp_hook_rows.specs.Sites.{site}
 use Rattle.sp_hook_rows.proofs.Steps.{on_site}
 use Rattle.sp_hook_rows.proofs.sites.add_declaration.Goals as goal
 
-pub returns-in_ok-push-in-On : goal.returns-in_ok-push-in-On
-returns-in_ok-push-in-On c =
+pub returns-in_ok-push-in-Declared-On : goal.returns-in_ok-push-in-Declared-On
+returns-in_ok-push-in-Declared-On c =
     let t = c.args.tree.now in
     let old = c.args.sites.now.items in
-    c.in_ok-push-in-On.ensures.items
-    ∙ ap (λ x. old ++ site c.args.«module» 0 (holder_is.Declaration x)) c.again.ensures
-    ∙ ap (λ l. old ++ l) (sym (on_site c.args.«module» c.args.unit (span_of t) (c.in-On.path ∷ optional_tree c.in-On.hook_name ∷ c.in-On.hook ∷ []) t c.in-On.ensures))
+    c.in_ok-push-in-Declared-On.ensures.items
+    ∙ ap (λ x. old ++ site c.args.«module» 0 (holder_is.Declaration x)) (c.new.ensures ∙ c.lend.ensures)
+    ∙ ap (λ l. old ++ l) (sym (on_site c.args.«module» c.args.unit (span_of t) (c.in-Declared-On.path ∷ optional_tree c.in-Declared-On.hook_name ∷ c.in-Declared-On.hook ∷ []) t c.in-Declared-On.ensures))
