@@ -25,7 +25,7 @@ use Rattle.sp_solver.specs.Told.{told}
 use Rattle.sp_names.specs.Types.{or_unknown}
 use Rattle.sp_names.specs.declared.rows.Declaration.{Declaration}
 use Rattle.sp_names.specs.declared.sort.DeclSort.TheVariants as sort_is
-use Rattle.sp_names.specs.Declarations.{inner_among, inside, inner_of, declarations, module_declarations, rows_of as declared_rows, rows_from, rows, all_of, sort_of, declaration_at, number_at}
+use Rattle.sp_names.specs.Declarations.{inner_among, inside as inside_of, inner_of, declarations, module_declarations, rows_of as declared_rows, rows_from, rows, all_of, sort_of, declaration_at, number_at}
 use Rattle.sp_around.specs.Members.{unit_items}
 use Rattle.sp_declared_values.specs.Answers.{values}
 use Rattle.sp_hook_order.specs.declared.keys.HookKey.{HookKey}
@@ -92,12 +92,12 @@ units_stand m (t ∷ ts) e = (let p = and_parts (unit_apart t) (list_all unit_ap
 
 own_apart : (ds : List Declaration) → AllOf AllApart ds → AllOf StandApart ds
 own_apart [] h = tt
-own_apart (d ∷ ds) h = ((and_parts (unit_apart d.tree) (list_all unit_apart (inner_among (inside d.tree))) h.0).0, own_apart ds h.1)
+own_apart (d ∷ ds) h = ((and_parts (unit_apart d.tree) (list_all unit_apart (inner_among (inside_of d.tree))) h.0).0, own_apart ds h.1)
 
 inner_apart : (ds : List Declaration) → AllOf AllApart ds → AllOf StandApart (inner_of ds)
 inner_apart [] h = tt
 inner_apart (d ∷ ds) h =
-    let ts = inner_among (inside d.tree) in
+    let ts = inner_among (inside_of d.tree) in
     both_of StandApart (declared_rows d.«module» ts) (inner_of ds) (units_stand d.«module» ts (and_parts (unit_apart d.tree) (list_all unit_apart ts) h.0).1) (inner_apart ds h.1)
 
 rows_apart : (list : List Tree) → list_all fields_apart list ≡ true → AllOf StandApart (rows list)
