@@ -1,5 +1,5 @@
 use Rattle.std.proofs.Common.{◌∙◌}
-use Rattle.sp_names.proofs.Inner.{one_part, less_behind}
+use Rattle.sp_names.proofs.InnerRows.{one_part, less_behind}
 use Rattle.sp_ast.specs.Trees.{trees, trees_size}
 use Rattle.sp_names.proofs.inner.+add.Goals as goal
 
