@@ -23,6 +23,7 @@ use Rattle.sp_typed_units.specs.declared.declarations.Parameter.{Parameter}
 use Rattle.sp_typed_units.specs.declared.declarations.Unit.{Unit}
 use Rattle.sp_typed_units.specs.Specs.{Spec}
 use Rattle.sp_operands.specs.Operands.{unknown}
+use Rattle.sp_typing.specs.declared.places.Place.TheVariants.{Whole}
 use Rattle.sp_typing.specs.Contexts.{Around}
 use Rattle.sp_typing_units.specs.declared.readings.Read.{Read}
 use Rattle.sp_typing_units.specs.Values.{Values}
@@ -198,7 +199,7 @@ module _ (list : List Tree) (a : Answers list) (formed_list : list_all is_formed
   base_reads (node (form_is.Base base_is.Type) at (more t none)) of h good =
       let ws = more t none in
       let o = and_parts (is_of group_is.Types t) true (formed list f m (form_is.Base base_is.Type) at ws h) in
-      type_reads good.own at t (g.type_in t) (type_fine list f m t o.0 (first list f m t none (parts_fine list f m (form_is.Base base_is.Type) at ws h))) refl good.fine
+      type_reads good.own at t (g.type_in Whole t) (type_fine list f m t o.0 (first list f m t none (parts_fine list f m (form_is.Base base_is.Type) at ws h))) refl good.fine
   base_reads (node (form_is.Base base_is.Type) at (more t (more y z))) of h good = no_first (is_of group_is.Types t) (are_formed (more t (more y z))) h.0
   base_reads (node (form_is.Base base_is.Unit) at none) of h good = never h.0
   base_reads (node (form_is.Base base_is.Unit) at (more path none)) of h good = no_first (is_of group_is.Paths path) (are_formed (more path none)) h.0
