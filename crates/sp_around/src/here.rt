@@ -205,7 +205,14 @@ impl<'a, K: Constants> Context for Here<'a, K> {
         tree: &Ref<'_, TypeKind>,
     ) -> Result<Type, NoMemory> {
         let tables = self.tables;
-        type_at(alloc, tables.names(), tables.known(), self.owner, place, tree)
+        type_at(
+            alloc,
+            tables.names(),
+            tables.known(),
+            self.owner,
+            place,
+            tree,
+        )
     }
 
     fn written(
@@ -215,7 +222,14 @@ impl<'a, K: Constants> Context for Here<'a, K> {
         tree: &Ref<'_, TypeKind>,
     ) -> Result<Written, NoMemory> {
         let tables = self.tables;
-        written_in(alloc, tables.names(), tables.known(), self.owner, place, tree)
+        written_in(
+            alloc,
+            tables.names(),
+            tables.known(),
+            self.owner,
+            place,
+            tree,
+        )
     }
 
     fn member(&self, of: &Type, name: &str) -> Result<Option<Member>, NoMemory> {

@@ -40,12 +40,7 @@ fn is_map(t: &Type) -> bool
     matches!(t.level(), Level::Made(Maker::Map, _))
 }
 
-fn note_bare_local(
-    owner: u32,
-    name: Span,
-    written: &Option<Written>,
-    least: &mut Option<Fault>,
-)
+fn note_bare_local(owner: u32, name: Span, written: &Option<Written>, least: &mut Option<Fault>)
     ensures { least.new ≡ checked least.old (bare_local_tests owner name written.now) }
 {
     match written {

@@ -174,7 +174,9 @@ pub fn source_try<C: Context, V: Constants>(
         (C.around context.now) (V.values constants.now) source.now) }
 {
     match source {
-        Source::Variable(tree) => { Ok(Attempt::Done(context.type_in(alloc, Place::Value, tree)?)) },
+        Source::Variable(tree) => {
+            Ok(Attempt::Done(context.type_in(alloc, Place::Value, tree)?))
+        },
         Source::Sink => Ok(Attempt::Done(Type::word(Word::Sink))),
         Source::Field(tree) => { Ok(field_try(alloc, rows, known, context, constants, tree)?) }
     }
