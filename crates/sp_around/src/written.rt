@@ -135,7 +135,7 @@ fn misplaced_inside(
 
 /// The first type in one that can't stand where it does, where that one stands at a place.
 #[cycle(misplaced)]
-pub fn misplaced_in(
+fn misplaced_in(
     alloc: Global,
     names: &Names<'_>,
     known: &[Option<Type>],
