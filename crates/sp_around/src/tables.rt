@@ -366,7 +366,7 @@ fn bit_tables(alloc: Global, names: &Names<'_>) -> Result<Vec<BitTable>, NoMemor
     Ok(tables)
 }
 
-fn type_at(types: &[Type], number: usize) -> Result<Option<Type>, NoMemory>
+fn numbered_type(types: &[Type], number: usize) -> Result<Option<Type>, NoMemory>
     ensures { IfOk result (λ t. t ≡ slice_get types.now number) }
 {
     match types.get(number) {
@@ -537,7 +537,7 @@ impl<'a> Tables<'a> {
             number) }
     {
         match self.units.get(unit as usize) {
-            Some(table) => type_at(&table.takes, number),
+            Some(table) => numbered_type(&table.takes, number),
             None => Ok(None),
         }
     }
@@ -548,7 +548,7 @@ impl<'a> Tables<'a> {
             function) number) }
     {
         match self.functions.get(function as usize) {
-            Some(table) => type_at(&table.takes, number),
+            Some(table) => numbered_type(&table.takes, number),
             None => Ok(None),
         }
     }
