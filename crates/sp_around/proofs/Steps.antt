@@ -13,21 +13,23 @@ use Rattle.sp_types.specs.Types.{Ty}
 use Rattle.sp_names.specs.declared.rows.Declaration.{Declaration}
 use Rattle.sp_names.specs.declared.rows.Bitfield.{Bitfield}
 use Rattle.sp_names.specs.Declarations.{type_tree_of}
-use Rattle.sp_names.specs.Types.{type_in, bitfields}
+use Rattle.sp_typing.specs.declared.places.Place.TheVariants.{Value}
+use Rattle.sp_names.specs.Types.{bitfields}
 use Rattle.sp_names.specs.Tables.{IsTable}
 use Rattle.sp_names.proofs.Lists.{here, list_of_trees}
 use Rattle.sp_around.specs.declared.tables.UnitTable.{UnitTable}
 use Rattle.sp_around.specs.declared.tables.FunctionTable.{FunctionTable}
 use Rattle.sp_around.specs.declared.tables.BitTable.{BitTable}
 use Rattle.sp_around.specs.Members.{unit_in, members_of, declared_unit, unit_declaration, unit_members, first_member, range_name, bitfield_ranges, bitfield_width, tree_of}
-use Rattle.sp_around.specs.Heads.{parameter_tree, parameter_types, types_of_unit, types_of_function, type_or_void, unit_parameters, result_of, function_declaration}
+use Rattle.sp_around.specs.Heads.{parameter_type, parameter_types, types_of_unit, types_of_function, type_or_void, unit_parameters, result_of, function_declaration}
+use Rattle.sp_around.specs.Written.{type_at}
 use Rattle.sp_around.specs.Arounds.{width_type}
 use Rattle.sp_around.specs.inside.Kept.{IsKept}
 use Rattle.sp_name_tables.specs.Tables.{told_by}
 use Rattle.sp_around.specs.inside.Tables.{IsUnit, IsFunction, IsBits}
 use Rattle.sp_around.proofs.Joining.{length_kinds}
 
-pub one_parameter : (list : List Tree) (f : ℕ → Option Ty) (m : ℕ) (t : Tree) (ts left : List Tree) (old new : List Ty) (u : Ty) → left ≡ t ∷ ts → new ≡ old ++ u ∷ [] → u ≡ type_in list f m (parameter_tree t)
+pub one_parameter : (list : List Tree) (f : ℕ → Option Ty) (m : ℕ) (t : Tree) (ts left : List Tree) (old new : List Ty) (u : Ty) → left ≡ t ∷ ts → new ≡ old ++ u ∷ [] → u ≡ parameter_type list f m t
     → new ++ parameter_types list f m ts ≡ old ++ parameter_types list f m left
 one_parameter list f m t ts left old new u e n is =
     ap (λ l. l ++ parameter_types list f m ts) n
@@ -79,10 +81,10 @@ bits_are list bs n b t e lt at ranges width =
     }
 
 -- a tree that is a type is there
-pub written_is : (list : List Tree) (f : ℕ → Option Ty) (m : ℕ) (span : Span) (v : TypeView) (t : Tree) → type_tree span v ≡ t → type_in list f m t ≡ type_or_void list f m t
-written_is list f m span v t e = sym (ap (type_in list f m) e) ∙ by v ∙ ap (type_or_void list f m) e
+pub written_is : (list : List Tree) (f : ℕ → Option Ty) (m : ℕ) (span : Span) (v : TypeView) (t : Tree) → type_tree span v ≡ t → type_at list f m Value t ≡ type_or_void list f m t
+written_is list f m span v t e = sym (ap (type_at list f m Value) e) ∙ by v ∙ ap (type_or_void list f m) e
   where
-    by : (v : TypeView) → type_in list f m (type_tree span v) ≡ type_or_void list f m (type_tree span v)
+    by : (v : TypeView) → type_at list f m Value (type_tree span v) ≡ type_or_void list f m (type_tree span v)
     by (view.Path p) = refl
     by _ = refl
 

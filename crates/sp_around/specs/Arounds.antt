@@ -28,11 +28,11 @@ use Rattle.sp_names.specs.declared.sort.Meaning.{Meaning}
 use Rattle.sp_names.specs.declared.sort.Meaning.TheVariants as meaning_is
 use Rattle.sp_names.specs.Declarations.{sort_at, number_at}
 use Rattle.sp_names.specs.Names.{path_means}
-use Rattle.sp_names.specs.Types.{type_in, or_unknown}
+use Rattle.sp_names.specs.Types.{or_unknown}
 use Rattle.sp_around.specs.Members.{UnitMember, unit_members, first_member, numbered, kinds_of, range_number, bitfield_width, bitfield_tree}
 use Rattle.sp_around.specs.Heads.{function_takes, unit_takes, function_gives}
 use Rattle.sp_method_types.specs.Methods.{method_of, method_takes, unit_method_takes, sink_method_takes, left_out_of}
-use Rattle.sp_around.specs.Written.{name_span, written_in}
+use Rattle.sp_around.specs.Written.{name_span, type_at, written_in}
 
 -- what is known of a list of modules when its expressions are typed
 pub record Facts : Type 0 where
@@ -141,7 +141,7 @@ around list facts m = record {
   named = path_at list facts.answers facts.constant m;
   itself = λ span. leaf_at span unknown (leaf_is.Itself standing_is.Unmeant);
   current = λ span. leaf_at span unknown (leaf_is.Current standing_is.Unmeant);
-  type_in = type_in list facts.answers m;
+  type_in = type_at list facts.answers m;
   written = written_in list facts.answers m;
   member = member_of list facts.stored;
   method = method_of;

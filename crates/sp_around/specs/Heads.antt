@@ -9,17 +9,20 @@ use Rattle.sp_names.specs.declared.rows.Declaration.{Declaration}
 use Rattle.sp_names.specs.declared.sort.DeclSort.TheVariants as sort_is
 use Rattle.sp_names.specs.Declarations.{members, all_of, type_tree_of}
 use Rattle.sp_names.specs.Names.{declaration_of}
-use Rattle.sp_names.specs.Types.{type_in, unknown}
+use Rattle.sp_names.specs.Types.{unknown}
+use Rattle.sp_typing.specs.declared.places.Place.TheVariants.{Value}
+use Rattle.sp_typing.specs.Places.{parameter_place}
 use Rattle.sp_around.specs.Members.{unit_in, unit_declaration}
+use Rattle.sp_around.specs.Written.{type_at}
 
--- the type of a parameter
-abbrev pub parameter_tree : Tree → Tree
-parameter_tree (node (form_is.Parameter _) span (more name (more t ts))) = t
-parameter_tree _ = absent
+-- the types of parameters
+abbrev pub parameter_type : List Tree → (ℕ → Option Ty) → ℕ → Tree → Ty
+parameter_type list f m (node (form_is.Parameter inout) span (more name (more t ts))) = type_at list f m (parameter_place inout) t
+parameter_type list f m _ = unknown
 
 abbrev pub parameter_types : List Tree → (ℕ → Option Ty) → ℕ → List Tree → List Ty
 parameter_types list f m [] = []
-parameter_types list f m (p ∷ ps) = type_in list f m (parameter_tree p) ∷ parameter_types list f m ps
+parameter_types list f m (p ∷ ps) = parameter_type list f m p ∷ parameter_types list f m ps
 
 -- the parameters of a function
 abbrev pub function_parameters : Tree → List Tree
@@ -53,7 +56,7 @@ unit_takes list f n = types_of_unit list f (unit_declaration list n)
 -- the type of what a function gives: void where nothing is written
 abbrev pub type_or_void : List Tree → (ℕ → Option Ty) → ℕ → Tree → Ty
 type_or_void list f m absent = word word_is.Void
-type_or_void list f m t = type_in list f m t
+type_or_void list f m t = type_at list f m Value t
 
 abbrev pub result_type : List Tree → (ℕ → Option Ty) → ℕ → Tree → Ty
 result_type list f m (node (form_is.Decl (decl_is.Function _)) span (more name (more parameters (more result ts)))) = type_or_void list f m result

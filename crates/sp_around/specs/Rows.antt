@@ -28,6 +28,7 @@ use Rattle.sp_typed.specs.declared.words.ManyOp.TheVariants as many_is
 use Rattle.sp_typed.specs.declared.words.NewOf.TheVariants as new_is
 use Rattle.sp_typed.specs.declared.words.Written.{Written}
 use Rattle.sp_typed_units.specs.declared.declarations.MemberKind.TheVariants as kind_is
+use Rattle.sp_typing.specs.declared.places.Place.TheVariants as place_is
 use Rattle.sp_typing.specs.Contexts.{Around}
 use Rattle.sp_operands.specs.Operands.{unknown, boolean}
 use Rattle.sp_typing.specs.Typing.{leaf_at}
@@ -240,19 +241,48 @@ abbrev found : Option Span → Option Span → Written
 found unnamed misplaced = record { span = span 1; unnamed = unnamed; misplaced = misplaced }
 
 -- `map<vector<uint8>, void>`: the key is the first that can't stand there
-key_row : g.written (at 1 type_is.Map (at 2 type_is.Vector (integer int.Uint8 ∷ []) ∷ at 3 type_is.Void [] ∷ [])) ≡ found None (Some (span 2))
+key_row : g.written place_is.Value (at 1 type_is.Map (at 2 type_is.Vector (integer int.Uint8 ∷ []) ∷ at 3 type_is.Void [] ∷ [])) ≡ found None (Some (span 2))
 key_row = refl
 
--- `vector<U>`: a unit is no element; by itself it may stand
-element_row : g.written (at 1 type_is.Vector (at 2 type_is.Path (path (codes "U" ∷ []) ∷ []) ∷ [])) ≡ found None (Some (span 2))
+-- `vector<U>`: a unit is no element; a local may hold one, and a parameter with `inout` is one, but it is no other value
+abbrev a_unit : ℕ → Tree
+a_unit n = at n type_is.Path (path (codes "U" ∷ []) ∷ [])
+
+element_row : g.written place_is.Whole (at 1 type_is.Vector (a_unit 2 ∷ [])) ≡ found None (Some (span 2))
 element_row = refl
 
-whole_row : g.written (at 1 type_is.Path (path (codes "U" ∷ []) ∷ [])) ≡ found None None
-whole_row = refl
+local_row : g.written place_is.Local (a_unit 1) ≡ found None None
+local_row = refl
 
--- a constant is no type, and what isn't declared names nothing
-no_type : g.written (at 1 type_is.Path (path (codes "C" ∷ []) ∷ [])) ≡ found None (Some (span 1))
+inout_row : g.written place_is.Inout (a_unit 1) ≡ found None None
+inout_row = refl
+
+value_row : g.written place_is.Value (a_unit 1) ≡ found None (Some (span 1))
+value_row = refl
+
+not_inout_row : g.written place_is.Inout (at 1 type_is.Bool []) ≡ found None (Some (span 1))
+not_inout_row = refl
+
+-- `set<vector<vector<U>>>`: the unit alone can't stand there; nothing is asked of what is round it, nor of what is declared with it
+abbrev round_it : Tree
+round_it = at 1 type_is.Set (at 2 type_is.Vector (at 3 type_is.Vector (a_unit 4 ∷ []) ∷ []) ∷ [])
+
+round_row : g.written place_is.Inout round_it ≡ found None (Some (span 4))
+round_row = refl
+
+round_type : g.type_in place_is.Whole round_it ≡ unknown
+round_type = refl
+
+-- what is declared as a unit where none can stand has no type either
+declared_row : g.type_in place_is.Value (a_unit 1) ≡ unknown
+declared_row = refl
+
+-- a constant is no type, and what isn't declared names nothing: nothing is asked round it
+no_type : g.written place_is.Whole (at 1 type_is.Path (path (codes "C" ∷ []) ∷ [])) ≡ found None (Some (span 1))
 no_type = refl
 
-unnamed_row : g.written (at 1 type_is.Set (at 2 type_is.Path (of form_is.Path (tree (form_is.Name (codes "X")) (span 5) [] ∷ []) ∷ []) ∷ [])) ≡ found (Some (span 5)) None
+abbrev no_name : Tree
+no_name = at 3 type_is.Path (of form_is.Path (tree (form_is.Name (codes "X")) (span 5) [] ∷ []) ∷ [])
+
+unnamed_row : g.written place_is.Key (at 1 type_is.Vector (no_name ∷ [])) ≡ found (Some (span 5)) None
 unnamed_row = refl

@@ -10,14 +10,14 @@ ghost use Rattle.sp_solver.specs.Told.{told};
 ghost use Rattle.sp_around.specs.Arounds.{stored_by, type_leaf, declared_at, path_at, member_of, new_takes, target_of, left_out_by};
 
 use crate::tables::Tables;
-use crate::written::{name_span, written_in};
+use crate::written::{name_span, type_at, written_in};
 use sp_ast::{PathKind, Ref, TypeKind};
 use sp_base::{NoMemory, Span};
 use sp_method_types::{fill_method, method_of, method_takes, sink_method_takes, unit_method_takes};
 use sp_names::{DeclSort, Meaning};
 use sp_typed::{Expr, LeafOp, ManyOp, NewOf, Standing, Written};
 use sp_types::{Level, Type, Word};
-use sp_typing::{Callable, Context, Member, leaf_at};
+use sp_typing::{Callable, Context, Member, Place, leaf_at};
 use std::alloc::Global;
 
 /// What tells the types of constants, and the numbers of constant expressions.
@@ -198,14 +198,38 @@ impl<'a, K: Constants> Context for Here<'a, K> {
         Ok(word_at(span, LeafOp::Current(Standing::Unmeant)))
     }
 
-    fn type_in(&self, alloc: Global, tree: &Ref<'_, TypeKind>) -> Result<Type, NoMemory> {
-        self.tables
-            .names()
-            .type_in(alloc, self.tables.known(), self.owner, tree)
+    fn type_in(
+        &self,
+        alloc: Global,
+        place: Place,
+        tree: &Ref<'_, TypeKind>,
+    ) -> Result<Type, NoMemory> {
+        let tables = self.tables;
+        type_at(
+            alloc,
+            tables.names(),
+            tables.known(),
+            self.owner,
+            place,
+            tree,
+        )
     }
 
-    fn written(&self, tree: &Ref<'_, TypeKind>) -> Written {
-        written_in(self.tables.names(), self.tables.known(), self.owner, tree)
+    fn written(
+        &self,
+        alloc: Global,
+        place: Place,
+        tree: &Ref<'_, TypeKind>,
+    ) -> Result<Written, NoMemory> {
+        let tables = self.tables;
+        written_in(
+            alloc,
+            tables.names(),
+            tables.known(),
+            self.owner,
+            place,
+            tree,
+        )
     }
 
     fn member(&self, of: &Type, name: &str) -> Result<Option<Member>, NoMemory> {

@@ -12,4 +12,4 @@ pub use here::{Constants, Here};
 pub use sources::{Question, Source};
 pub use tables::{Tables, declaration_at, unit_in};
 pub use taken::differ;
-pub use written::{Place, misplaced_in, name_span, unnamed_in, written_in};
+pub use written::{name_span, type_at, unnamed_in, written_in};

@@ -9,13 +9,14 @@ ghost use Rattle.sp_names.specs.Names.{declaration_of};
 ghost use Rattle.sp_names.specs.Tables.{Each, IsTable};
 ghost use Rattle.sp_names.specs.Types.{bitfields, unknown, or_unknown};
 ghost use Rattle.sp_around.specs.Members.{UnitMember, unit_in, unit_members, members_of, numbered, first_member, range_name, range_number, bitfield_tree, bitfield_ranges, bitfield_width};
-ghost use Rattle.sp_around.specs.Heads.{parameter_types, types_of_unit, types_of_function, result_of, type_or_void, unit_takes, function_takes, function_gives};
+ghost use Rattle.sp_around.specs.Heads.{parameter_type, parameter_types, types_of_unit, types_of_function, result_of, type_or_void, unit_takes, function_takes, function_gives};
 ghost use Rattle.sp_around.specs.Arounds.{width_type, stored_by, kind_type, kind_member, unit_member, bit_member};
 ghost use Rattle.sp_around.specs.inside.Kept.{IsKept};
 ghost use Rattle.sp_name_tables.specs.Tables.{told_by};
 ghost use Rattle.sp_around.specs.inside.Tables.{IsUnit, IsFunction, IsBits, from_first};
 
 use crate::members::{MemberTable, member_table, no_members};
+use crate::written::type_at;
 use sp_ast::{DeclView, Members, ParameterKind, RangeKind, Ref, TypeKind, TypeView, UnitKind};
 use sp_base::{NoMemory, or_drop};
 use sp_name_tables::{NameTable, declare, look_up, number, sum};
@@ -24,7 +25,7 @@ use sp_numbers::Width;
 use sp_typed::OneOp;
 use sp_typed_units::MemberKind;
 use sp_types::{Type, Word};
-use sp_typing::Member;
+use sp_typing::{Member, Place, parameter_place};
 use std::alloc::Global;
 use std::marker::Model;
 
@@ -60,6 +61,22 @@ pub(crate) struct BitTable {
     pub(crate) width: Type,
 }
 
+/// The type of a parameter.
+fn parameter_type(
+    alloc: Global,
+    names: &Names<'_>,
+    known: &[Option<Type>],
+    owner: u32,
+    parameter: &Ref<'_, ParameterKind>,
+) -> Result<Type, NoMemory>
+    ensures { IfOk result (λ t. t
+        ≡ parameter_type names.now (told known.now) owner parameter.now) }
+{
+    let view = parameter.view();
+    let place = parameter_place(view.inout);
+    type_at(alloc, names, known, owner, place, &view.type_)
+}
+
 /// The types of parameters.
 fn parameter_types(
     alloc: Global,
@@ -73,7 +90,7 @@ fn parameter_types(
 {
     let mut types = Vec::new(alloc);
     for parameter in parameters {
-        types.push(names.type_in(alloc, known, owner, &parameter.view().type_)?)?;
+        types.push(parameter_type(alloc, names, known, owner, &parameter)?)?;
     }
     Ok(types)
 }
@@ -200,7 +217,7 @@ fn written_type(
 {
     // (what it may be shows that it is there)
     let _ = tree.view();
-    names.type_in(alloc, known, owner, tree)
+    type_at(alloc, names, known, owner, Place::Value, tree)
 }
 
 /// The type of what a function gives.
@@ -349,7 +366,7 @@ fn bit_tables(alloc: Global, names: &Names<'_>) -> Result<Vec<BitTable>, NoMemor
     Ok(tables)
 }
 
-fn type_at(types: &[Type], number: usize) -> Result<Option<Type>, NoMemory>
+fn numbered_type(types: &[Type], number: usize) -> Result<Option<Type>, NoMemory>
     ensures { IfOk result (λ t. t ≡ slice_get types.now number) }
 {
     match types.get(number) {
@@ -520,7 +537,7 @@ impl<'a> Tables<'a> {
             number) }
     {
         match self.units.get(unit as usize) {
-            Some(table) => type_at(&table.takes, number),
+            Some(table) => numbered_type(&table.takes, number),
             None => Ok(None),
         }
     }
@@ -531,7 +548,7 @@ impl<'a> Tables<'a> {
             function) number) }
     {
         match self.functions.get(function as usize) {
-            Some(table) => type_at(&table.takes, number),
+            Some(table) => numbered_type(&table.takes, number),
             None => Ok(None),
         }
     }

@@ -1,28 +1,17 @@
 // What is wrong with a type that is written.
-ghost use Rattle.std.specs.Prelude.{◌≡◌};
+ghost use Rattle.std.specs.Prelude.{◌≡◌, IfOk};
 ghost use Rattle.sp_ast.specs.Trees.{trees};
 ghost use Rattle.sp_solver.specs.Told.{told};
-ghost use Rattle.sp_types.specs.Types as type_is;
 ghost use Rattle.sp_typing.specs.Typing.{or_else};
-ghost use Rattle.sp_names.specs.Types.{meaning_type, or_unknown};
-ghost use Rattle.sp_around.specs.Written.{name_span, nothing_at, unnamed_in, unnamed_among, names_type, suits, path_suits, is_key_place, unless, unless_key, misplaced_in, misplaced_among, written_in};
+ghost use Rattle.sp_around.specs.Written.{name_span, nothing_at, unnamed_in, unnamed_among, names_type, unless, misplaced_inside, misplaced_among, misplaced_in, written_in, type_at};
 
 use sp_ast::{Members, PathKind, Ref, TypeKind, TypeView};
-use sp_base::Span;
+use sp_base::{NoMemory, Span};
 use sp_names::{DeclSort, Meaning, Names};
 use sp_typed::Written;
-use sp_types::{Type, Word};
-
-/// Where a type stands.
-#[derive(Clone, Copy)]
-pub enum Place {
-    /// By itself.
-    Whole,
-    /// As a member of a tuple, the element of a vector, or the value of a map.
-    Part,
-    /// As the key of a set or a map.
-    Key,
-}
+use sp_types::Type;
+use sp_typing::{Place, standing, suits};
+use std::alloc::Global;
 
 /// The slice of the text of the name before which so many stand in a path.
 pub fn name_span(path: &Ref<'_, PathKind>, place: u32) -> Span
@@ -107,146 +96,108 @@ fn names_type(names: &Names<'_>, meaning: Meaning) -> bool
     }
 }
 
-fn type_suits(place: Place, found: &Type) -> bool
-    ensures { result ≡ suits place found.now }
-{
-    match place {
-        Place::Whole => true,
-        Place::Part => found.is_plain(),
-        Place::Key => found.is_key(),
-    }
-}
-
-fn word_suits(place: Place, word: Word) -> bool
-    ensures { result ≡ suits place (type_is.word word) }
-{
-    match place {
-        Place::Whole => true,
-        Place::Part => word.is_plain(),
-        Place::Key => word.is_key(),
-    }
-}
-
-/// Whether the type of a declaration may stand at a place.
-fn known_suits(known: &[Option<Type>], place: Place, declaration: u32) -> bool
-    ensures { result ≡ suits place (or_unknown (told known.now declaration)) }
-{
-    match known.get(declaration as usize) {
-        Some(Some(found)) => type_suits(place, found),
-        _ => word_suits(place, Word::Unknown),
-    }
-}
-
-/// Whether what a path means may stand as a type at a place, as far as its type tells.
-fn meaning_suits(known: &[Option<Type>], place: Place, meaning: Meaning) -> bool
-    ensures { result ≡ suits place (meaning_type (told known.now) meaning) }
-{
-    match meaning {
-        Meaning::Declaration(declaration) => known_suits(known, place, declaration),
-        Meaning::LibraryEnum(number) => word_suits(place, Word::Enum(number)),
-        Meaning::Decoder => word_suits(place, Word::Decoder),
-        Meaning::Label { .. } | Meaning::Nothing(_) => word_suits(place, Word::Unknown),
-    }
-}
-
-fn path_suits(names: &Names<'_>, known: &[Option<Type>], place: Place, meaning: Meaning) -> bool
-    ensures { result ≡ path_suits names.now (told known.now) place meaning }
-{
-    names_type(names, meaning) && meaning_suits(known, place, meaning)
-}
-
 fn unless(right: bool, span: Span) -> Option<Span>
     ensures { result ≡ unless right span }
 {
     if right { None } else { Some(span) }
 }
 
-fn is_key(place: Place) -> bool
-    ensures { result ≡ is_key_place place }
+/// The first type inside one that can't stand where it does.
+#[cycle(misplaced)]
+fn misplaced_inside(
+    alloc: Global,
+    names: &Names<'_>,
+    known: &[Option<Type>],
+    owner: u32,
+    tree: &Ref<'_, TypeKind>,
+) -> Result<Option<Span>, NoMemory>
+    ensures { IfOk result (λ o. o ≡ misplaced_inside names.now (told known.now) owner tree.now) }
 {
-    matches!(place, Place::Key)
+    let span = tree.span();
+    match tree.view() {
+        TypeView::Path(path) => Ok(unless(
+            names_type(names, names.means(known, owner, &path)),
+            span,
+        )),
+        TypeView::Tuple(members) => misplaced_among(alloc, names, known, owner, members),
+        TypeView::Vector(element) => {
+            misplaced_in(alloc, names, known, owner, Place::Value, &element)
+        }
+        TypeView::Set(element) => misplaced_in(alloc, names, known, owner, Place::Key, &element),
+        TypeView::Map { key, value } => Ok(or_else(
+            misplaced_in(alloc, names, known, owner, Place::Key, &key)?,
+            misplaced_in(alloc, names, known, owner, Place::Value, &value)?,
+        )),
+        TypeView::Enum(_) | TypeView::Unit(_) => Ok(Some(span)),
+        _ => Ok(None),
+    }
 }
 
-/// The first type in one that can't stand where it does.
+/// The first type in one that can't stand where it does, where that one stands at a place.
 #[cycle(misplaced)]
-pub fn misplaced_in(
+fn misplaced_in(
+    alloc: Global,
     names: &Names<'_>,
     known: &[Option<Type>],
     owner: u32,
     place: Place,
     tree: &Ref<'_, TypeKind>,
-) -> Option<Span>
-    ensures { result ≡ misplaced_in names.now (told known.now) owner place tree.now }
+) -> Result<Option<Span>, NoMemory>
+    ensures { IfOk result (λ o. o ≡ misplaced_in names.now (told known.now) owner place tree.now) }
 {
-    let span = tree.span();
-    match tree.view() {
-        TypeView::Path(path) => unless(
-            path_suits(names, known, place, names.means(known, owner, &path)),
-            span,
-        ),
-        TypeView::Void => unless(word_suits(place, Word::Void), span),
-        TypeView::Tuple(members) => {
-            unless_key(place, span, misplaced_among(names, known, owner, members))
-        }
-        TypeView::Vector(element) => unless_key(
-            place,
-            span,
-            misplaced_in(names, known, owner, Place::Part, &element),
-        ),
-        TypeView::Set(element) => unless_key(
-            place,
-            span,
-            misplaced_in(names, known, owner, Place::Key, &element),
-        ),
-        TypeView::Map { key, value } => {
-            let inside = or_else(
-                misplaced_in(names, known, owner, Place::Key, &key),
-                misplaced_in(names, known, owner, Place::Part, &value),
-            );
-            unless_key(place, span, inside)
-        }
-        TypeView::Enum(_) | TypeView::Unit(_) => Some(span),
-        TypeView::Bitfield { .. } => unless_key(place, span, None),
-        TypeView::Bool | TypeView::Bytes | TypeView::String | TypeView::Int(_) => None,
-    }
-}
-
-fn unless_key(place: Place, span: Span, inside: Option<Span>) -> Option<Span>
-    ensures { result ≡ unless_key place span inside }
-{
-    if is_key(place) { Some(span) } else { inside }
+    let inside = misplaced_inside(alloc, names, known, owner, tree)?;
+    let found = names.type_in(alloc, known, owner, tree)?;
+    Ok(or_else(inside, unless(suits(place, &found), tree.span())))
 }
 
 #[cycle(misplaced)]
 fn misplaced_among(
+    alloc: Global,
     names: &Names<'_>,
     known: &[Option<Type>],
     owner: u32,
     members: Members<'_, TypeKind>,
-) -> Option<Span>
-    ensures { result ≡ misplaced_among names.now (told known.now) owner (trees members.entry) }
+) -> Result<Option<Span>, NoMemory>
+    ensures { IfOk result (λ o. o ≡ misplaced_among names.now (told known.now) owner
+        (trees members.entry)) }
 {
     for member in members {
-        let found = misplaced_in(names, known, owner, Place::Part, &member);
+        let found = misplaced_in(alloc, names, known, owner, Place::Value, &member)?;
         if found.is_some() {
-            return found;
+            return Ok(found);
         }
     }
-    None
+    Ok(None)
 }
 
-/// A type as it is written, where it stands by itself.
+/// A type as it is written at a place.
 pub fn written_in(
+    alloc: Global,
     names: &Names<'_>,
     known: &[Option<Type>],
     owner: u32,
+    place: Place,
     tree: &Ref<'_, TypeKind>,
-) -> Written
-    ensures { result ≡ written_in names.now (told known.now) owner tree.now }
+) -> Result<Written, NoMemory>
+    ensures { IfOk result (λ w. w ≡ written_in names.now (told known.now) owner place tree.now) }
 {
-    Written {
+    Ok(Written {
         span: tree.span(),
         unnamed: unnamed_in(names, known, owner, tree),
-        misplaced: misplaced_in(names, known, owner, Place::Whole, tree),
-    }
+        misplaced: misplaced_in(alloc, names, known, owner, place, tree)?,
+    })
+}
+
+/// The type of what is declared with a type that is written at a place; `Unknown` where it can't stand there.
+pub fn type_at(
+    alloc: Global,
+    names: &Names<'_>,
+    known: &[Option<Type>],
+    owner: u32,
+    place: Place,
+    tree: &Ref<'_, TypeKind>,
+) -> Result<Type, NoMemory>
+    ensures { IfOk result (λ t. t ≡ type_at names.now (told known.now) owner place tree.now) }
+{
+    Ok(standing(place, names.type_in(alloc, known, owner, tree)?))
 }

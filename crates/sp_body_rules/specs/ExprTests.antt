@@ -52,9 +52,9 @@ leaf_tests m e _ = []
 abbrev pub negates : Expr → Bool
 negates e = is_number e || stands_alone unary_is.Negate (type_of e)
 
--- whether a type that is written in a cast is no integer type; where a name in it names nothing, nothing is asked
+-- whether a type that is written in a cast is no integer type; where something in it is wrong, nothing is asked
 abbrev pub takes_no_cast : Ty → Written → Bool
-takes_no_cast t w = not (is_integer t) && is_none w.unnamed
+takes_no_cast t w = not (is_integer t) && (is_none w.unnamed && is_none w.misplaced)
 
 -- A cast takes integers and enums, and gives an integer. What is no integer type is said at the type, and so is a signed type
 -- to which an enum goes.

@@ -333,6 +333,9 @@ cast_of_bytes = refl
 cast_to_truth : at_node (one_at 1 nothing (cast_to None) (local 3 uint8)) ≡ ((rule_is.TypeMismatch, 2) ∷ [])
 cast_to_truth = refl
 
+cast_to_nowhere : at_node (one_at 1 nothing (one_is.Cast (record { span = on 2; unnamed = None; misplaced = Some (on 4) })) (local 3 uint8)) ≡ ((rule_is.TypeMismatch, 4) ∷ [])
+cast_to_nowhere = refl
+
 cast_to_no_name : at_node (one_at 1 nothing (cast_to (Some (on 2))) (local 3 uint8)) ≡ []
 cast_to_no_name = refl
 
@@ -502,8 +505,15 @@ return_of_narrower = refl
 local_of_past : at_stmt None (valued_at 1 (valued_is.Local (local_of uint8)) (number 3 uint8 300)) ≡ ((rule_is.NotAssignable, 3) ∷ [])
 local_of_past = refl
 
-local_of_a_unit : at_stmt None (bare_at 1 (bare_is.Local (local_of some_unit))) ≡ ((rule_is.TypeMismatch, 2) ∷ [])
-local_of_a_unit = refl
+-- one of a type that can't stand there is of an unknown type: nothing is asked of its value
+abbrev local_of_none : Local
+local_of_none = record { slot = 0; name = on 1; ty = nothing; written = Some (record { span = on 2; unnamed = None; misplaced = Some (on 3) }); taken = false }
+
+local_without_value : at_stmt None (bare_at 1 (bare_is.Local local_of_none)) ≡ ((rule_is.TypeMismatch, 3) ∷ [])
+local_without_value = refl
+
+local_with_value : at_stmt None (valued_at 1 (valued_is.Local local_of_none) (number 4 uint64 1)) ≡ ((rule_is.TypeMismatch, 3) ∷ [])
+local_with_value = refl
 
 local_of_nothing : at_stmt None (bare_at 1 (bare_is.Local (record { slot = 0; name = on 2; ty = nothing; written = None; taken = false }))) ≡ ((rule_is.TypeMismatch, 2) ∷ [])
 local_of_nothing = refl

@@ -5,7 +5,7 @@ use Rattle.sp_rules.specs.declared.rule.Rule.TheVariants as rule_is
 use Rattle.sp_rules.specs.declared.fault.Fault.{Fault}
 use Rattle.sp_words.specs.declared.operators.AssignOp.{AssignOp}
 use Rattle.sp_words.specs.declared.operators.AssignOp.TheVariants as assign_is
-use Rattle.sp_types.specs.Types.{Ty, Tys, word, made, is_known, is_plain}
+use Rattle.sp_types.specs.Types.{Ty, Tys, word, made}
 use Rattle.sp_types.specs.Types as types
 use Rattle.sp_types.specs.declared.words.Word.{Word}
 use Rattle.sp_types.specs.declared.words.Word.TheVariants as word_is
@@ -27,10 +27,6 @@ use Rattle.sp_rules.specs.Faults.{at}
 use Rattle.sp_body_rules.specs.Known.{Known}
 use Rattle.sp_body_rules.specs.ExprTests.{may_change}
 
-abbrev pub is_unit : Ty → Bool
-is_unit (word (word_is.Unit n)) = true
-is_unit _ = false
-
 abbrev pub is_sink : Ty → Bool
 is_sink (word word_is.Sink) = true
 is_sink _ = false
@@ -39,23 +35,19 @@ abbrev pub is_map : Ty → Bool
 is_map (made maker_is.Map ts) = true
 is_map _ = false
 
--- what a local may hold: a value of a plain type, or a unit
-abbrev pub holds_none : Ty → Bool
-holds_none t = is_known t && not (is_plain t || is_unit t)
-
--- a local without a value needs a type, and one of a unit needs a value
-abbrev pub bare_local_tests : ℕ → Span → Ty → Option Written → List (Bool × Fault)
-bare_local_tests m name t None = (true, at m rule_is.TypeMismatch name) ∷ []
-bare_local_tests m name t (Some w) = written_tests m w ++ ((is_unit t || holds_none t, at m rule_is.TypeMismatch w.span) ∷ [])
+-- a local without a value needs a type
+abbrev pub bare_local_tests : ℕ → Span → Option Written → List (Bool × Fault)
+bare_local_tests m name None = (true, at m rule_is.TypeMismatch name) ∷ []
+bare_local_tests m name (Some w) = written_tests m w
 
 -- a local and its value, which goes to the type that is written; without one it can't be a sink
 abbrev pub local_tests : ℕ → Ty → Option Written → Expr → List (Bool × Fault)
 local_tests m t None e = right_tests m (not (is_sink (type_of e))) e
-local_tests m t (Some w) e = written_tests m w ++ ((holds_none t, at m rule_is.TypeMismatch w.span) ∷ target_tests m t e)
+local_tests m t (Some w) e = written_tests m w ++ target_tests m t e
 
 -- a word that stands where it means nothing
 abbrev pub bare_op_tests : Option Ty → ℕ → Span → BareOp → List (Bool × Fault)
-bare_op_tests wanted m span (bare_is.Local l) = bare_local_tests m l.name l.ty l.written
+bare_op_tests wanted m span (bare_is.Local l) = bare_local_tests m l.name l.written
 bare_op_tests wanted m span bare_is.Return = (not (is_none wanted), at m rule_is.NotAssignable span) ∷ []
 bare_op_tests wanted m span (bare_is.Break meant) = (not meant, at m rule_is.OutsideLoop span) ∷ []
 bare_op_tests wanted m span (bare_is.Continue meant) = (not meant, at m rule_is.OutsideLoop span) ∷ []

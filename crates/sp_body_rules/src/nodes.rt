@@ -56,7 +56,7 @@ fn negates(e: &Expr) -> bool
 fn takes_no_cast(to: &Type, written: &Written) -> bool
     ensures { result ≡ takes_no_cast to.now written.now }
 {
-    !is_integer(to) && written.unnamed.is_none()
+    !is_integer(to) && written.unnamed.is_none() && written.misplaced.is_none()
 }
 
 #[tactic(auto, using(crate::proofs::Swept::checked_more))]

@@ -10,7 +10,7 @@ ghost use Rattle.sp_operands.specs.declared.operators.OperatorSort.TheVariants a
 ghost use Rattle.sp_body_rules.specs.Known.{Known};
 ghost use Rattle.sp_body_rules.specs.Values.{right_tests};
 ghost use Rattle.sp_rules.specs.Faults.{at};
-ghost use Rattle.sp_body_rules.specs.StmtTests.{is_unit, is_sink, is_map, holds_none, bare_local_tests, local_tests, bare_op_tests, return_tests, has_changed_keys, key_change_tests, change_tests, alone_tests, valued_op_tests, takes_target, assign_tests, print_tests, branches_tests, is_sequence, differs, case_tests, cases_tests, stmt_tests};
+ghost use Rattle.sp_body_rules.specs.StmtTests.{is_sink, is_map, bare_local_tests, local_tests, bare_op_tests, return_tests, has_changed_keys, key_change_tests, change_tests, alone_tests, valued_op_tests, takes_target, assign_tests, print_tests, branches_tests, is_sequence, differs, case_tests, cases_tests, stmt_tests};
 ghost use Rattle.sp_typed.specs.StmtViews.{stmt_of};
 
 use crate::calls::may_change;
@@ -27,13 +27,6 @@ use sp_typed::{BareOp, Expr, ExprLevel, Local, Stmt, StmtNode, TwoOp, ValuedOp, 
 use sp_types::{Level, Maker, Type, Word};
 use sp_words::AssignOp;
 
-/// Whether a type is that of a unit.
-pub fn is_unit(t: &Type) -> bool
-    ensures { result ≡ is_unit t.now }
-{
-    matches!(t.level(), Level::Word(Word::Unit(_)))
-}
-
 /// Whether a type is that of a sink.
 pub fn is_sink(t: &Type) -> bool
     ensures { result ≡ is_sink t.now }
@@ -47,35 +40,12 @@ fn is_map(t: &Type) -> bool
     matches!(t.level(), Level::Made(Maker::Map, _))
 }
 
-/// Whether a type is one of which a local holds no values: it is neither plain nor that of a unit.
-fn holds_none(t: &Type) -> bool
-    ensures { result ≡ holds_none t.now }
-{
-    t.is_known() && !(t.is_plain() || is_unit(t))
-}
-
-#[tactic(auto, using(crate::proofs::Swept::checked_more))]
-fn note_bare_local(
-    owner: u32,
-    name: Span,
-    ty: &Type,
-    written: &Option<Written>,
-    least: &mut Option<Fault>,
-)
-    ensures { least.new ≡ checked least.old (bare_local_tests owner name ty.now written.now) }
+fn note_bare_local(owner: u32, name: Span, written: &Option<Written>, least: &mut Option<Fault>)
+    ensures { least.new ≡ checked least.old (bare_local_tests owner name written.now) }
 {
     match written {
         None => note_at(true, owner, Rule::TypeMismatch, name, least),
-        Some(written) => {
-            note_written(owner, written, least);
-            note_at(
-                is_unit(ty) || holds_none(ty),
-                owner,
-                Rule::TypeMismatch,
-                written.span,
-                least,
-            );
-        }
+        Some(written) => note_written(owner, written, least),
     }
 }
 
@@ -93,13 +63,6 @@ fn note_local(
         None => note_right(!is_sink(value.ty()), owner, value, least),
         Some(written) => {
             note_written(owner, written, least);
-            note_at(
-                holds_none(ty),
-                owner,
-                Rule::TypeMismatch,
-                written.span,
-                least,
-            );
             note_target(owner, ty, value, least);
         }
     }
@@ -110,7 +73,7 @@ fn note_bare(wanted: &Option<Type>, owner: u32, span: Span, op: &BareOp, least: 
 {
     match op {
         BareOp::Local(local) => {
-            note_bare_local(owner, local.name, &local.ty, &local.written, least);
+            note_bare_local(owner, local.name, &local.written, least);
         }
         BareOp::Return => {
             note_at(wanted.is_some(), owner, Rule::NotAssignable, span, least);

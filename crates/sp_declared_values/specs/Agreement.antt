@@ -21,6 +21,7 @@ use Rattle.sp_typed.specs.declared.words.ManyOp.TheVariants as many_is
 use Rattle.sp_typed.specs.declared.words.NewOf.{NewOf}
 use Rattle.sp_typed.specs.Exprs.{Expr, Exprs, is_minus, is_number}
 use Rattle.sp_typed.specs.Exprs as expr
+use Rattle.sp_typing.specs.declared.places.Place.TheVariants.{Whole}
 use Rattle.sp_typing.specs.declared.context.Callable.{Callable}
 use Rattle.sp_typing.specs.Contexts.{Around}
 use Rattle.sp_operands.specs.Literals.{seen}
@@ -230,7 +231,7 @@ module _ (list : List Tree) (f : ℕ → Option Ty) (before after : ℕ → Opti
       typed_same (node (form_is.Expr (expr_is.TypedNumber w)) span (more n none)) s = (refl, tt)
       typed_same (node (form_is.Expr expr_is.Cast) span (more t (more e none))) s =
           let a = typed_same e (first e none (rest t (more e none) s)) in
-          (ap (typing.one_at span (typing.cast_type (g.type_in t)) (one_is.Cast (g.written t))) a.0, a.1)
+          (ap (typing.one_at span (typing.cast_type (g.type_in Whole t)) (one_is.Cast (g.written Whole t))) a.0, a.1)
       typed_same (node (form_is.Expr expr_is.New) span (more path (more (row ts) none))) s =
           let at = read.span_of path in
           let c = path_same m at path (first path (more (row ts) none) s) in

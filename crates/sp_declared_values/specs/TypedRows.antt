@@ -21,6 +21,7 @@ use Rattle.sp_names.specs.declared.sort.DeclSort.TheVariants as sort_is
 use Rattle.sp_names.specs.Declarations.{rows, all_of, sort_of, name_of, module_name, module_at, type_tree_of, library_enums}
 use Rattle.sp_names.specs.Names.{declaration_of, enum_labels, library_names, library_labels}
 use Rattle.sp_ast.specs.Views.{present}
+use Rattle.sp_typing.specs.declared.places.Place.TheVariants as place_is
 use Rattle.sp_around.specs.Written.{written_in}
 use Rattle.sp_constants.specs.declared.outcome.Outcome.{Outcome}
 use Rattle.sp_constants.specs.declared.outcome.Outcome.TheVariants.{Value, Regex, NotConstant, Error, Unknown}
@@ -72,7 +73,7 @@ no_span = record { from = 0; to = 0 }
 module _ (list : List Tree) (f : ℕ → Option Ty) (known : ℕ → Option Answer) where
   abbrev pub maybe_written : ℕ → Option Tree → Option Written
   maybe_written m None = None
-  maybe_written m (Some t) = Some (written_in list f m t)
+  maybe_written m (Some t) = Some (written_in list f m place_is.Value t)
 
   -- the constant of a number, as it is declared
   abbrev pub constant_row : ℕ → ℕ → Span → Option Tree → Tree → Constant

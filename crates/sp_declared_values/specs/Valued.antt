@@ -12,7 +12,9 @@ use Rattle.sp_names.specs.declared.sort.Meaning.{Meaning}
 use Rattle.sp_names.specs.declared.sort.Meaning.TheVariants as meaning_is
 use Rattle.sp_names.specs.Declarations.{rows, all_of, sort_of, sort_at, number_at, type_tree_of, library_enums}
 use Rattle.sp_names.specs.Names.{declaration_of, enum_labels, own_labels, path_means}
-use Rattle.sp_names.specs.Types.{type_in, one_or_none}
+use Rattle.sp_names.specs.Types.{one_or_none}
+use Rattle.sp_typing.specs.declared.places.Place.TheVariants.{Value}
+use Rattle.sp_around.specs.Written.{type_at}
 use Rattle.sp_ast.specs.Views.{present}
 use Rattle.sp_declared_values.specs.declared.valued.Valued.{Valued}
 use Rattle.sp_declared_values.specs.declared.valued.Valued.TheVariants as is
@@ -28,7 +30,7 @@ value_tree _ = absent
 
 abbrev pub written_type : List Tree → (ℕ → Option Ty) → ℕ → Option Tree → Option Ty
 written_type list f m None = None
-written_type list f m (Some t) = Some (type_in list f m t)
+written_type list f m (Some t) = Some (type_at list f m Value t)
 
 abbrev pub constant_of : List Tree → (ℕ → Option Ty) → Declaration → Valued
 constant_of list f d =

@@ -3,10 +3,12 @@ ghost use Rattle.std.specs.Prelude.{◌≡◌, IfOk};
 ghost use Rattle.sp_solver.specs.Told.{told};
 ghost use Rattle.sp_declared_values.specs.Valued.{written_type};
 
+use sp_around::type_at;
 use sp_ast::{Ref, TypeKind};
 use sp_base::NoMemory;
 use sp_names::Names;
 use sp_types::Type;
+use sp_typing::Place;
 use std::alloc::Global;
 
 /// The type that is written, if one is.
@@ -20,7 +22,7 @@ pub(crate) fn written_type(
     ensures { IfOk result (λ t. t ≡ written_type names.now (told known.now) owner part.now) }
 {
     match part {
-        Some(tree) => Ok(Some(names.type_in(alloc, known, owner, tree)?)),
+        Some(tree) => Ok(Some(type_at(alloc, names, known, owner, Place::Value, tree)?)),
         None => Ok(None),
     }
 }

@@ -15,6 +15,7 @@ use sp_constants::Outcome;
 use sp_names::{Declaration, RowView};
 use sp_typed::Written;
 use sp_typed_units::{Constant, ConstantValue};
+use sp_typing::Place;
 use std::alloc::Global;
 
 /// What a constant is where it is used in no expression.
@@ -32,14 +33,20 @@ fn shown_value(found: Outcome) -> ConstantValue
 
 impl<'a> Known<'a> {
     /// The type that is written, as it is written.
-    fn maybe_written(&self, owner: u32, part: &Option<Ref<'_, TypeKind>>) -> Option<Written>
-        ensures { result ≡ maybe_written self.now.row.now.0 (told self.now.row.now.1)
-            (told self.now.answers.now) owner part.now }
+    fn maybe_written(
+        &self,
+        alloc: Global,
+        owner: u32,
+        part: &Option<Ref<'_, TypeKind>>,
+    ) -> Result<Option<Written>, NoMemory>
+        ensures { IfOk result (λ w. w ≡ maybe_written self.now.row.now.0
+            (told self.now.row.now.1) (told self.now.answers.now) owner part.now) }
     {
-        let tables = self.row.tables();
+        let names = self.row.tables().names();
+        let known = self.row.tables().known();
         match part {
-            Some(tree) => Some(written_in(tables.names(), tables.known(), owner, tree)),
-            None => None,
+            Some(tree) => Ok(Some(written_in(alloc, names, known, owner, Place::Value, tree)?)),
+            None => Ok(None),
         }
     }
 
@@ -57,6 +64,7 @@ impl<'a> Known<'a> {
             (told self.now.answers.now) number owner span part.now value.now) }
     {
         let tables = self.row.tables();
+        let written = self.maybe_written(alloc, owner, part)?;
         let to = written_type(alloc, tables.names(), tables.known(), owner, part)?;
         let ty = or_drop!(sp_around::Constants::constant_type(self, number); to);
         let found = or_drop!(
@@ -70,7 +78,7 @@ impl<'a> Known<'a> {
             module: owner,
             span,
             ty,
-            written: self.maybe_written(owner, part),
+            written,
             expr,
             value: shown_value(found.into_outcome()),
         })

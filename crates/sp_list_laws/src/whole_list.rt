@@ -6,7 +6,8 @@ pub fn types_are_full()
     ensures { TypesAreFull }
 {}
 
-/// Where each declaration of a type has a full one, a type that is written in a module is full, unless it can't stand there.
+/// Where each declaration of a type has a full one, what is declared with a type that is written in a module has a full type, unless
+/// that can't stand there.
 pub fn written_types_are_full()
     ensures { WrittenTypesAreFull }
 {}

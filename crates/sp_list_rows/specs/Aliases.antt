@@ -7,6 +7,7 @@ use Rattle.sp_names.specs.declared.rows.Declaration.{Declaration}
 use Rattle.sp_names.specs.declared.sort.DeclSort.{DeclSort}
 use Rattle.sp_names.specs.declared.sort.DeclSort.TheVariants as sort_is
 use Rattle.sp_names.specs.Declarations.{rows, sort_of, type_tree_of}
+use Rattle.sp_typing.specs.declared.places.Place.TheVariants.{Whole}
 use Rattle.sp_around.specs.Written.{written_in}
 
 abbrev pub is_alias : DeclSort → Bool
@@ -17,7 +18,7 @@ module _ (list : List Tree) (f : ℕ → Option Ty) where
   -- the alias of a number in a module: what is written, and whether it has no answer, so that it is made of itself
   abbrev pub alias : ℕ → ℕ → Tree → Alias
   alias g m t =
-      record { «module» = m; written = written_in list f m t; endless = not (is_some (f g)) }
+      record { «module» = m; written = written_in list f m Whole t; endless = not (is_some (f g)) }
 
   abbrev pub if_alias : ℕ → ℕ → Tree → Bool → List Alias
   if_alias g m t true = alias g m t ∷ []

@@ -10,6 +10,7 @@ use sp_base::{NoMemory, or_drop};
 use sp_names::{Declaration, Names, RowView};
 use sp_typed_units::Alias;
 use sp_types::Type;
+use sp_typing::Place;
 use std::alloc::Global;
 
 /// Whether a declaration has no type, so that it is made of itself.
@@ -34,6 +35,7 @@ fn is_alias(tree: &Ref<'_, TypeKind>) -> bool
 
 /// Puts a type that is declared on the list, if it is an alias.
 fn add_type(
+    alloc: Global,
     list: &mut Vec<Alias>,
     names: &Names<'_>,
     known: &[Option<Type>],
@@ -47,7 +49,7 @@ fn add_type(
     if is_alias(tree) {
         list.push(Alias {
             module: owner,
-            written: written_in(names, known, owner, tree),
+            written: written_in(alloc, names, known, owner, Place::Whole, tree)?,
             endless: is_endless(known, declaration),
         })?;
     }
@@ -56,6 +58,7 @@ fn add_type(
 
 /// Puts a declaration on the list, if it is an alias.
 fn add_alias(
+    alloc: Global,
     list: &mut Vec<Alias>,
     names: &Names<'_>,
     known: &[Option<Type>],
@@ -68,7 +71,7 @@ fn add_alias(
 {
     match row.tree.view() {
         RowView::Declared(DeclView::Type { type_, .. }) => {
-            add_type(list, names, known, declaration, row.module, &type_)
+            add_type(alloc, list, names, known, declaration, row.module, &type_)
         }
         _ => Ok(()),
     }
@@ -86,7 +89,7 @@ pub fn aliases(
     let rows = names.rows();
     let mut list = Vec::new(alloc);
     for i in 0..rows.len() {
-        or_drop!(add_alias(&mut list, names, known, i, &rows[i]); list);
+        or_drop!(add_alias(alloc, &mut list, names, known, i, &rows[i]); list);
     }
     Ok(list)
 }

@@ -4,7 +4,7 @@ use Rattle.std.specs.Prelude.{ℕ, ◌==◌, Bool, true, false, not, ◌&&◌, �
 use Rattle.sp_rules.specs.declared.rule.Rule.TheVariants as rule_is
 use Rattle.sp_rules.specs.declared.fault.Fault.{Fault}
 use Rattle.sp_numbers.specs.declared.width.Width.TheVariants.{W64}
-use Rattle.sp_types.specs.Types.{Ty, word, is_known, is_plain, goes}
+use Rattle.sp_types.specs.Types.{Ty, word, is_known, goes}
 use Rattle.sp_types.specs.declared.words.Word.TheVariants as word_is
 use Rattle.sp_typed.specs.declared.words.Written.{Written}
 use Rattle.sp_typed.specs.Exprs.{Expr, leaf, one, two, three, many, type_of, span_of, is_literal}
@@ -34,7 +34,7 @@ use Rattle.sp_body_rules.specs.Known.{Known}
 use Rattle.sp_body_rules.specs.Values.{is_regex, value_span, value_tests, right_tests, condition_tests, target_tests, written_tests}
 use Rattle.sp_rules.specs.Faults.{at}
 use Rattle.sp_body_rules.specs.ExprTests.{unlike, expr_tests, is_not_constant}
-use Rattle.sp_body_rules.specs.StmtTests.{stmt_tests, is_unit}
+use Rattle.sp_body_rules.specs.StmtTests.{stmt_tests}
 use Rattle.sp_body_rules.specs.Sweeps.{end_tests}
 use Rattle.sp_list_rules.specs.Lists.{all_tests, option_tests}
 use Rattle.sp_list_rules.specs.Slots.{for_slots}
@@ -49,17 +49,9 @@ inside_tests k m e = all_tests (expr_tests k m) (nodes e)
 abbrev pub body_tests : Known → Option Ty → ℕ → Stmt → List (Bool × Fault)
 body_tests k wanted m s = all_tests (stmt_tests k wanted m) (stmts_in s) ++ all_tests (expr_tests k m) (stmt_nodes s)
 
--- Parameters are of plain types, or `inout` and units.
-abbrev pub parameter_suits : Bool → Ty → Bool
-parameter_suits inout t = if is_unit t then inout else is_plain t && not inout
-
+-- the type of a parameter, which is plain, or a unit with `inout`
 abbrev pub parameter_tests : ℕ → Parameter → List (Bool × Fault)
-parameter_tests m p =
-    written_tests m p.written ++ ((is_known p.ty && not (parameter_suits p.inout p.ty), at m rule_is.TypeMismatch p.written.span) ∷ [])
-
--- a written type that has to be plain
-abbrev pub plain_tests : ℕ → Ty → Written → List (Bool × Fault)
-plain_tests m t w = written_tests m w ++ ((is_known t && not (is_plain t), at m rule_is.TypeMismatch w.span) ∷ [])
+parameter_tests m p = written_tests m p.written
 
 -- the type of what a function gives, where one is written
 abbrev pub wanted_of : Option Written → Ty → Option Ty
@@ -74,7 +66,7 @@ given_tests t values wanted f =
 -- A function: its parameters, its result, and its body.
 abbrev pub function_tests : Typed → Values → Function → List (Bool × Fault)
 function_tests t values f =
-    all_tests (parameter_tests f.«module») f.parameters ++ (option_tests (plain_tests f.«module» f.result) f.written ++ given_tests t values (wanted_of f.written f.result) f)
+    all_tests (parameter_tests f.«module») f.parameters ++ (option_tests (written_tests f.«module») f.written ++ given_tests t values (wanted_of f.written f.result) f)
 
 -- a value of a type that has to be constant
 abbrev pub constant_tests : Known → ℕ → Bool → Expr → List (Bool × Fault)
@@ -100,11 +92,11 @@ hook_tests t values h = if is_of_nothing h.of then [] else own_hook_tests t valu
 -- regular expression may stand there, also as either value of `c ? a : b`.
 abbrev pub regex_tests : ℕ → Ty → Option Written → Expr → List (Bool × Fault)
 regex_tests m t None e = []
-regex_tests m t (Some w) e = plain_tests m t w ++ ((is_known t, at m rule_is.NotAssignable (span_of e)) ∷ [])
+regex_tests m t (Some w) e = written_tests m w ++ ((is_known t, at m rule_is.NotAssignable (span_of e)) ∷ [])
 
 abbrev pub told_tests : ℕ → Ty → Option Written → Expr → List (Bool × Fault)
 told_tests m t None e = value_tests m e
-told_tests m t (Some w) e = plain_tests m t w ++ target_tests m t e
+told_tests m t (Some w) e = written_tests m w ++ target_tests m t e
 
 abbrev pub declared_tests : ℕ → Ty → Option Written → Expr → List (Bool × Fault)
 declared_tests m t w e = if is_regex (type_of e) then regex_tests m t w e else told_tests m t w e
@@ -191,4 +183,4 @@ first_value_tests k m t e = target_tests m t e ++ inside_tests k m e
 
 abbrev pub variable_tests : Known → ℕ → List Member → Variable → List (Bool × Fault)
 variable_tests k m members v =
-    plain_tests m (member_type (slice_get members v.member)) v.written ++ option_tests (first_value_tests k m (member_type (slice_get members v.member))) v.value
+    written_tests m v.written ++ option_tests (first_value_tests k m (member_type (slice_get members v.member))) v.value

@@ -4,7 +4,6 @@ ghost use Rattle.sp_rules.specs.Least.{checked};
 ghost use Rattle.sp_list_rules.specs.Lists.{all_tests, option_tests};
 ghost use Rattle.sp_list_rules.specs.Bodies.{regex_tests, told_tests, declared_tests, value_or_regex_tests, const_choice_tests, inside_const, lacks_value, const_tests, lacks_number, is_past_label, is_minus_literal, is_below_zero, is_signed_zero, is_no_number, number_tests, label_tests, enum_tests, alias_tests, conversion_tests};
 
-use crate::functions::note_plain;
 use crate::inside::note_inside;
 use sp_base::NoMemory;
 use sp_body_rules::{
@@ -22,7 +21,7 @@ fn note_regex(owner: u32, ty: &Type, written: &Option<Written>, e: &Expr, least:
     ensures { least.new ≡ checked least.old (regex_tests owner ty.now written.now e.now) }
 {
     if let Some(written) = written {
-        note_plain(owner, ty, written, least);
+        note_written(owner, written, least);
         note_at(ty.is_known(), owner, Rule::NotAssignable, e.span(), least);
     }
 }
@@ -34,7 +33,7 @@ fn note_told(owner: u32, ty: &Type, written: &Option<Written>, e: &Expr, least: 
     match written {
         None => note_value(owner, e, least),
         Some(written) => {
-            note_plain(owner, ty, written, least);
+            note_written(owner, written, least);
             note_target(owner, ty, e, least);
         }
     }

@@ -1,38 +1,19 @@
 // The rules of bodies over functions.
-ghost use Rattle.std.specs.Prelude.{◌≡◌, ◌&&◌, not, IfOk, OnOk};
+ghost use Rattle.std.specs.Prelude.{◌≡◌, IfOk, OnOk};
 ghost use Rattle.sp_rules.specs.Least.{checked};
+ghost use Rattle.sp_body_rules.specs.Values.{written_tests};
 ghost use Rattle.sp_list_rules.specs.Lists.{all_tests, option_tests};
-ghost use Rattle.sp_list_rules.specs.Bodies.{parameter_suits, parameter_tests, plain_tests, wanted_of, given_tests, function_tests};
+ghost use Rattle.sp_list_rules.specs.Bodies.{parameter_tests, wanted_of, given_tests, function_tests};
 
 use crate::inside::note_own_body;
 use sp_base::NoMemory;
-use sp_body_rules::{is_unit, note_end, note_written};
+use sp_body_rules::{note_end, note_written};
 use sp_constants::Constants;
-use sp_rules::{Fault, Rule, note_at};
+use sp_rules::Fault;
 use sp_typed::Written;
 use sp_typed_units::{Function, Parameter, Typed};
 use sp_types::Type;
 use std::alloc::Global;
-
-fn parameter_suits(inout: bool, ty: &Type) -> bool
-    ensures { result ≡ parameter_suits inout ty.now }
-{
-    if is_unit(ty) {
-        inout
-    } else {
-        ty.is_plain() && !inout
-    }
-}
-
-#[tactic(auto, using(crate::proofs::Checked::checked_more))]
-fn note_parameter(owner: u32, parameter: &Parameter, least: &mut Option<Fault>)
-    ensures { least.new ≡ checked least.old (parameter_tests owner parameter.now) }
-{
-    let span = parameter.written.span;
-    let wrong = parameter.ty.is_known() && !parameter_suits(parameter.inout, &parameter.ty);
-    note_written(owner, &parameter.written, least);
-    note_at(wrong, owner, Rule::TypeMismatch, span, least);
-}
 
 /// Notes what is wrong with parameters.
 #[tactic(auto, using(crate::proofs::Checked::checked_more))]
@@ -40,26 +21,16 @@ pub(crate) fn note_parameters(owner: u32, parameters: &[Parameter], least: &mut 
     ensures { least.new ≡ checked least.old (all_tests (parameter_tests owner) parameters.now) }
 {
     for parameter in parameters {
-        note_parameter(owner, parameter, least);
+        note_written(owner, &parameter.written, least);
     }
 }
 
-/// Notes what is wrong with a written type that has to be plain.
-#[tactic(auto, using(crate::proofs::Checked::checked_more))]
-pub(crate) fn note_plain(owner: u32, ty: &Type, written: &Written, least: &mut Option<Fault>)
-    ensures { least.new ≡ checked least.old (plain_tests owner ty.now written.now) }
-{
-    let wrong = ty.is_known() && !ty.is_plain();
-    note_written(owner, written, least);
-    note_at(wrong, owner, Rule::TypeMismatch, written.span, least);
-}
-
 /// Notes what is wrong with the type of what a function gives, where it is written.
-fn note_result(owner: u32, ty: &Type, written: &Option<Written>, least: &mut Option<Fault>)
-    ensures { least.new ≡ checked least.old (option_tests (plain_tests owner ty.now) written.now) }
+fn note_result(owner: u32, written: &Option<Written>, least: &mut Option<Fault>)
+    ensures { least.new ≡ checked least.old (option_tests (written_tests owner) written.now) }
 {
     if let Some(written) = written {
-        note_plain(owner, ty, written, least);
+        note_written(owner, written, least);
     }
 }
 
@@ -121,7 +92,7 @@ fn note_function<C: Constants>(
 {
     let owner = function.module;
     note_parameters(owner, function.parameters.as_slice(), least);
-    note_result(owner, &function.result, &function.written, least);
+    note_result(owner, &function.written, least);
     note_function_body(alloc, typed, constants, function, least)
 }
 

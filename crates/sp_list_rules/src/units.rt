@@ -5,11 +5,11 @@ ghost use Rattle.sp_list_rules.specs.Lists.{all_tests, option_tests};
 ghost use Rattle.sp_list_rules.specs.Bodies.{is_enum_of, order_tests, member_type, first_value_tests, variable_tests};
 ghost use Rattle.sp_list_rules.specs.Wholes.{unit_tests};
 
-use crate::functions::{note_parameters, note_plain};
+use crate::functions::note_parameters;
 use crate::inside::{note_constant_value, note_inside};
 use crate::parts::note_parts;
 use sp_base::NoMemory;
-use sp_body_rules::{Facts, note_target};
+use sp_body_rules::{Facts, note_target, note_written};
 use sp_rules::Fault;
 use sp_typed::Expr;
 use sp_typed_units::{Member, OrderProperty, Unit, Variable};
@@ -102,7 +102,7 @@ fn note_variable<F: Facts>(
         (variable_tests (F.known facts.now) owner members.now variable.now)) }
 {
     let ty = member_type(members, variable.member)?;
-    note_plain(owner, &ty, &variable.written, least);
+    note_written(owner, &variable.written, least);
     let noted = note_first_value(alloc, facts, owner, &ty, &variable.value, least);
     drop(ty);
     noted

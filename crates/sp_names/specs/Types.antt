@@ -7,7 +7,7 @@ use Rattle.sp_ast.specs.Trees.{Tree, Trees, absent, row, node, none, more, span_
 use Rattle.sp_ast.specs.declared.forms.Form.{Form}
 use Rattle.sp_ast.specs.declared.forms.Form.TheVariants as form_is
 use Rattle.sp_ast.specs.declared.forms.TypeForm.TheVariants as type_is
-use Rattle.sp_types.specs.Types.{Ty, Tys, word, made, is_key, is_plain, are_plain}
+use Rattle.sp_types.specs.Types.{Ty, Tys, word, made, is_known, are_known, is_key, is_plain, are_plain}
 use Rattle.sp_types.specs.Types as types
 use Rattle.sp_types.specs.declared.words.Word.TheVariants as word_is
 use Rattle.sp_types.specs.declared.words.Maker.{Maker}
@@ -87,12 +87,13 @@ may_hold maker_is.Set (types.more t us) = is_key t
 may_hold maker_is.Map (types.more k us) = is_key k && are_plain us
 may_hold _ us = are_plain us
 
--- what is made of types; where one of them can't stand there, it is unknown
+-- what is made of types; where one of them is unknown, or can't stand there, so is it
 abbrev pub whole_type : Maker → Tys → Ty
-whole_type maker us = if may_hold maker us then made maker us else unknown
+whole_type maker us = if are_known us && may_hold maker us then made maker us else unknown
 
-abbrev pub plain_or_unknown : Ty → Ty
-plain_or_unknown t = if is_plain t then t else unknown
+-- a type that may stand inside another one, else unknown
+abbrev pub kept_type : Ty → Ty
+kept_type t = if is_known t && is_plain t then t else unknown
 
 -- the type of a tree of a form, by its parts and by their types
 abbrev pub form_type : List Tree → (ℕ → Option Ty) → ℕ → Form → Span → Trees → Tys → Ty
@@ -110,7 +111,7 @@ form_type list f m (form_is.Type type_is.Bitfield) span ts us = bitfield_word (b
 form_type list f m _ span ts us = unknown
 
 -- The type that a tree of a type is in a module, under the answers of type declarations. A unit and an enum that stand here
--- aren't the whole type of a declaration, and so they are none. What holds a type that can't stand in it is none either.
+-- aren't the whole type of a declaration, and so they are none. What holds a type that is none, or can't stand in it, is none either.
 abbrev mutual
   pub type_in : List Tree → (ℕ → Option Ty) → ℕ → Tree → Ty
   type_in list f m absent = unknown

@@ -4,7 +4,7 @@ ghost use Rattle.sp_ast.specs.Trees.{trees};
 ghost use Rattle.sp_types.specs.Types.{tys, made, none, more};
 ghost use Rattle.sp_types.specs.declared.words.Maker.TheVariants as maker_is;
 ghost use Rattle.sp_solver.specs.Told.{told};
-ghost use Rattle.sp_names.specs.Types.{or_unknown, meaning_type, bitfield_word, whole_type, plain_or_unknown, type_in, types_in};
+ghost use Rattle.sp_names.specs.Types.{or_unknown, meaning_type, bitfield_word, whole_type, kept_type, type_in, types_in};
 ghost use Rattle.sp_types.specs.Integers.{int_word};
 
 use crate::names::Names;
@@ -62,11 +62,11 @@ fn made_of_two(alloc: Global, maker: Maker, first: Type, second: Type) -> Result
     Type::made(alloc, maker, parts)
 }
 
-/// A type, if it is plain.
-fn plain_or_unknown(t: Type) -> Type
-    ensures { result ≡ plain_or_unknown t }
+/// A type, if it may stand inside another one.
+fn kept_type(t: Type) -> Type
+    ensures { result ≡ kept_type t }
 {
-    if t.is_plain() {
+    if t.is_known() && t.is_plain() {
         t
     } else {
         Type::word(Word::Unknown)
@@ -76,13 +76,13 @@ fn plain_or_unknown(t: Type) -> Type
 fn vector_of(alloc: Global, part: Type) -> Result<Type, NoMemory>
     ensures { IfOk result (λ t. t ≡ whole_type maker_is.Vector (more part none)) }
 {
-    Ok(plain_or_unknown(made_of_one(alloc, Maker::Vector, part)?))
+    Ok(kept_type(made_of_one(alloc, Maker::Vector, part)?))
 }
 
 fn set_of(alloc: Global, part: Type) -> Result<Type, NoMemory>
     ensures { IfOk result (λ t. t ≡ whole_type maker_is.Set (more part none)) }
 {
-    if part.is_key() {
+    if part.is_known() && part.is_key() {
         made_of_one(alloc, Maker::Set, part)
     } else {
         drop(part);
@@ -93,7 +93,7 @@ fn set_of(alloc: Global, part: Type) -> Result<Type, NoMemory>
 fn map_of(alloc: Global, key: Type, value: Type) -> Result<Type, NoMemory>
     ensures { IfOk result (λ t. t ≡ whole_type maker_is.Map (more key (more value none))) }
 {
-    if key.is_key() && value.is_plain() {
+    if key.is_known() && value.is_known() && key.is_key() && value.is_plain() {
         made_of_two(alloc, Maker::Map, key, value)
     } else {
         drop(key);
@@ -105,7 +105,7 @@ fn map_of(alloc: Global, key: Type, value: Type) -> Result<Type, NoMemory>
 impl<'a> Names<'a> {
     /// The type that a tree of a type is in a module, where `known` has the types of type declarations by their numbers. A
     /// unit or an enum that is not the whole type of a declaration is unknown, and so is what names no type, and what holds a
-    /// type that can't stand in it. A type of more parts than a type may have is answered as want of memory.
+    /// type that is unknown or can't stand in it. A type of more parts than a type may have is answered as want of memory.
     #[cycle(type_in)]
     pub fn type_in(
         &self,
@@ -125,7 +125,7 @@ impl<'a> Names<'a> {
             TypeView::Int(word) => Ok(Type::word(int_word(word))),
             TypeView::Tuple(members) => {
                 let parts = self.types_in(alloc, known, owner, members)?;
-                Ok(plain_or_unknown(Type::made(alloc, Maker::Tuple, parts)?))
+                Ok(kept_type(Type::made(alloc, Maker::Tuple, parts)?))
             }
             TypeView::Vector(element) => {
                 let part = self.type_in(alloc, known, owner, &element)?;

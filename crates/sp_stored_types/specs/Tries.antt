@@ -4,6 +4,7 @@ use Rattle.sp_ast.specs.Trees.{Tree}
 use Rattle.sp_types.specs.Types.{Ty, word}
 use Rattle.sp_types.specs.declared.words.Word.TheVariants as word_is
 use Rattle.sp_typed.specs.declared.words.Standing.TheVariants as standing_is
+use Rattle.sp_typing.specs.declared.places.Place.TheVariants.{Value}
 use Rattle.sp_typing.specs.Contexts.{Around}
 use Rattle.sp_operands.specs.Operands.{unknown}
 use Rattle.sp_typing_units.specs.Values.{Values}
@@ -26,7 +27,7 @@ in_unit list f n g = with_self (word (word_is.Unit n)) standing_is.Meant (with_m
 
 -- The type of what is stored in a member: a variable has the type that is written.
 abbrev pub source_type : Around → Values → Source → Ty
-source_type g v (source_is.Variable t) = g.type_in t
+source_type g v (source_is.Variable t) = g.type_in Value t
 source_type g v source_is.Sink = word word_is.Sink
 source_type g v (source_is.Field t) = field_type g v t
 

@@ -21,7 +21,7 @@ use sp_solver::Attempt;
 use sp_surroundings::WithCurrent;
 use sp_typed::{Expr, Standing};
 use sp_types::{Type, Word};
-use sp_typing::Context;
+use sp_typing::{Context, Place};
 use sp_typing_exprs::typed;
 use sp_typing_units::{Constants, conversion, read_type};
 use std::alloc::Global;
@@ -174,7 +174,9 @@ pub fn source_try<C: Context, V: Constants>(
         (C.around context.now) (V.values constants.now) source.now) }
 {
     match source {
-        Source::Variable(tree) => Ok(Attempt::Done(context.type_in(alloc, tree)?)),
+        Source::Variable(tree) => {
+            Ok(Attempt::Done(context.type_in(alloc, Place::Value, tree)?))
+        },
         Source::Sink => Ok(Attempt::Done(Type::word(Word::Sink))),
         Source::Field(tree) => { Ok(field_try(alloc, rows, known, context, constants, tree)?) }
     }

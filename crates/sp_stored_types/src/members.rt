@@ -9,7 +9,7 @@ use sp_ast::{PathKind, Ref, TypeKind};
 use sp_base::{NoMemory, Span};
 use sp_typed::{Expr, ManyOp, Written};
 use sp_types::{Level, Type, Word};
-use sp_typing::{Callable, Context, Member};
+use sp_typing::{Callable, Context, Member, Place};
 use std::alloc::Global;
 
 /// What stands round an expression, where so much is known of the members of units, in one row.
@@ -75,12 +75,22 @@ impl<'a, C: Context> Context for WithMembers<'a, C> {
         self.context.current(span)
     }
 
-    fn type_in(&self, alloc: Global, tree: &Ref<'_, TypeKind>) -> Result<Type, NoMemory> {
-        self.context.type_in(alloc, tree)
+    fn type_in(
+        &self,
+        alloc: Global,
+        place: Place,
+        tree: &Ref<'_, TypeKind>,
+    ) -> Result<Type, NoMemory> {
+        self.context.type_in(alloc, place, tree)
     }
 
-    fn written(&self, tree: &Ref<'_, TypeKind>) -> Written {
-        self.context.written(tree)
+    fn written(
+        &self,
+        alloc: Global,
+        place: Place,
+        tree: &Ref<'_, TypeKind>,
+    ) -> Result<Written, NoMemory> {
+        self.context.written(alloc, place, tree)
     }
 
     fn member(&self, of: &Type, name: &str) -> Result<Option<Member>, NoMemory> {

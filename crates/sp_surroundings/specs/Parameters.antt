@@ -10,14 +10,20 @@ use Rattle.sp_typed.specs.declared.words.Standing.{Standing}
 use Rattle.sp_typed.specs.declared.words.Standing.TheVariants as standing_is
 use Rattle.sp_typed.specs.Exprs.{Expr}
 use Rattle.sp_typed_units.specs.declared.declarations.Parameter.{Parameter}
+use Rattle.sp_typing.specs.Places.{parameter_place}
 use Rattle.sp_typing.specs.Contexts.{Around}
 use Rattle.sp_typing.specs.Typing.{leaf_at, name_of}
 use Rattle.sp_typing.specs.Names.{single_name}
 
 -- a parameter of a name and a written type
 abbrev pub parameter_of : Around → Bool → Tree → Tree → Parameter
-parameter_of g inout name t =
-    record { name = name_of name; span = span_of name; written = g.written t; ty = g.type_in t; inout = inout }
+parameter_of g inout name t = record {
+  name = name_of name;
+  span = span_of name;
+  written = g.written (parameter_place inout) t;
+  ty = g.type_in (parameter_place inout) t;
+  inout = inout;
+}
 
 -- the parameters of a row, in the order of the text
 abbrev pub parameters_in : Around → Trees → List Parameter

@@ -6,7 +6,7 @@ use sp_ast::{PathKind, Ref, TypeKind};
 use sp_base::{NoMemory, Span};
 use sp_typed::{Expr, Leaf, LeafOp, ManyOp, Standing, Written};
 use sp_types::Type;
-use sp_typing::{Callable, Context, Member};
+use sp_typing::{Callable, Context, Member, Place};
 use std::alloc::Global;
 
 /// What stands round an expression, with `self` of a type.
@@ -55,12 +55,22 @@ impl<'a, C: Context> Context for WithSelf<'a, C> {
         self.context.current(span)
     }
 
-    fn type_in(&self, alloc: Global, tree: &Ref<'_, TypeKind>) -> Result<Type, NoMemory> {
-        self.context.type_in(alloc, tree)
+    fn type_in(
+        &self,
+        alloc: Global,
+        place: Place,
+        tree: &Ref<'_, TypeKind>,
+    ) -> Result<Type, NoMemory> {
+        self.context.type_in(alloc, place, tree)
     }
 
-    fn written(&self, tree: &Ref<'_, TypeKind>) -> Written {
-        self.context.written(tree)
+    fn written(
+        &self,
+        alloc: Global,
+        place: Place,
+        tree: &Ref<'_, TypeKind>,
+    ) -> Result<Written, NoMemory> {
+        self.context.written(alloc, place, tree)
     }
 
     fn member(&self, of: &Type, name: &str) -> Result<Option<Member>, NoMemory> {

@@ -11,7 +11,7 @@ use sp_name_tables::{NameTable, look_up, sum};
 use sp_typed::{Expr, Leaf, LeafOp, ManyOp, Standing, Written};
 use sp_typed_units::Parameter;
 use sp_types::Type;
-use sp_typing::{Callable, Context, Member, single_name};
+use sp_typing::{Callable, Context, Member, Place, parameter_place, single_name};
 use std::alloc::Global;
 use std::marker::Model;
 
@@ -27,8 +27,9 @@ fn parameter_of<C: Context>(
 {
     let text = Text::new(alloc, name.text())?;
     let span = name.span();
-    let written = context.written(tree);
-    let ty = or_drop!(context.type_in(alloc, tree); text);
+    let place = parameter_place(inout);
+    let written = or_drop!(context.written(alloc, place, tree); text);
+    let ty = or_drop!(context.type_in(alloc, place, tree); text);
     Ok(Parameter {
         name: text,
         span,
@@ -219,12 +220,22 @@ impl<'a, C: Context> Context for WithParameters<'a, C> {
         self.outside.current(span)
     }
 
-    fn type_in(&self, alloc: Global, tree: &Ref<'_, TypeKind>) -> Result<Type, NoMemory> {
-        self.outside.type_in(alloc, tree)
+    fn type_in(
+        &self,
+        alloc: Global,
+        place: Place,
+        tree: &Ref<'_, TypeKind>,
+    ) -> Result<Type, NoMemory> {
+        self.outside.type_in(alloc, place, tree)
     }
 
-    fn written(&self, tree: &Ref<'_, TypeKind>) -> Written {
-        self.outside.written(tree)
+    fn written(
+        &self,
+        alloc: Global,
+        place: Place,
+        tree: &Ref<'_, TypeKind>,
+    ) -> Result<Written, NoMemory> {
+        self.outside.written(alloc, place, tree)
     }
 
     fn member(&self, of: &Type, name: &str) -> Result<Option<Member>, NoMemory> {

@@ -6,6 +6,7 @@ use Rattle.sp_types.specs.Types.{Ty}
 use Rattle.sp_typed.specs.Exprs.{Expr}
 use Rattle.sp_typed.specs.declared.words.ManyOp.{ManyOp}
 use Rattle.sp_typed.specs.declared.words.Written.{Written}
+use Rattle.sp_typing.specs.declared.places.Place.{Place}
 use Rattle.sp_typing.specs.declared.context.Member.{Member}
 use Rattle.sp_typing.specs.declared.context.Callable.{Callable}
 
@@ -17,9 +18,9 @@ pub record Around : Type 0 where
   -- `self`, and `$$`
   pub itself : Span → Expr
   pub current : Span → Expr
-  -- the type that is written, and what is wrong with it
-  pub type_in : Tree → Ty
-  pub written : Tree → Written
+  -- the type of what is declared with a type that is written at a place, and what is wrong with it there
+  pub type_in : Place → Tree → Ty
+  pub written : Place → Tree → Written
   -- the member of a name that values of a type have
   pub member : Ty → List ℕ → Option Member
   -- the method of a name that values of a type have, for arguments of these types, on the slice on which its name stands

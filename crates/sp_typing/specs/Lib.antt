@@ -1,4 +1,5 @@
 pub mod Names
+pub mod Places
 pub mod Contexts
 pub mod Typing
 pub mod Rows

@@ -1,6 +1,6 @@
--- Rows on which the typing of expressions is run: literals between operands, in rows, before `in`, rows that are not whole, and
--- members of tuples.
-use Rattle.std.specs.Prelude.{ℕ, ◌≡◌, if◌then◌else◌, List, [], ◌∷◌, Option, Some, None, codes, refl}
+-- Rows on which the typing of expressions is run: literals between operands, in rows, before `in`, rows that are not whole,
+-- members of tuples, what is empty, and types where they stand.
+use Rattle.std.specs.Prelude.{ℕ, ◌≡◌, true, if◌then◌else◌, List, [], ◌∷◌, Option, Some, None, codes, refl}
 use Rattle.std.specs.Str.{bytes_eq}
 use Rattle.sp_base.specs.declared.places.Span.{Span}
 use Rattle.sp_words.specs.declared.operators.BinaryOp.{BinaryOp}
@@ -12,6 +12,8 @@ use Rattle.sp_ast.specs.Trees.{Tree, tree, node, more}
 use Rattle.sp_ast.specs.declared.forms.Form.TheVariants as form_is
 use Rattle.sp_ast.specs.declared.forms.ExprForm.{ExprForm}
 use Rattle.sp_ast.specs.declared.forms.ExprForm.TheVariants as expr_is
+use Rattle.sp_ast.specs.declared.forms.TypeForm.{TypeForm}
+use Rattle.sp_ast.specs.declared.forms.TypeForm.TheVariants as type_is
 use Rattle.sp_types.specs.Types.{Ty, word, made}
 use Rattle.sp_types.specs.Types as types
 use Rattle.sp_types.specs.declared.words.Word.TheVariants as word_is
@@ -21,6 +23,8 @@ use Rattle.sp_typed.specs.declared.words.LeafOp.TheVariants as leaf_is
 use Rattle.sp_typed.specs.declared.words.OneOp.TheVariants as one_is
 use Rattle.sp_typed.specs.declared.words.TwoOp.TheVariants as two_is
 use Rattle.sp_typed.specs.Exprs.{Expr, type_of, leaf}
+use Rattle.sp_typing.specs.declared.places.Place.TheVariants as place_is
+use Rattle.sp_typing.specs.Places.{suits, standing}
 use Rattle.sp_typing.specs.Contexts.{Around}
 use Rattle.sp_operands.specs.Operands.{unknown, boolean}
 use Rattle.sp_operands.specs.Literals.{seen}
@@ -55,14 +59,23 @@ abbrev literal_item : Expr → Option ℕ
 literal_item (leaf h) = number_op h.op
 literal_item _ = None
 
+-- `bool`, `void`, and whatever else is written as a vector of truths
+abbrev truths : Ty
+truths = made maker_is.Vector (types.more boolean types.none)
+
+abbrev written_word : Tree → Ty
+written_word (node (form_is.Type type_is.Bool) span ts) = boolean
+written_word (node (form_is.Type type_is.Void) span ts) = word word_is.Void
+written_word _ = truths
+
 abbrev around : Around
 around = record {
   path = at_path;
   named = at_path;
   itself = λ span. leaf_at span unknown leaf_is.Name;
   current = λ span. leaf_at span unknown leaf_is.Name;
-  type_in = λ t. unknown;
-  written = λ t. record { span = here; unnamed = None; misplaced = None };
+  type_in = λ place t. standing place (written_word t);
+  written = λ place t. record { span = here; unnamed = None; misplaced = None };
   member = λ t x. None;
   method = λ t x span ts. None;
   target = λ op t n. None;
@@ -169,3 +182,49 @@ mismatch = refl
 
 choice : type_of (typed around (expr expr_is.Choice (x ∷ number 1 ∷ x ∷ []))) ≡ byte
 choice = refl
+
+-- `vector<bool>()` and `map<bool, vector<bool>>()`; what holds a type that can't stand there has none: `vector<void>()`, and
+-- `set<vector<bool>>()`, since a vector is no key
+abbrev written_type : TypeForm → Tree
+written_type form = tree (form_is.Type form) here []
+
+empty_vector : type_of (typed around (expr expr_is.EmptyVector (written_type type_is.Bool ∷ []))) ≡ truths
+empty_vector = refl
+
+empty_map : type_of (typed around (expr expr_is.EmptyMap (written_type type_is.Bool ∷ written_type type_is.Vector ∷ []))) ≡ made maker_is.Map (types.more boolean (types.more truths types.none))
+empty_map = refl
+
+vector_of_void : type_of (typed around (expr expr_is.EmptyVector (written_type type_is.Void ∷ []))) ≡ unknown
+vector_of_void = refl
+
+set_of_vectors : type_of (typed around (expr expr_is.EmptySet (written_type type_is.Vector ∷ []))) ≡ unknown
+set_of_vectors = refl
+
+-- a unit is what a parameter with `inout` is, and a local may be one; no other value is kept of it, nor is it a key
+abbrev unit : Ty
+unit = word (word_is.Unit 0)
+
+unit_with_inout : standing place_is.Inout unit ≡ unit
+unit_with_inout = refl
+
+byte_with_inout : standing place_is.Inout byte ≡ unknown
+byte_with_inout = refl
+
+unit_in_a_local : standing place_is.Local unit ≡ unit
+unit_in_a_local = refl
+
+void_in_a_local : standing place_is.Local (word word_is.Void) ≡ unknown
+void_in_a_local = refl
+
+unit_as_a_value : standing place_is.Value unit ≡ unknown
+unit_as_a_value = refl
+
+unit_as_a_key : standing place_is.Key unit ≡ unknown
+unit_as_a_key = refl
+
+-- of an unknown type nothing is asked, wherever it stands
+unknown_with_inout : suits place_is.Inout unknown ≡ true
+unknown_with_inout = refl
+
+unknown_key : suits place_is.Key unknown ≡ true
+unknown_key = refl

@@ -13,7 +13,7 @@ use Rattle.sp_ast.specs.declared.forms.ExprForm.TheVariants as expr_is
 use Rattle.sp_types.specs.declared.words.Word.TheVariants as word_is
 use Rattle.sp_types.specs.declared.words.Maker.{Maker}
 use Rattle.sp_types.specs.declared.words.Maker.TheVariants as maker_is
-use Rattle.sp_types.specs.Types.{Ty, Tys, word, made, tys, same, widens}
+use Rattle.sp_types.specs.Types.{Ty, Tys, word, made, tys, same, is_known, widens}
 use Rattle.sp_types.specs.Types as types
 use Rattle.sp_typed.specs.declared.words.LeafOp.{LeafOp}
 use Rattle.sp_typed.specs.declared.words.LeafOp.TheVariants as leaf_is
@@ -33,6 +33,7 @@ use Rattle.sp_typing.specs.declared.calls.Callee.{Callee}
 use Rattle.sp_typing.specs.declared.calls.Callee.TheVariants as callee_is
 use Rattle.sp_typing.specs.declared.context.Member.{Member}
 use Rattle.sp_typing.specs.declared.context.Callable.{Callable}
+use Rattle.sp_typing.specs.declared.places.Place.TheVariants as place_is
 use Rattle.sp_typing.specs.Contexts.{Around}
 use Rattle.sp_operands.specs.Operands.{unknown, boolean, is_integer, sort_of, result_type, unary_type, key_of, first_type, second_type}
 use Rattle.sp_operands.specs.Literals.{taken, seen, is_negative, literal_word, unsigned_literal, signed_literal}
@@ -135,6 +136,11 @@ tuple_at span es = many_at span (made maker_is.Tuple (tys (map seen es))) many_i
 
 abbrev pub made_of : Maker → List Ty → Ty
 made_of maker ts = made maker (tys ts)
+
+-- The type of `vector<T>()`, `set<T>()` and `map<K, V>()`. Where a type that is written in it is unknown, or can't stand there,
+-- so is that of the whole.
+abbrev pub empty_type : Maker → List Ty → Ty
+empty_type maker ts = if is_known (made_of maker ts) then made_of maker ts else unknown
 
 -- two written types, one behind the other
 abbrev pub or_else : {A : Type 0} → Option A → Option A → Option A
@@ -298,15 +304,15 @@ abbrev mutual
   typed g (node (form_is.Expr expr_is.Set) span ts) = row_at span maker_is.Set many_is.Set (led (typed_all g ts))
   typed g (node (form_is.Expr expr_is.Map) span ts) = map_at span (pairs_typed g ts)
   typed g (node (form_is.Expr expr_is.EmptyVector) span (more t none)) =
-      leaf_at span (made_of maker_is.Vector (g.type_in t ∷ [])) (leaf_is.Empty (g.written t))
+      leaf_at span (empty_type maker_is.Vector (g.type_in place_is.Value t ∷ [])) (leaf_is.Empty (g.written place_is.Value t))
   typed g (node (form_is.Expr expr_is.EmptySet) span (more t none)) =
-      leaf_at span (made_of maker_is.Set (g.type_in t ∷ [])) (leaf_is.Empty (g.written t))
+      leaf_at span (empty_type maker_is.Set (g.type_in place_is.Key t ∷ [])) (leaf_is.Empty (g.written place_is.Key t))
   typed g (node (form_is.Expr expr_is.EmptyMap) span (more k (more v none))) =
-      leaf_at span (made_of maker_is.Map (g.type_in k ∷ g.type_in v ∷ [])) (leaf_is.Empty (both_written (g.written k) (g.written v)))
+      leaf_at span (empty_type maker_is.Map (g.type_in place_is.Key k ∷ g.type_in place_is.Value v ∷ [])) (leaf_is.Empty (both_written (g.written place_is.Key k) (g.written place_is.Value v)))
   typed g (node (form_is.Expr (expr_is.TypedNumber w)) span (more n none)) =
       leaf_at span (word (int_word w)) (leaf_is.TypedNumber (number_in n))
   typed g (node (form_is.Expr expr_is.Cast) span (more t (more e none))) =
-      one_at span (cast_type (g.type_in t)) (one_is.Cast (g.written t)) (typed g e)
+      one_at span (cast_type (g.type_in place_is.Whole t)) (one_is.Cast (g.written place_is.Whole t)) (typed g e)
   typed g (node (form_is.Expr expr_is.New) span (more path (more (row ts) none))) =
       new_at g span (read.span_of path) (g.named (read.span_of path) path) (typed_all g ts)
   typed g (node (form_is.Expr expr_is.Size) span (more e none)) = one_at span size_type one_is.Size (typed g e)

@@ -2,6 +2,7 @@
 ghost use Rattle.std.specs.Prelude.{◌≡◌, ◌++◌, IfOk, OnOk};
 ghost use Rattle.sp_typing.specs.Contexts.{Around};
 
+use crate::places::Place;
 use sp_ast::{PathKind, Ref, TypeKind};
 use sp_base::{NoMemory, Span};
 use sp_typed::{Expr, ManyOp, OneOp, Written};
@@ -42,13 +43,23 @@ pub trait Context {
     fn current(&self, span: Span) -> Result<Expr, NoMemory>
         ensures { IfOk result (λ e. e ≡ (around self.now).current span) };
 
-    /// The type that is written.
-    fn type_in(&self, alloc: Global, tree: &Ref<'_, TypeKind>) -> Result<Type, NoMemory>
-        ensures { IfOk result (λ t. t ≡ (around self.now).type_in tree.now) };
+    /// The type of what is declared with a type that is written at a place; `Unknown` where it can't stand there.
+    fn type_in(
+        &self,
+        alloc: Global,
+        place: Place,
+        tree: &Ref<'_, TypeKind>,
+    ) -> Result<Type, NoMemory>
+        ensures { IfOk result (λ t. t ≡ (around self.now).type_in place tree.now) };
 
-    /// What is wrong with a type that is written.
-    fn written(&self, tree: &Ref<'_, TypeKind>) -> Written
-        ensures { result ≡ (around self.now).written tree.now };
+    /// What is wrong with a type that is written at a place.
+    fn written(
+        &self,
+        alloc: Global,
+        place: Place,
+        tree: &Ref<'_, TypeKind>,
+    ) -> Result<Written, NoMemory>
+        ensures { IfOk result (λ w. w ≡ (around self.now).written place tree.now) };
 
     /// The member of a name that values of a type have.
     fn member(&self, of: &Type, name: &str) -> Result<Option<Member>, NoMemory>

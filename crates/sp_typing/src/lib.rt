@@ -5,8 +5,10 @@ mod calls;
 mod context;
 mod names;
 mod nodes;
+mod places;
 
 pub use calls::Callee;
 pub use context::{Callable, Context, Member};
 pub use names::{path_of, single_name};
 pub use nodes::leaf_at;
+pub use places::{Place, parameter_place, standing, suits};

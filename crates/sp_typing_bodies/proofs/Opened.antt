@@ -10,6 +10,7 @@ use Rattle.sp_ast.specs.declared.forms.StmtForm.TheVariants as stmt_is
 use Rattle.sp_types.specs.Types.{Ty}
 use Rattle.sp_typed.specs.Exprs.{Expr, Exprs, leaf, one, two, three, many}
 use Rattle.sp_typed.specs.Exprs as typed
+use Rattle.sp_typing.specs.declared.places.Place.TheVariants as place_is
 use Rattle.sp_typing.specs.Contexts.{Around}
 use Rattle.sp_operands.specs.Operands.{unknown}
 use Rattle.sp_operands.specs.Literals.{seen}
@@ -57,11 +58,11 @@ after_left sc x name ty same =
     let l = local (typing.name_of name) (length x.slots) ty in (l ∷ [], ap (λ ls. l ∷ ls) same)
 
 local_left : (g : Around) (sc : Scope) (span : Span) (name t e : Tree) → AreLeft sc.locals (local_in g sc span name t e).1.locals
-local_left g sc span name t absent = after_left sc sc name (type_or (written_type g t) unknown) refl
+local_left g sc span name t absent = after_left sc sc name (type_or (written_type g place_is.Value t) unknown) refl
 local_left g sc span name t (row ts) =
-    let x = value_in g sc (row ts) in after_left sc x.1 name (type_or (written_type g t) (seen x.0)) (value_locals g sc (row ts))
+    let x = value_in g sc (row ts) in after_left sc x.1 name (type_or (written_type g place_is.Local t) (seen x.0)) (value_locals g sc (row ts))
 local_left g sc span name t (node f s ts) =
-    let x = value_in g sc (node f s ts) in after_left sc x.1 name (type_or (written_type g t) (seen x.0)) (value_locals g sc (node f s ts))
+    let x = value_in g sc (node f s ts) in after_left sc x.1 name (type_or (written_type g place_is.Local t) (seen x.0)) (value_locals g sc (node f s ts))
 
 return_locals : (b : Body) (g : Around) (sc : Scope) (span : Span) (e : Tree) → (return_in b g sc span e).1.locals ≡ sc.locals
 return_locals b g sc span absent = refl

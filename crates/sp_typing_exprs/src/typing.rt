@@ -1,18 +1,20 @@
 // The typed expression of a tree.
-ghost use Rattle.std.specs.Prelude.{◌≡◌, ◌∷◌, [], ◌||◌, false, IfOk, IfSome, IfNone};
+ghost use Rattle.std.specs.Prelude.{◌≡◌, ◌∷◌, [], ◌||◌, if◌then◌else◌, false, IfOk, IfSome, IfNone};
 ghost use Rattle.sp_ast.specs.Trees.{trees, tree, in_row, span_of};
 ghost use Rattle.sp_ast.specs.ExprViews.{expr_tree};
 ghost use Rattle.sp_ast.specs.declared.forms.Form.TheVariants as form_is;
 ghost use Rattle.sp_ast.specs.declared.forms.ExprForm.TheVariants as expr_is;
 ghost use Rattle.sp_typing.specs.Contexts.{Around};
-ghost use Rattle.sp_types.specs.Types.{word};
+ghost use Rattle.sp_types.specs.Types.{word, is_known};
 ghost use Rattle.sp_types.specs.declared.words.Maker.TheVariants.{Map};
 ghost use Rattle.sp_types.specs.declared.words.Word.TheVariants as word_is;
 ghost use Rattle.sp_typed.specs.declared.words.LeafOp.TheVariants as leaf_is;
 ghost use Rattle.sp_typed.specs.declared.words.LeafOp.TheVariants.{Empty};
 ghost use Rattle.sp_typed.specs.declared.words.OneOp.TheVariants.{Cast};
+ghost use Rattle.sp_operands.specs.Operands.{unknown};
+ghost use Rattle.sp_typing.specs.declared.places.Place.TheVariants.{Whole, Key, Value};
 ghost use Rattle.sp_typing_exprs.specs.Alternatives.{has_list, has_operands};
-ghost use Rattle.sp_typing.specs.Typing.{typed, typed_all, pairs_typed, is_member, leaf_at, one_at, made_of, both_written, cast_type, led, row_at, choice_at, new_at};
+ghost use Rattle.sp_typing.specs.Typing.{typed, typed_all, pairs_typed, is_member, leaf_at, one_at, empty_type, both_written, cast_type, led, row_at, choice_at, new_at};
 
 use crate::calls::{call_at, indexed, method_at, new_at};
 use crate::nodes::{
@@ -25,7 +27,7 @@ use sp_numbers::Width;
 use sp_operands::{made_of_one, made_of_two};
 use sp_typed::{Expr, LeafOp, ManyOp, OneOp};
 use sp_types::{Maker, Type, Word, int_word};
-use sp_typing::{Context, leaf_at};
+use sp_typing::{Context, Place, leaf_at};
 use sp_words::BinaryOp;
 use std::alloc::Global;
 
@@ -139,19 +141,32 @@ fn regex_at(alloc: Global, span: Span, text: &str) -> Result<Expr, NoMemory>
     Ok(leaf_at(span, Type::word(Word::Regex), op))
 }
 
-/// An empty vector or set of a type that is written.
+/// A type, if nothing in it is unknown.
+fn known_type(t: Type) -> Type
+    ensures { result ≡ if is_known t then t else unknown }
+{
+    if t.is_known() {
+        t
+    } else {
+        Type::word(Word::Unknown)
+    }
+}
+
+/// An empty vector or set of a type that is written, which stands at this place.
 fn empty_row<C: Context>(
     alloc: Global,
     context: &C,
     span: Span,
     maker: Maker,
+    place: Place,
     element: &Ref<'_, TypeKind>,
 ) -> Result<Expr, NoMemory>
-    ensures { IfOk result (λ e. e ≡ leaf_at span (made_of maker ((C.around context.now).type_in
-        element.now ∷ [])) (Empty ((C.around context.now).written element.now))) }
+    ensures { IfOk result (λ e. e ≡ leaf_at span (empty_type maker ((C.around context.now).type_in
+        place element.now ∷ [])) (Empty ((C.around context.now).written place element.now))) }
 {
-    let ty = made_of_one(alloc, maker, context.type_in(alloc, element)?)?;
-    Ok(leaf_at(span, ty, LeafOp::Empty(context.written(element))))
+    let written = context.written(alloc, place, element)?;
+    let ty = made_of_one(alloc, maker, context.type_in(alloc, place, element)?)?;
+    Ok(leaf_at(span, known_type(ty), LeafOp::Empty(written)))
 }
 
 /// An empty map of types that are written.
@@ -162,15 +177,19 @@ fn empty_map<C: Context>(
     key: &Ref<'_, TypeKind>,
     value: &Ref<'_, TypeKind>,
 ) -> Result<Expr, NoMemory>
-    ensures { IfOk result (λ e. e ≡ leaf_at span (made_of Map ((C.around context.now).type_in
-        key.now ∷ (C.around context.now).type_in value.now ∷ [])) (Empty (both_written
-        ((C.around context.now).written key.now) ((C.around context.now).written value.now)))) }
+    ensures { IfOk result (λ e. e ≡ leaf_at span (empty_type Map ((C.around context.now).type_in
+        Key key.now ∷ (C.around context.now).type_in Value value.now ∷ [])) (Empty (both_written
+        ((C.around context.now).written Key key.now)
+        ((C.around context.now).written Value value.now)))) }
 {
-    let key_type = context.type_in(alloc, key)?;
-    let value_type = or_drop!(context.type_in(alloc, value); key_type);
+    let written = both_written(
+        context.written(alloc, Place::Key, key)?,
+        context.written(alloc, Place::Value, value)?,
+    );
+    let key_type = context.type_in(alloc, Place::Key, key)?;
+    let value_type = or_drop!(context.type_in(alloc, Place::Value, value); key_type);
     let ty = made_of_two(alloc, Maker::Map, key_type, value_type)?;
-    let written = both_written(context.written(key), context.written(value));
-    Ok(leaf_at(span, ty, LeafOp::Empty(written)))
+    Ok(leaf_at(span, known_type(ty), LeafOp::Empty(written)))
 }
 
 /// `cast<T>(e)`.
@@ -181,11 +200,12 @@ fn cast_of<C: Context>(
     to: &Ref<'_, TypeKind>,
     operand: Expr,
 ) -> Result<Expr, NoMemory>
-    ensures { IfOk result (λ e. e ≡ one_at span (cast_type ((C.around context.now).type_in to.now))
-        (Cast ((C.around context.now).written to.now)) operand) }
+    ensures { IfOk result (λ e. e ≡ one_at span (cast_type ((C.around context.now).type_in Whole
+        to.now)) (Cast ((C.around context.now).written Whole to.now)) operand) }
 {
-    let ty = cast_type(or_drop!(context.type_in(alloc, to); operand));
-    one_at(alloc, span, ty, OneOp::Cast(context.written(to)), operand)
+    let written = or_drop!(context.written(alloc, Place::Whole, to); operand);
+    let ty = cast_type(or_drop!(context.type_in(alloc, Place::Whole, to); operand));
+    one_at(alloc, span, ty, OneOp::Cast(written), operand)
 }
 
 /// `new path(a)`.
@@ -261,8 +281,12 @@ fn plain_typed<C: Context>(
         ExprView::String(text) => text_at(alloc, span, text),
         ExprView::Bytes(bytes) => bytes_at(alloc, span, bytes),
         ExprView::Regex(text) => regex_at(alloc, span, text),
-        ExprView::EmptyVector(element) => empty_row(alloc, context, span, Maker::Vector, &element),
-        ExprView::EmptySet(element) => empty_row(alloc, context, span, Maker::Set, &element),
+        ExprView::EmptyVector(element) => {
+            empty_row(alloc, context, span, Maker::Vector, Place::Value, &element)
+        }
+        ExprView::EmptySet(element) => {
+            empty_row(alloc, context, span, Maker::Set, Place::Key, &element)
+        }
         ExprView::EmptyMap { key, value } => empty_map(alloc, context, span, &key, &value),
         ExprView::TypedNumber(word, number) => {
             let ty = Type::word(int_word(word));

@@ -8,6 +8,7 @@ use Rattle.sp_types.specs.declared.words.Word.TheVariants as word_is
 use Rattle.sp_typed.specs.Stmts.{Stmt, block, no_stmts}
 use Rattle.sp_typed_units.specs.declared.declarations.Parameter.{Parameter}
 use Rattle.sp_typed_units.specs.declared.declarations.Function.{Function}
+use Rattle.sp_typing.specs.declared.places.Place.TheVariants.{Value}
 use Rattle.sp_typing.specs.Contexts.{Around}
 use Rattle.sp_typing.specs.Names.{path_of}
 use Rattle.sp_typing.specs.Typing.{name_of}
@@ -26,7 +27,7 @@ body_giving t = record { result = t; in_foreach = false; sees_unit = false }
 
 -- The typed body of a function, and the types of its slots. It sees its parameters.
 abbrev pub function_body : Around → List Parameter → Tree → Tree → Stmt × List Ty
-function_body g ps result body = typed_body (body_giving (written_type g result)) (with_parameters 0 false ps g) [] body
+function_body g ps result body = typed_body (body_giving (written_type g Value result)) (with_parameters 0 false ps g) [] body
 
 abbrev pub function_with : Around → List ℕ → ℕ → Tree → List Parameter → Tree → Stmt × List Ty → Function
 function_with g owner m name ps result b = record {
@@ -34,8 +35,8 @@ function_with g owner m name ps result b = record {
   «module» = m;
   span = span_of name;
   parameters = ps;
-  result = or_void (written_type g result);
-  written = written_of g result;
+  result = or_void (written_type g Value result);
+  written = written_of g Value result;
   slots = b.1;
   body = b.0;
 }

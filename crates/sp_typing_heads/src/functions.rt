@@ -2,6 +2,7 @@
 ghost use Rattle.std.specs.Prelude.{◌≡◌, IfOk};
 ghost use Rattle.sp_ast.specs.Trees.{span_of};
 ghost use Rattle.sp_ast.specs.Views.{optional_tree};
+ghost use Rattle.sp_typing.specs.declared.places.Place.TheVariants.{Value};
 ghost use Rattle.sp_typing.specs.Typing.{name_of};
 ghost use Rattle.sp_typing_stmts.specs.Statements.{written_type, written_of};
 ghost use Rattle.sp_typing_heads.specs.Functions.{or_void, function_body, no_function, function_of};
@@ -13,7 +14,7 @@ use sp_surroundings::{Parameters, WithParameters, parameters_in};
 use sp_typed::{Stmt, StmtNode, Written};
 use sp_typed_units::{Function, Parameter, Row};
 use sp_types::{Type, Word};
-use sp_typing::{Context, path_of};
+use sp_typing::{Context, Place, path_of};
 use sp_typing_bodies::typed_body;
 use sp_typing_stmts::{Body, written_of, written_type};
 use std::alloc::Global;
@@ -42,7 +43,7 @@ fn function_body<C: Context>(
 {
     let seen = Parameters::new(alloc, parameters)?;
     let inside = WithParameters::new(context, &seen, 0, false);
-    let result = or_drop!(written_type(alloc, context, returns); seen);
+    let result = or_drop!(written_type(alloc, context, Place::Value, returns); seen);
     let body = Body {
         result,
         in_foreach: false,
@@ -73,17 +74,18 @@ fn head_of<C: Context>(
     ensures path { IfOk result (λ h. h.path ≡ path_of owner.now (name_of name.now)) }
     ensures span { IfOk result (λ h. h.span ≡ span_of name.now) }
     ensures gives { IfOk result (λ h. h.result
-        ≡ or_void (written_type (C.around context.now) (optional_tree returns.now))) }
+        ≡ or_void (written_type (C.around context.now) Value (optional_tree returns.now))) }
     ensures written { IfOk result (λ h. h.written
-        ≡ written_of (C.around context.now) (optional_tree returns.now)) }
+        ≡ written_of (C.around context.now) Value (optional_tree returns.now)) }
 {
-    let result = or_void(written_type(alloc, context, returns)?);
+    let written = written_of(alloc, context, Place::Value, returns)?;
+    let result = or_void(written_type(alloc, context, Place::Value, returns)?);
     let path = or_drop!(path_of(alloc, owner, name.text()); result);
     Ok(Head {
         path,
         span: name.span(),
         result,
-        written: written_of(context, returns),
+        written,
     })
 }
 

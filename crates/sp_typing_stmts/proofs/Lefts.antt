@@ -8,6 +8,8 @@ use Rattle.sp_types.specs.Types.{Ty}
 use Rattle.sp_typed.specs.declared.words.Written.{Written}
 use Rattle.sp_typed.specs.declared.stmt_words.ValuedOp.TheVariants as valued_is
 use Rattle.sp_typed.specs.Stmts.{Stmt}
+use Rattle.sp_typing.specs.declared.places.Place.{Place}
+use Rattle.sp_typing.specs.declared.places.Place.TheVariants.{Local}
 use Rattle.sp_typing.specs.Contexts.{Around}
 use Rattle.sp_typing.specs.Typing.{to_maybe}
 use Rattle.sp_typing_stmts.specs.declared.body.Body.{Body}
@@ -18,18 +20,18 @@ use Rattle.sp_typing_stmts.specs.Statements.{written_type, written_of, valued_at
 none_is : {A : Type 0} → false ≡ true → A
 none_is is = absurd (let b : ⊥ = cc in b)
 
-pub written_type_is : (g : Around) (k : Group) (t : Tree) → is_of k t ≡ true → Some (g.type_in t) ≡ written_type g t
-written_type_is g k absent is = none_is is
-written_type_is g k (row ts) is = refl
-written_type_is g k (node f s ts) is = refl
+pub written_type_is : (g : Around) (place : Place) (k : Group) (t : Tree) → is_of k t ≡ true → Some (g.type_in place t) ≡ written_type g place t
+written_type_is g place k absent is = none_is is
+written_type_is g place k (row ts) is = refl
+written_type_is g place k (node f s ts) is = refl
 
-pub written_of_is : (g : Around) (k : Group) (t : Tree) → is_of k t ≡ true → Some (g.written t) ≡ written_of g t
-written_of_is g k absent is = none_is is
-written_of_is g k (row ts) is = refl
-written_of_is g k (node f s ts) is = refl
+pub written_of_is : (g : Around) (place : Place) (k : Group) (t : Tree) → is_of k t ≡ true → Some (g.written place t) ≡ written_of g place t
+written_of_is g place k absent is = none_is is
+written_of_is g place k (row ts) is = refl
+written_of_is g place k (node f s ts) is = refl
 
 pub local_valued : (g : Around) (sc : Scope) (span : Span) (name t e : Tree) (k : Group) → is_of k e ≡ true
-    → local_with (value_in g sc e).1 span name (written_type g t) (written_of g t) (value_in g sc e).0 ≡ local_in g sc span name t e
+    → local_with (value_in g sc e).1 span name (written_type g Local t) (written_of g Local t) (value_in g sc e).0 ≡ local_in g sc span name t e
 local_valued g sc span name t absent k is = none_is is
 local_valued g sc span name t (row ts) k is = refl
 local_valued g sc span name t (node f s ts) k is = refl

@@ -71,8 +71,8 @@ around = record {
   named = λ span path. leaf_at span unknown leaf_is.Decoder;
   itself = λ span. leaf_at span unit (leaf_is.Itself standing_is.Meant);
   current = λ span. leaf_at span unknown leaf_is.Name;
-  type_in = λ t. short;
-  written = λ t. record { span = here; unnamed = None; misplaced = None };
+  type_in = λ place t. short;
+  written = λ place t. record { span = here; unnamed = None; misplaced = None };
   member = λ t x. member x;
   method = λ t x span ts. Some (record { op = many_is.Method method_is.PushBack None; ty = word word_is.Void });
   target = λ op t n. Some byte;

@@ -19,6 +19,8 @@ use Rattle.sp_typed.specs.declared.stmt_words.ValuedOp.TheVariants as valued_is
 use Rattle.sp_typed.specs.declared.stmt_words.For.{For}
 use Rattle.sp_typed.specs.Exprs.{Expr, exprs}
 use Rattle.sp_typed.specs.Stmts.{Stmt, Cases, bare, valued, assign, print, block, branch, while_loop, for_loop, switch, stmts, no_stmts, branch_row, no_cases, more_cases}
+use Rattle.sp_typing.specs.declared.places.Place.{Place}
+use Rattle.sp_typing.specs.declared.places.Place.TheVariants as place_is
 use Rattle.sp_typing.specs.Contexts.{Around}
 use Rattle.sp_operands.specs.Operands.{unknown, first_type}
 use Rattle.sp_operands.specs.Literals.{taken, seen}
@@ -43,14 +45,14 @@ declared sc name t w =
 abbrev pub after_local : Scope → Tree → Ty → Scope
 after_local sc name t = with_local sc (name_of name) t
 
--- the type that is written, if one is
-abbrev pub written_type : Around → Tree → Option Ty
-written_type g absent = None
-written_type g t = Some (g.type_in t)
+-- the type that is written at a place, if one is
+abbrev pub written_type : Around → Place → Tree → Option Ty
+written_type g place absent = None
+written_type g place t = Some (g.type_in place t)
 
-abbrev pub written_of : Around → Tree → Option Written
-written_of g absent = None
-written_of g t = Some (g.written t)
+abbrev pub written_of : Around → Place → Tree → Option Written
+written_of g place absent = None
+written_of g place t = Some (g.written place t)
 
 abbrev pub type_or : Option Ty → Ty → Ty
 type_or None t = t
@@ -66,9 +68,9 @@ local_without sc span name t w =
     (bare_at span (bare_is.Local (declared sc name (type_or t unknown) w)), after_local sc name (type_or t unknown))
 
 abbrev pub local_in : Around → Scope → Span → Tree → Tree → Tree → Stmt × Scope
-local_in g sc span name t absent = local_without sc span name (written_type g t) (written_of g t)
+local_in g sc span name t absent = local_without sc span name (written_type g place_is.Value t) (written_of g place_is.Value t)
 local_in g sc span name t e =
-    let x = value_in g sc e in local_with x.1 span name (written_type g t) (written_of g t) x.0
+    let x = value_in g sc e in local_with x.1 span name (written_type g place_is.Local t) (written_of g place_is.Local t) x.0
 
 -- The type of the variable of a `for`: the elements of a vector, the keys of a set, pairs of a key and a value of a map, and
 -- the bytes of bytes.

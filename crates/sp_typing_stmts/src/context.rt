@@ -9,7 +9,7 @@ use sp_ast::{PathKind, Ref, TypeKind};
 use sp_base::{NoMemory, Span};
 use sp_typed::{Expr, Leaf, LeafOp, ManyOp, Written};
 use sp_types::Type;
-use sp_typing::{Callable, Context, Member, single_name};
+use sp_typing::{Callable, Context, Member, Place, single_name};
 use std::alloc::Global;
 
 /// What stands round an expression in a body: its locals, and what is outside of it.
@@ -58,12 +58,22 @@ impl<'a, C: Context> Context for WithLocals<'a, C> {
         self.outside.current(span)
     }
 
-    fn type_in(&self, alloc: Global, tree: &Ref<'_, TypeKind>) -> Result<Type, NoMemory> {
-        self.outside.type_in(alloc, tree)
+    fn type_in(
+        &self,
+        alloc: Global,
+        place: Place,
+        tree: &Ref<'_, TypeKind>,
+    ) -> Result<Type, NoMemory> {
+        self.outside.type_in(alloc, place, tree)
     }
 
-    fn written(&self, tree: &Ref<'_, TypeKind>) -> Written {
-        self.outside.written(tree)
+    fn written(
+        &self,
+        alloc: Global,
+        place: Place,
+        tree: &Ref<'_, TypeKind>,
+    ) -> Result<Written, NoMemory> {
+        self.outside.written(alloc, place, tree)
     }
 
     fn member(&self, of: &Type, name: &str) -> Result<Option<Member>, NoMemory> {

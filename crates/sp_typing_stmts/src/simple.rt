@@ -18,7 +18,7 @@ use sp_numbers::Width;
 use sp_operands::{first_type, seen};
 use sp_typed::{Assign, Bare, BareOp, Expr, For, Local, Stmt, StmtNode, Valued, ValuedOp, Written};
 use sp_types::{Level, Maker, Type, Word};
-use sp_typing::Context;
+use sp_typing::{Context, Place};
 use sp_typing_exprs::{to_maybe, to_target};
 use sp_words::AssignOp;
 use std::alloc::Global;
@@ -37,37 +37,43 @@ fn valued_at(span: Span, op: ValuedOp, e: Expr) -> Result<Stmt, NoMemory>
     Stmt::new(StmtNode::Valued(Valued { span, op }, e))
 }
 
-/// The type that is written, if one is.
+/// The type that is written at a place, if one is.
 #[tactic(auto, using(crate::proofs::Lefts::written_type_is))]
-/// The type that is written, if one is.
 pub fn written_type<C: Context>(
     alloc: Global,
     context: &C,
+    place: Place,
     tree: &Option<Ref<'_, TypeKind>>,
 ) -> Result<Option<Type>, NoMemory>
     ensures { IfOk result (λ t. t
-        ≡ written_type (C.around context.now) (optional_tree tree.now)) }
+        ≡ written_type (C.around context.now) place (optional_tree tree.now)) }
 {
     match tree {
         Some(tree) => {
             tree.is_sound();
-            Ok(Some(context.type_in(alloc, tree)?))
+            Ok(Some(context.type_in(alloc, place, tree)?))
         }
         None => Ok(None),
     }
 }
 
+/// Which type is written at a place, if one is.
 #[tactic(auto, using(crate::proofs::Lefts::written_of_is))]
-/// Which type is written, if one is.
-pub fn written_of<C: Context>(context: &C, tree: &Option<Ref<'_, TypeKind>>) -> Option<Written>
-    ensures { result ≡ written_of (C.around context.now) (optional_tree tree.now) }
+pub fn written_of<C: Context>(
+    alloc: Global,
+    context: &C,
+    place: Place,
+    tree: &Option<Ref<'_, TypeKind>>,
+) -> Result<Option<Written>, NoMemory>
+    ensures { IfOk result (λ w. w
+        ≡ written_of (C.around context.now) place (optional_tree tree.now)) }
 {
     match tree {
         Some(tree) => {
             tree.is_sound();
-            Some(context.written(tree))
+            Ok(Some(context.written(alloc, place, tree)?))
         }
-        None => None,
+        None => Ok(None),
     }
 }
 
@@ -206,15 +212,19 @@ pub fn local_in<C: Context>(
     ensures scope { OnOk result (scope.new ≡ (local_in (C.around context.now) scope.old span
         name.now (optional_tree tree.now) (optional_tree value.now)).1) }
 {
-    let ty = written_type(alloc, context, tree)?;
-    let written = written_of(context, tree);
     match value {
         Some(value) => {
             value.is_sound();
+            let written = written_of(alloc, context, Place::Local, tree)?;
+            let ty = written_type(alloc, context, Place::Local, tree)?;
             let e = or_drop!(value_in(alloc, context, scope, value); ty);
             local_with(alloc, scope, span, name, ty, written, e)
         }
-        None => local_without(alloc, scope, span, name, ty, written),
+        None => {
+            let written = written_of(alloc, context, Place::Value, tree)?;
+            let ty = written_type(alloc, context, Place::Value, tree)?;
+            local_without(alloc, scope, span, name, ty, written)
+        }
     }
 }
 

@@ -25,6 +25,7 @@ use Rattle.sp_typed_units.specs.declared.readings.TokenOp.TheVariants as token_i
 use Rattle.sp_typed_units.specs.Specs.{Spec, unit_read, list_read, group_read}
 use Rattle.sp_typed_units.specs.Specs as spec_is
 use Rattle.sp_operands.specs.Operands.{unknown}
+use Rattle.sp_typing.specs.declared.places.Place.TheVariants.{Whole}
 use Rattle.sp_typing.specs.Contexts.{Around}
 use Rattle.sp_typing.specs.Typing.{typed_all, each_to, number_in, made_of}
 use Rattle.sp_types.specs.Integers.{int_word}
@@ -108,10 +109,10 @@ word_read at (word_is.Unit n) = unit_spec at n []
 word_read at word_is.Decoder = decoder at
 word_read at _ = broken at (misplaced at at)
 
--- what is written where a type may stand and is no type that is known
+-- What is written where a type may stand and is no type that is known: a name, or a type in which something can't stand.
 abbrev pub unknown_read : Around → Values → Span → Tree → Read
 unknown_read g v at (node (form_is.Type type_is.Path) span (more path none)) = named_read v at (g.named (read.span_of path) path)
-unknown_read g v at _ = broken at (misplaced at at)
+unknown_read g v at t = broken at (g.written Whole t)
 
 abbrev pub type_read : Around → Values → Span → Tree → Ty → Read
 type_read g v at t (word word_is.Unknown) = unknown_read g v at t
@@ -179,7 +180,7 @@ group_of g v at ts r = group_with g v at ts (converted g r.ty (conversion ts)) r
 
 -- How a base is read, apart from counts behind it.
 abbrev pub base_read : Around → Values → Tree → Read
-base_read g v (node (form_is.Base base_is.Type) at (more t none)) = type_read g v at t (g.type_in t)
+base_read g v (node (form_is.Base base_is.Type) at (more t none)) = type_read g v at t (g.type_in Whole t)
 base_read g v (node (form_is.Base base_is.Unit) at (more path (more (row ts) none))) =
     called g at (read.span_of path) (g.named (read.span_of path) path) (typed_all g ts)
 base_read g v (node (form_is.Base base_is.Group) at (more inner (more (row counts) (more (row ts) none)))) =

@@ -7,6 +7,7 @@ ghost use Rattle.sp_typing.specs.Typing.{typed_all, to_maybe};
 ghost use Rattle.sp_types.specs.Integers.{int_word};
 ghost use Rattle.sp_typed_units.specs.declared.readings.TokenOp.TheVariants as token_is;
 ghost use Rattle.sp_typed_units.specs.Specs.{list_read, group_read};
+ghost use Rattle.sp_typing.specs.declared.places.Place.TheVariants.{Whole};
 ghost use Rattle.sp_typing_units.specs.Readings.{fine, unnamed, misplaced, simple, broken, decoder, literal, or_empty, constant_read, constant_of_type, named_read, unit_spec, word_read, unknown_read, type_read, arguments, in_vain, with_arguments, called_word, called, vector_of, counting, container, contained, group_of, base_read, counted_read};
 
 use crate::attributes::{Stored, stored_by};
@@ -21,7 +22,7 @@ use sp_base::{ByteList, NoMemory, Span, Text, or_drop};
 use sp_typed::{Expr, ExprLevel, LeafOp, ManyOp, NewOf, Written};
 use sp_typed_units::{Attribute, ReadOp, Reading, Spec, SpecNode, TokenOp, UnitOf};
 use sp_types::{Level, Maker, Type, Word, int_word};
-use sp_typing::Context;
+use sp_typing::{Context, Place};
 use sp_typing_exprs::{to_maybe, typed_all};
 use sp_words::AttributeName;
 use std::alloc::Global;
@@ -218,7 +219,7 @@ fn unknown_read<C: Context, V: Constants>(
             drop(e);
             read
         }
-        _ => broken(at, misplaced(at, at)),
+        _ => broken(at, context.written(alloc, Place::Whole, tree)?),
     }
 }
 
@@ -231,9 +232,9 @@ fn type_read<C: Context, V: Constants>(
     tree: &Ref<'_, TypeKind>,
 ) -> Result<Read, NoMemory>
     ensures { IfOk result (λ r. r ≡ type_read (C.around context.now) (V.values constants.now) at
-        tree.now ((C.around context.now).type_in tree.now)) }
+        tree.now ((C.around context.now).type_in Whole tree.now)) }
 {
-    let ty = context.type_in(alloc, tree)?;
+    let ty = context.type_in(alloc, Place::Whole, tree)?;
     match ty.level() {
         Level::Word(Word::Unknown) => {
             drop(ty);

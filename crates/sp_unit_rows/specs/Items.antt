@@ -9,6 +9,7 @@ use Rattle.sp_typed_units.specs.declared.declarations.Variable.{Variable}
 use Rattle.sp_typed_units.specs.declared.declarations.Sink.{Sink}
 use Rattle.sp_typed_units.specs.declared.declarations.OrderProperty.{OrderProperty}
 use Rattle.sp_typed_units.specs.Parts.{Part}
+use Rattle.sp_typing.specs.declared.places.Place.TheVariants.{Value}
 use Rattle.sp_typing.specs.Contexts.{Around}
 use Rattle.sp_typing.specs.Typing.{name_of, to_target}
 use Rattle.sp_typing_units.specs.Values.{Values}
@@ -27,9 +28,9 @@ abbrev pub variable_of : Around → Fields → Tree → Tree → Option Tree →
 variable_of g f name t value = record {
   member = f.number (name_of name);
   span = span_of name;
-  written = g.written t;
+  written = g.written Value t;
   taken = f.taken (span_of name);
-  value = brought (g.type_in t) (maybe_typed g value);
+  value = brought (g.type_in Value t) (maybe_typed g value);
 }
 
 abbrev pub variable_in : Around → Fields → Tree → List Variable

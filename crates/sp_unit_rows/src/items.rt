@@ -11,7 +11,7 @@ use sp_base::{NoMemory, or_drop};
 use sp_typed::Expr;
 use sp_typed_units::{OrderProperty, Part, Sink, Variable};
 use sp_types::Type;
-use sp_typing::Context;
+use sp_typing::{Context, Place};
 use sp_typing_exprs::{to_target, typed};
 use sp_typing_units::{Constants, FieldTable, order_of, part_of};
 use std::alloc::Global;
@@ -43,14 +43,15 @@ fn variable_of<C: Context, F: FieldTable>(
     ensures { IfOk result (λ v. v ≡ variable_of (C.around context.now) (F.fields table.now)
         name.now tree.now value.now) }
 {
-    let to = context.type_in(alloc, tree)?;
+    let written = context.written(alloc, Place::Value, tree)?;
+    let to = context.type_in(alloc, Place::Value, tree)?;
     let value = brought(alloc, context, &to, value);
     drop(to);
     let value = value?;
     Ok(Variable {
         member: table.number(name.text()),
         span: name.span(),
-        written: context.written(tree),
+        written,
         taken: table.taken(name.span()),
         value,
     })

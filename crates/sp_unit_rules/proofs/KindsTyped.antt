@@ -13,6 +13,7 @@ use Rattle.sp_types.specs.declared.words.Word.TheVariants as word_is
 use Rattle.sp_typed.specs.declared.words.LeafOp.{LeafOp}
 use Rattle.sp_typed.specs.declared.words.LeafOp.TheVariants as leaf_is
 use Rattle.sp_typed.specs.Exprs.{Expr, leaf}
+use Rattle.sp_typing.specs.declared.places.Place.TheVariants.{Whole}
 use Rattle.sp_typing.specs.Contexts.{Around}
 use Rattle.sp_typing.specs.Typing.{typed_all}
 use Rattle.sp_typing_units.specs.declared.readings.Read.{Read}
@@ -91,7 +92,7 @@ of_contained g at (more (node form_is.Count span (more count none)) ts) r h =
 of_contained g at (more t ts) r h = of_contained g at ts r h
 
 of_base : (g : Around) (v : Values) (t : Tree) → IsKind (base_read g v t)
-of_base g v (node (form_is.Base base_is.Type) at (more t none)) = of_type g v at t (g.type_in t)
+of_base g v (node (form_is.Base base_is.Type) at (more t none)) = of_type g v at t (g.type_in Whole t)
 of_base g v (node (form_is.Base base_is.Unit) at (more path (more (row ts) none))) =
     of_called g at (read.span_of path) (g.named (read.span_of path) path) (typed_all g ts)
 of_base g v (node (form_is.Base base_is.Group) at (more inner (more (row counts) (more (row ts) none)))) =

@@ -17,6 +17,7 @@ use Rattle.sp_typed.specs.Exprs.{Expr, exprs, type_of}
 use Rattle.sp_typed.specs.Nodes.{holds, all_hold}
 use Rattle.sp_typed.specs.Stmts.{Stmt, block, branch, while_loop, for_loop, switch, stmts, branch_row}
 use Rattle.sp_typed.specs.StmtNodes.{stmts_in, stmts_in_all, stmts_in_branches, stmts_in_cases, nodes_hold, stmts_hold, branches_hold, cases_hold}
+use Rattle.sp_typing.specs.declared.places.Place.TheVariants as place_is
 use Rattle.sp_typing.specs.Contexts.{Around}
 use Rattle.sp_operands.specs.Operands.{first_type}
 use Rattle.sp_operands.specs.Literals.{seen, taken}
@@ -144,8 +145,7 @@ module _ (only : OneOp → Bool) (k : Known) (m : ℕ) (is_type is_path : Tree �
       → IsGood (local_without sc span name (Some t) (Some w)).0 (local_without sc span name (Some t) (Some w)).1
   local_alone sc span name t w written f q =
       let s = (local_without sc span name (Some t) (Some w)).0 in
-      let tests = at_first k wanted m s [] q in
-      let placed = not_misplaced m w.misplaced (fine_parts (written_tests m w) _ tests).0 in
+      let placed = not_misplaced m w.misplaced (at_first k wanted m s [] q) in
       (refl, and_from (is_full t) (locals_full sc.locals) (written placed) f)
 
   mutual
@@ -160,21 +160,21 @@ module _ (only : OneOp → Bool) (k : Known) (m : ℕ) (is_type is_path : Tree �
     stmt_known in_loop sc (node (form_is.Stmt stmt_is.Local) span (more name (more absent (more (node form at es) none)))) is f c q =
         local_value sc span name (node form at es) None None tt f is c q
     stmt_known in_loop sc (node (form_is.Stmt stmt_is.Local) span (more name (more (row ts) (more absent none)))) is f c q =
-        local_alone sc span name (g.type_in (row ts)) (g.written (row ts)) (known.type_in (row ts) (and_parts (is_type (row ts)) true is).0) f q
+        local_alone sc span name (g.type_in place_is.Value (row ts)) (g.written place_is.Value (row ts)) (known.type_in place_is.Value (row ts) (and_parts (is_type (row ts)) true is).0) f q
     stmt_known in_loop sc (node (form_is.Stmt stmt_is.Local) span (more name (more (row ts) (more (row es) none)))) is f c q =
         never (and_parts (is_type (row ts)) false is).1
     stmt_known in_loop sc (node (form_is.Stmt stmt_is.Local) span (more name (more (row ts) (more (node form at es) none)))) is f c q =
         let p = and_parts (is_type (row ts)) (is_expr is_type is_path (node form at es)) is in
-        local_value sc span name (node form at es) (Some (g.type_in (row ts))) (Some (g.written (row ts))) (known.type_in (row ts) p.0) f p.1 c q
+        local_value sc span name (node form at es) (Some (g.type_in place_is.Local (row ts))) (Some (g.written place_is.Local (row ts))) (known.type_in place_is.Local (row ts) p.0) f p.1 c q
     stmt_known in_loop sc (node (form_is.Stmt stmt_is.Local) span (more name (more (node sort from ts) (more absent none)))) is f c q =
         let t = node sort from ts in
-        local_alone sc span name (g.type_in t) (g.written t) (known.type_in t (and_parts (is_type t) true is).0) f q
+        local_alone sc span name (g.type_in place_is.Value t) (g.written place_is.Value t) (known.type_in place_is.Value t (and_parts (is_type t) true is).0) f q
     stmt_known in_loop sc (node (form_is.Stmt stmt_is.Local) span (more name (more (node sort from ts) (more (row es) none)))) is f c q =
         never (and_parts (is_type (node sort from ts)) false is).1
     stmt_known in_loop sc (node (form_is.Stmt stmt_is.Local) span (more name (more (node sort from ts) (more (node form at es) none)))) is f c q =
         let t = node sort from ts in
         let p = and_parts (is_type t) (is_expr is_type is_path (node form at es)) is in
-        local_value sc span name (node form at es) (Some (g.type_in t)) (Some (g.written t)) (known.type_in t p.0) f p.1 c q
+        local_value sc span name (node form at es) (Some (g.type_in place_is.Local t)) (Some (g.written place_is.Local t)) (known.type_in place_is.Local t p.0) f p.1 c q
     stmt_known in_loop sc (node (form_is.Stmt stmt_is.If) span (more (row bs) (more other none))) is f c q =
         let p = and_parts (are_branches is_type is_path bs) (is_stmt is_type is_path other) is in
         let r = typed_branches b g in_loop sc bs in

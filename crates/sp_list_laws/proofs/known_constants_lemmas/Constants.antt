@@ -22,9 +22,9 @@ use Rattle.sp_names.specs.declared.sort.Meaning.TheVariants as meaning_is
 use Rattle.sp_names.specs.declared.rows.Declaration.{Declaration}
 use Rattle.sp_names.specs.Declarations.{sort_of, sort_at}
 use Rattle.sp_names.specs.Names.{path_means}
-use Rattle.sp_names.specs.Types.{type_in, mentions_in}
-use Rattle.sp_around.specs.declared.written.Place.TheVariants as place_is
-use Rattle.sp_around.specs.Written.{written_in}
+use Rattle.sp_names.specs.Types.{mentions_in}
+use Rattle.sp_typing.specs.declared.places.Place.TheVariants.{Value}
+use Rattle.sp_around.specs.Written.{type_at, written_in}
 use Rattle.sp_around.specs.Arounds.{stored_by, declared_at, meaning_at}
 use Rattle.sp_ast.specs.Views.{present}
 use Rattle.sp_constants.specs.declared.outcome.Outcome.{Outcome}
@@ -36,7 +36,7 @@ use Rattle.sp_body_rules.specs.Known.{Known}
 use Rattle.sp_body_rules.specs.Values.{is_regex, is_no_value, value_goes, written_tests, value_tests, target_tests}
 use Rattle.sp_list_rules.specs.Lists.{all_tests}
 use Rattle.sp_list_rules.specs.Names.{constant_names}
-use Rattle.sp_list_rules.specs.Bodies.{plain_tests, regex_tests, told_tests, declared_tests, lacks_value, inside_const, const_tests}
+use Rattle.sp_list_rules.specs.Bodies.{regex_tests, told_tests, declared_tests, lacks_value, inside_const, const_tests}
 use Rattle.sp_declared_values.specs.declared.valued.Valued.{Valued}
 use Rattle.sp_declared_values.specs.declared.answer.Answer.{Answer}
 use Rattle.sp_declared_values.specs.Valued.{written_tree, value_tree, written_type, constant_of as valued_constant, if_constant, constants_among, constants, valued, constant_place, needs_of}
@@ -165,10 +165,9 @@ module _ (list : List Tree) (f : ℕ → Option Ty) (known : ℕ → Option Answ
       (typed_spine g k m kv types paths (values_known m) (values_told m) (λ span path. meaning_three list f (constant_type list f known) span path (path_means list f m path)) (λ span. refl) (λ span. refl) v is))
 
   -- a type that is written
-  pub written_full : (m : ℕ) (w : Tree) (rest : List (Bool × Fault)) → is_type list f m w ≡ true → none_hold (written_tests m (written_in list f m w) ++ rest) ≡ true → is_full (type_in list f m w) ≡ true
-  written_full m w rest is tests =
-      let p = none_parts (written_tests m (written_in list f m w)) rest tests in
-      type_full list f m place_is.Whole w is (placed m (written_in list f m w).misplaced p.0) (each_has list f m it.types (mentions_in list m w))
+  written_full : (m : ℕ) (w : Tree) → is_type list f m w ≡ true → none_hold (written_tests m (written_in list f m Value w)) ≡ true → is_full (type_at list f m Value w) ≡ true
+  written_full m w is tests =
+      type_full list f m Value w is (placed m (written_in list f m Value w).misplaced tests) (each_has list f m it.types (mentions_in list m w))
 
   -- an answer without a written type, and one with it
   abbrev Tests : ℕ → Ty → Option Written → Expr → Type 0
@@ -191,23 +190,23 @@ module _ (list : List Tree) (f : ℕ → Option Ty) (known : ℕ → Option Answ
       let is = seen_is e s.within in
       and_from (is_full (seen e)) (fits (seen e) (fitting true o)) (ap is_full is ∙ full_when e s.right) (ap (λ x. fits x (fitting true o)) is ∙ fitting_fits true (type_of e) o refl (fit (whole_when e g s) s.within))
 
-  written_stands : (m : ℕ) (w : Tree) (x : Expr) → is_type list f m w ≡ true → Good (widened (type_in list f m w) x) → Tests m (type_in list f m w) (Some (written_in list f m w)) (widened (type_in list f m w) x)
-      → Stands (widened (type_in list f m w) x) × (is_full (type_in list f m w) ≡ true) × (type_of (widened (type_in list f m w) x) ≡ type_in list f m w)
-  written_stands m w x is g tests = by (is_regex (type_of (widened (type_in list f m w) x))) tests
+  written_stands : (m : ℕ) (w : Tree) (x : Expr) → is_type list f m w ≡ true → Good (widened (type_at list f m Value w) x) → Tests m (type_at list f m Value w) (Some (written_in list f m Value w)) (widened (type_at list f m Value w) x)
+      → Stands (widened (type_at list f m Value w) x) × (is_full (type_at list f m Value w) ≡ true) × (type_of (widened (type_at list f m Value w) x) ≡ type_at list f m Value w)
+  written_stands m w x is g tests = by (is_regex (type_of (widened (type_at list f m Value w) x))) tests
     where
       by : (b : Bool)
-          → none_hold (if b then regex_tests m (type_in list f m w) (Some (written_in list f m w)) (widened (type_in list f m w) x) else told_tests m (type_in list f m w) (Some (written_in list f m w)) (widened (type_in list f m w) x)) ≡ true
-          → Stands (widened (type_in list f m w) x) × (is_full (type_in list f m w) ≡ true) × (type_of (widened (type_in list f m w) x) ≡ type_in list f m w)
+          → none_hold (if b then regex_tests m (type_at list f m Value w) (Some (written_in list f m Value w)) (widened (type_at list f m Value w) x) else told_tests m (type_at list f m Value w) (Some (written_in list f m Value w)) (widened (type_at list f m Value w) x)) ≡ true
+          → Stands (widened (type_at list f m Value w) x) × (is_full (type_at list f m Value w) ≡ true) × (type_of (widened (type_at list f m Value w) x) ≡ type_at list f m Value w)
       by true h =
-          let u = type_in list f m w in
-          let p = none_parts (plain_tests m u (written_in list f m w)) _ h in
-          let full = written_full m w _ is p.0 in
+          let u = type_at list f m Value w in
+          let p = none_parts (written_tests m (written_in list f m Value w)) _ h in
+          let full = written_full m w is p.0 in
           never (sym (not-true (is_known u) (and_parts (not (is_known u)) true p.1).0) ∙ full_is_known u full)
       by false h =
-          let u = type_in list f m w in
+          let u = type_at list f m Value w in
           let e = widened u x in
-          let p = none_parts (plain_tests m u (written_in list f m w)) (target_tests m u e) h in
-          let full = written_full m w _ is p.0 in
+          let p = none_parts (written_tests m (written_in list f m Value w)) (target_tests m u e) h in
+          let full = written_full m w is p.0 in
           let known_type = full_is_known u full in
           let a = and_parts (not (is_no_value e)) _ p.1 in
           let b = and_parts (not (is_known u && not (value_goes u e))) _ a.1 in
@@ -219,10 +218,10 @@ module _ (list : List Tree) (f : ℕ → Option Ty) (known : ℕ → Option Answ
           let same_type = target_same u x within (either_goes (is_known (type_of e)) (is_known u) (same (type_of e) u) (widens (type_of e) u) (full_is_known (type_of e) right) known_type c.1) in
           (s, full, same_is (type_of e) u same_type)
 
-  written_good : (m : ℕ) (w : Tree) (x : Expr) → is_type list f m w ≡ true → Good (widened (type_in list f m w) x) → Fitting (widened (type_in list f m w) x) → Tests m (type_in list f m w) (Some (written_in list f m w)) (widened (type_in list f m w) x)
-      → is_good (constant_answer list f known (Some (type_in list f m w)) (widened (type_in list f m w) x)) ≡ true
+  written_good : (m : ℕ) (w : Tree) (x : Expr) → is_type list f m w ≡ true → Good (widened (type_at list f m Value w) x) → Fitting (widened (type_at list f m Value w) x) → Tests m (type_at list f m Value w) (Some (written_in list f m Value w)) (widened (type_at list f m Value w) x)
+      → is_good (constant_answer list f known (Some (type_at list f m Value w)) (widened (type_at list f m Value w) x)) ≡ true
   written_good m w x is g fit tests =
-      let u = type_in list f m w in
+      let u = type_at list f m Value w in
       let e = widened u x in
       let o = constant_of (known_values list f known) e in
       let r = written_stands m w x is g tests in
@@ -237,13 +236,13 @@ module _ (list : List Tree) (f : ℕ → Option Ty) (known : ℕ → Option Answ
       → Tests m (written_or (written_type list f m w) (constant_expr list f known m (written_type list f m w) v)) (maybe_written list f known m w) (constant_expr list f known m (written_type list f m w) v)
       → is_good (constant_answer list f known (written_type list f m w) (constant_expr list f known m (written_type list f m w) v)) ≡ true
   answer_good m None v fine g fit tests = seen_good m (seen (typed (here list f known m) v)) (typed (here list f known m) v) g fit tests
-  answer_good m (Some w) v fine g fit tests = written_good m w (taken (type_in list f m w) (typed (here list f known m) v)) fine g fit tests
+  answer_good m (Some w) v fine g fit tests = written_good m w (taken (type_at list f m Value w) (typed (here list f known m) v)) fine g fit tests
 
   answer_stands : (m : ℕ) (w : Option Tree) (v : Tree) → WrittenFine list f m w → Good (constant_expr list f known m (written_type list f m w) v)
       → Tests m (written_or (written_type list f m w) (constant_expr list f known m (written_type list f m w) v)) (maybe_written list f known m w) (constant_expr list f known m (written_type list f m w) v)
       → Stands (constant_expr list f known m (written_type list f m w) v)
   answer_stands m None v fine g tests = seen_stands m (seen (typed (here list f known m) v)) (typed (here list f known m) v) g tests
-  answer_stands m (Some w) v fine g tests = (written_stands m w (taken (type_in list f m w) (typed (here list f known m) v)) fine g tests).0
+  answer_stands m (Some w) v fine g tests = (written_stands m w (taken (type_at list f m Value w) (typed (here list f known m) v)) fine g tests).0
 
   -- the value of a constant, and what is asked of it under its answer
   abbrev value_in : Declaration → Expr

@@ -25,6 +25,7 @@ use Rattle.sp_typed_units.specs.declared.items.Field.{Field}
 use Rattle.sp_typed_units.specs.Specs.{Spec}
 use Rattle.sp_operands.specs.Operands.{unknown, boolean}
 use Rattle.sp_operands.specs.Literals.{is_past}
+use Rattle.sp_typing.specs.declared.places.Place.TheVariants.{Whole}
 use Rattle.sp_typing.specs.Contexts.{Around}
 use Rattle.sp_typing.specs.Typing.{typed}
 use Rattle.sp_typing_units.specs.declared.attributes.Site.{Site}
@@ -220,7 +221,7 @@ module _ (list : List Tree) (a : Answers list) (formed_list : list_all is_formed
           converted_full (counted_read last v base counts).ty (conversion ts) fu (subst (λ u. conversion_open list count r (here r) u (conversion ts) ≡ None) (sym same) opens.1) good
 
       pub base_full : (x : Tree) → is_of group_is.Bases x ≡ true → Fine x → IsGood (base_read last v x).spec → base_open list count r (here r) v x ≡ None → is_full (base_read last v x).ty ≡ true
-      base_full (node (form_is.Base base_is.Type) at (more u none)) of h good open_ = type_sound last v at u (last.type_in u) good.2
+      base_full (node (form_is.Base base_is.Type) at (more u none)) of h good open_ = type_sound last v at u (last.type_in Whole u) good.2
       base_full (node (form_is.Base base_is.Unit) at (more path (more (row ts) none))) of h good open_ =
           called_sound last v at (trees.span_of path) (last.named (trees.span_of path) path) _ good.2
       base_full (node (form_is.Base base_is.Group) at (more inner (more (row counts) (more (row ts) none)))) of h good open_ =

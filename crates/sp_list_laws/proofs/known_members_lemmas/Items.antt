@@ -26,12 +26,12 @@ use Rattle.sp_ast.specs.Views.{present}
 use Rattle.sp_typing_units.specs.Parts.{Fields, arm_of, field_in, part_of, parts_of, body_of, arms_of}
 use Rattle.sp_solver.specs.Told.{told}
 use Rattle.sp_names.specs.Types.{or_unknown, mentions_in}
-use Rattle.sp_around.specs.declared.written.Place.TheVariants as place_is
+use Rattle.sp_typing.specs.declared.places.Place.TheVariants as place_is
 use Rattle.sp_body_rules.specs.Known.{Known}
 use Rattle.sp_body_rules.specs.Values.{written_tests}
 use Rattle.sp_list_rules.specs.Lists.{all_tests, option_tests}
 use Rattle.sp_list_rules.specs.Names.{expr_names, part_names, parts_names, arms_names}
-use Rattle.sp_list_rules.specs.Bodies.{plain_tests, member_type, variable_tests}
+use Rattle.sp_list_rules.specs.Bodies.{member_type, variable_tests}
 use Rattle.sp_list_rules.specs.Fields.{subject_tests, arm_tests, part_tests, parts_tests, arms_tests}
 use Rattle.sp_around.specs.declared.sources.Source.{Source}
 use Rattle.sp_around.specs.declared.sources.Source.TheVariants as source_is
@@ -221,9 +221,8 @@ module _ (list : List Tree) (a : Answers list) (formed_list : list_all is_formed
   variable_good : (x : Tree) (rows : List Member) (name value : Tree) → is_of group_is.Types x ≡ true → Fine x → none_hold (variable_tests k m rows (variable_of round_unit fields name x (present value))) ≡ true → IsGood (source_is.Variable x)
   variable_good x rows name value of h tests r w all open_ =
       let var = variable_of round_unit fields name x (present value) in
-      let p = none_parts (plain_tests m (member_type (slice_get rows var.member)) var.written) _ tests in
-      let q = none_parts (written_tests m var.written) _ p.0 in
-      type_full list f m place_is.Whole x (type_fine list f m x of h) (placed m var.written.misplaced q.0) (each_has list f m (all_types list a formed_list unbroken) (mentions_in list m x))
+      let p = none_parts (written_tests m var.written) _ tests in
+      type_full list f m place_is.Value x (type_fine list f m x of h) (placed m var.written.misplaced p.0) (each_has list f m (all_types list a formed_list unbroken) (mentions_in list m x))
 
   -- All that is declared in the items of a unit.
   pub items_good : (rows : List Member) (xs : Trees) → are_of group_is.Items xs ≡ true → AllFine xs → none_hold (all_tests (variable_tests k m rows) (variables_in round_unit fields xs)) ≡ true → PartsGood (parts (parts_in round_unit worth fields xs))

@@ -23,6 +23,7 @@ use Rattle.sp_typed_units.specs.declared.declarations.Parameter.{Parameter}
 use Rattle.sp_typed_units.specs.declared.declarations.Unit.{Unit}
 use Rattle.sp_typed_units.specs.Specs.{Spec}
 use Rattle.sp_operands.specs.Operands.{unknown}
+use Rattle.sp_typing.specs.declared.places.Place.TheVariants.{Whole}
 use Rattle.sp_typing.specs.Contexts.{Around}
 use Rattle.sp_typing_units.specs.declared.readings.Read.{Read}
 use Rattle.sp_typing_units.specs.Values.{Values}
@@ -35,11 +36,12 @@ use Rattle.sp_names.specs.declared.sort.Meaning.{Meaning}
 use Rattle.sp_names.specs.declared.sort.Meaning.TheVariants as meaning_is
 use Rattle.sp_names.specs.Declarations.{sort_at, number_at}
 use Rattle.sp_names.specs.Names.{path_names, path_means}
-use Rattle.sp_names.specs.Types.{or_unknown, meaning_type, type_in}
+use Rattle.sp_names.specs.Types.{or_unknown, meaning_type, type_in, mentions_in}
 use Rattle.sp_names.specs.Faults.{nothing_fault}
 use Rattle.sp_around.specs.Written.{is_type_sort}
 use Rattle.sp_around.specs.Arounds.{word_leaf, type_leaf, declared_at, meaning_at}
 use Rattle.sp_body_rules.specs.Known.{Known}
+use Rattle.sp_body_rules.specs.Values.{written_tests}
 use Rattle.sp_list_rules.specs.Fields.{spec_tests}
 use Rattle.sp_declared_values.specs.Answers.{constant_type}
 use Rattle.sp_unit_rules.specs.declared.here.Here.{Here}
@@ -53,6 +55,8 @@ use Rattle.sp_list_laws.proofs.known_types_lemmas.Full.{never}
 use Rattle.sp_list_laws.specs.whole_list.Known.{HasType}
 use Rattle.sp_list_laws.specs.whole_list.Types.{means_something, is_type}
 use Rattle.sp_list_laws.proofs.whole_list_lemmas.None.{none_parts}
+use Rattle.sp_list_laws.proofs.whole_list_lemmas.Types.{type_full, each_has}
+use Rattle.sp_list_laws.proofs.whole_list_lemmas.Functions.{placed}
 use Rattle.sp_list_laws.specs.known_constants.Fine.{IsFine}
 use Rattle.sp_list_laws.specs.known_constants.Given.{asked}
 use Rattle.sp_list_laws.proofs.known_constants_lemmas.Fine.{inside as parts_fine, first, formed, type_fine}
@@ -146,7 +150,9 @@ module _ (list : List Tree) (a : Answers list) (formed_list : list_all is_formed
   unknown_reads : (own : List Attribute) (at : Span) (t : Tree) → is_type list f m t ≡ true → type_in list f m t ≡ unknown → Reads own (unknown_read g worth at t)
   unknown_reads own at (node (form_is.Type type_is.Path) span (more path none)) is e h =
       meaning_reads own at (trees.span_of path) path (path_means list f m path) (means_named list f m (path_names path)) is e h
-  unknown_reads own at _ is e h = never h.0
+  unknown_reads own at t is e h =
+      let p = none_parts (written_tests m (g.written Whole t)) _ h.0 in
+      no_unknown (type_in list f m t) (type_full list f m Whole t is (placed m (g.written Whole t).misplaced p.0) (each_has list f m has_type (mentions_in list m t))) e
 
   type_reads : (own : List Attribute) (at : Span) (t : Tree) (u : Ty) → is_type list f m t ≡ true → type_in list f m t ≡ u → Reads own (type_read g worth at t u)
   type_reads own at t (word word_is.Unknown) is e h = unknown_reads own at t is e h
@@ -198,7 +204,7 @@ module _ (list : List Tree) (a : Answers list) (formed_list : list_all is_formed
   base_reads (node (form_is.Base base_is.Type) at (more t none)) of h good =
       let ws = more t none in
       let o = and_parts (is_of group_is.Types t) true (formed list f m (form_is.Base base_is.Type) at ws h) in
-      type_reads good.own at t (g.type_in t) (type_fine list f m t o.0 (first list f m t none (parts_fine list f m (form_is.Base base_is.Type) at ws h))) refl good.fine
+      type_reads good.own at t (g.type_in Whole t) (type_fine list f m t o.0 (first list f m t none (parts_fine list f m (form_is.Base base_is.Type) at ws h))) refl good.fine
   base_reads (node (form_is.Base base_is.Type) at (more t (more y z))) of h good = no_first (is_of group_is.Types t) (are_formed (more t (more y z))) h.0
   base_reads (node (form_is.Base base_is.Unit) at none) of h good = never h.0
   base_reads (node (form_is.Base base_is.Unit) at (more path none)) of h good = no_first (is_of group_is.Paths path) (are_formed (more path none)) h.0

@@ -213,7 +213,7 @@ module _ (body : Body) (wanted : Option Ty) (k : Known) (m : ℕ) (asked : IsAsk
       and_from (pass e) (slot_is body.around l.slot (type_of e)) (value_so e i c r tests.0 past) (slot_moves l.slot l.ty (type_of e) is slot)
   local_so l (Some w) e full i c r own slot tests =
       let g = (fine_parts (written_tests m w) _ tests).1 in
-      let t = target_so l.ty e full i c r own g.1 in
+      let t = target_so l.ty e full i c r own g in
       and_from (pass e) (slot_is body.around l.slot (type_of e)) t.0 (slot_moves l.slot l.ty (type_of e) t.1 slot)
 
   -- what is returned

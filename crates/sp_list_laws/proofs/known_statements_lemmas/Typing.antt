@@ -18,6 +18,8 @@ use Rattle.sp_typed.specs.Exprs.{Expr, Exprs, leaf, one, two, three, many, exprs
 use Rattle.sp_typed.specs.Nodes.{holds, all_hold}
 use Rattle.sp_typed.specs.Stmts.{Stmt, stmts, branch_row}
 use Rattle.sp_operands.specs.Literals.{can_take, taken, seen, is_past}
+use Rattle.sp_typing.specs.declared.places.Place.{Place}
+use Rattle.sp_typing.specs.declared.places.Place.TheVariants as place_is
 use Rattle.sp_typing.specs.Contexts.{Around as Names}
 use Rattle.sp_typing.specs.Typing.{typed, one_at, widened, to_target, to_maybe}
 use Rattle.sp_typing_stmts.specs.declared.body.Body.{Body as Typing}
@@ -206,13 +208,13 @@ module _ (g : Names) where
 
   -- a local, with a value and without
   local_in_behind : (sc : Scope) (span : Span) (name t e : Tree) → Behind sc (local_in g sc span name t e).1
-  local_in_behind sc span name t absent = local_behind sc name (type_or (written_type g t) (word word_is.Unknown))
+  local_in_behind sc span name t absent = local_behind sc name (type_or (written_type g place_is.Value t) (word word_is.Unknown))
   local_in_behind sc span name t (row es) =
       let x = value_in g sc (row es) in
-      then_behind sc x.1 (local_in g sc span name t (row es)).1 (value_behind sc (row es)) (local_behind x.1 name (type_or (written_type g t) (seen x.0)))
+      then_behind sc x.1 (local_in g sc span name t (row es)).1 (value_behind sc (row es)) (local_behind x.1 name (type_or (written_type g place_is.Local t) (seen x.0)))
   local_in_behind sc span name t (node form at es) =
       let x = value_in g sc (node form at es) in
-      then_behind sc x.1 (local_in g sc span name t (node form at es)).1 (value_behind sc (node form at es)) (local_behind x.1 name (type_or (written_type g t) (seen x.0)))
+      then_behind sc x.1 (local_in g sc span name t (node form at es)).1 (value_behind sc (node form at es)) (local_behind x.1 name (type_or (written_type g place_is.Local t) (seen x.0)))
 
   kept_behind : (sc : Scope) (t : Tree) → Behind sc (with_owner (value_in g sc t).1 (owner (value_in g sc t).0))
   kept_behind sc t =
@@ -378,12 +380,12 @@ module _ (body : Body) (g : Names) (made_names : AreMade body.around g) (wide_na
   WithReady sc span name e t w =
       In e → Kept (local_with sc span name t w e).1 → stmt_built (local_with sc span name t w e).0 ≡ true → stmt_ready body wanted true (local_with sc span name t w e).0 ≡ true
 
-  by_written : (P : Option Ty → Option Written → Type 0) → P None None → ((t : Ty) (w : Written) → P (Some t) (Some w)) → (t : Tree) → P (written_type g t) (written_of g t)
-  by_written P alone both absent = alone
-  by_written P alone both (row ts) = both (g.type_in (row ts)) (g.written (row ts))
-  by_written P alone both (node form at ts) = both (g.type_in (node form at ts)) (g.written (node form at ts))
+  by_written : (P : Option Ty → Option Written → Type 0) → P None None → ((t : Ty) (w : Written) → P (Some t) (Some w)) → (place : Place) (t : Tree) → P (written_type g place t) (written_of g place t)
+  by_written P alone both place absent = alone
+  by_written P alone both place (row ts) = both (g.type_in place (row ts)) (g.written place (row ts))
+  by_written P alone both place (node form at ts) = both (g.type_in place (node form at ts)) (g.written place (node form at ts))
 
-  with_ready : (sc : Scope) (span : Span) (name t : Tree) (e : Expr) → WithReady sc span name e (written_type g t) (written_of g t)
+  with_ready : (sc : Scope) (span : Span) (name t : Tree) (e : Expr) → WithReady sc span name e (written_type g place_is.Local t) (written_of g place_is.Local t)
   with_ready sc span name t e = by_written (WithReady sc span name e)
       (λ x slots built.
       and_from (holds ready e) (same (seen e) (seen e) && slot_is body.around (length sc.slots) (seen e)) (ready_so e x built)
@@ -391,17 +393,17 @@ module _ (body : Body) (g : Names) (made_names : AreMade body.around g) (wide_na
       (λ u w x slots built.
       and_from (holds ready (to_target u e)) (is_targeted u (to_target u e) && slot_is body.around (length sc.slots) u) (ready_so (to_target u e) (here_target body.around u e x) built)
       (and_from (is_targeted u (to_target u e)) (slot_is body.around (length sc.slots) u) (targeted_made u e) (last_slot sc u slots)))
-      t
+      place_is.Local t
 
   local_ready_so : (in_loop : Bool) (sc : Scope) (span : Span) (name t e : Tree) → Named sc → Kept (local_in g sc span name t e).1 → stmt_built (local_in g sc span name t e).0 ≡ true → stmt_ready body wanted in_loop (local_in g sc span name t e).0 ≡ true
-  local_ready_so in_loop sc span name t absent named slots built = last_slot sc (type_or (written_type g t) (word word_is.Unknown)) slots
+  local_ready_so in_loop sc span name t absent named slots built = last_slot sc (type_or (written_type g place_is.Value t) (word word_is.Unknown)) slots
   local_ready_so in_loop sc span name t (row es) named slots built =
       let x = value_in g sc (row es) in
-      let first = back x.1 (local_in g sc span name t (row es)).1 (local_behind x.1 name (type_or (written_type g t) (seen x.0))) slots in
+      let first = back x.1 (local_in g sc span name t (row es)).1 (local_behind x.1 name (type_or (written_type g place_is.Local t) (seen x.0))) slots in
       with_ready x.1 span name t x.0 (value_here sc (row es) named first) slots built
   local_ready_so in_loop sc span name t (node form at es) named slots built =
       let x = value_in g sc (node form at es) in
-      let first = back x.1 (local_in g sc span name t (node form at es)).1 (local_behind x.1 name (type_or (written_type g t) (seen x.0))) slots in
+      let first = back x.1 (local_in g sc span name t (node form at es)).1 (local_behind x.1 name (type_or (written_type g place_is.Local t) (seen x.0))) slots in
       with_ready x.1 span name t x.0 (value_here sc (node form at es) named first) slots built
 
   -- what is returned

@@ -47,7 +47,7 @@ alone_whole e g n =
 module _ (k : Known) (wanted : Option Ty) (m : ℕ) where
   local_whole : (t : Ty) (o : Option Written) (e : Expr) → is_good e ≡ true → Fine (local_tests m t o e) → holds is_right e ≡ true
   local_whole t None e g f = value_whole e g f.0
-  local_whole t (Some w) e g f = value_whole e g (fine_parts (written_tests m w) _ f).1.1.0
+  local_whole t (Some w) e g f = value_whole e g (fine_parts (written_tests m w) _ f).1.0
 
   return_whole : (o : Option Ty) (e : Expr) → is_good e ≡ true → Fine (return_tests o m e) → holds is_right e ≡ true
   return_whole None e g f = value_whole e g f.0

@@ -31,7 +31,7 @@ use Rattle.sp_list_laws.specs.known_types.Full.{is_full, are_full, is_right}
 use Rattle.sp_list_laws.specs.known_types.Clear.{is_clear}
 use Rattle.sp_list_laws.specs.known_types.Given.{is_member_op, is_member, is_decided}
 use Rattle.sp_list_laws.proofs.known_types_lemmas.Full.{never, integer_full, result_full, vector_first, map_second}
-use Rattle.sp_list_laws.proofs.known_types_lemmas.Tests.{Fine, Good, Clear, Holds, Value, fine_parts, first_fine, first_stands, value_of, full_of, seen_is, seen_full, knows_it, whole_of, right_when, both_false, not_so}
+use Rattle.sp_list_laws.proofs.known_types_lemmas.Tests.{Fine, Good, Clear, Holds, Value, fine_parts, first_fine, first_stands, value_of, full_of, seen_is, seen_full, knows_it, whole_of, right_when, both_false, not_so, not_misplaced}
 use Rattle.sp_list_laws.proofs.known_types_lemmas.Kept.{target_holds, agreeing_holds}
 
 -- a member of a tuple
@@ -107,9 +107,11 @@ module _ (only : OneOp → Bool) (k : Known) (m : ℕ) where
   pub cast_holds : (span : Span) (t : Ty) (w : Written) (e : Expr) → is_none w.unnamed ≡ true → Holds only k m e → Holds only k m (one_at span t (one_is.Cast w) e)
   cast_holds span t w e named h c =
       let node = one_at span t (one_is.Cast w) e in
-      let f = (fine_parts (written_tests m w) _ (first_fine only k m node c)).1 in
+      let p = fine_parts (written_tests m w) _ (first_fine only k m node c) in
+      let f = p.1 in
       let v = value_of only k m e h (inside_one span t (one_is.Cast w) e c) f.1.0 f.1.1.0 in
-      one_good span t (one_is.Cast w) e v refl (cast_full t (is_none w.unnamed) f.0 named)
+      let right = and_from (is_none w.unnamed) (is_none w.misplaced) named (not_misplaced m w.misplaced p.0) in
+      one_good span t (one_is.Cast w) e v refl (cast_full t (is_none w.unnamed && is_none w.misplaced) f.0 right)
 
   -- operators between two values
   joined_holds : (span : Span) (op : BinaryOp) (a b : Expr) → Holds only k m a → Holds only k m b → Holds only k m (joined span op a b)

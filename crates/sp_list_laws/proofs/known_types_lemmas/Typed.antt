@@ -1,5 +1,5 @@
 -- Where no rule is broken, the nodes of what is typed are of full types.
-use Rattle.std.specs.Prelude.{ℕ, Bool, true, false, not, ◌&&◌, ◌||◌, map, Option, Some, None, is_none}
+use Rattle.std.specs.Prelude.{ℕ, Bool, true, false, not, ◌&&◌, ◌||◌, if◌then◌else◌, map, List, [], ◌∷◌, Option, Some, None, is_none}
 use Rattle.std.proofs.Common.{◌≡◌, ◌⊎◌, inl, inr, refl, sym, ◌∙◌}
 use Rattle.std.proofs.lemmas.Bool.{and_parts, and_from}
 use Rattle.sp_words.specs.declared.words.IntWord.{IntWord}
@@ -8,6 +8,7 @@ use Rattle.sp_ast.specs.Trees.{Tree, Trees, absent, row, node, none, more}
 use Rattle.sp_ast.specs.Trees as read
 use Rattle.sp_ast.specs.declared.forms.Form.TheVariants as form_is
 use Rattle.sp_ast.specs.declared.forms.ExprForm.TheVariants as expr_is
+use Rattle.sp_types.specs.declared.words.Maker.TheVariants as maker_is
 use Rattle.sp_types.specs.Types.{Ty, word, is_known}
 use Rattle.sp_typed.specs.declared.words.OneOp.{OneOp}
 use Rattle.sp_typed.specs.declared.words.LeafOp.{LeafOp}
@@ -16,7 +17,10 @@ use Rattle.sp_typed.specs.Exprs.{Expr, Exprs, leaf, type_of}
 use Rattle.sp_typed.specs.Exprs as expr
 use Rattle.sp_typed.specs.Nodes.{holds, all_hold, word_leaf, is_word, is_sound, IsWhole}
 use Rattle.sp_typed.proofs.Everywhere.{holds_everywhere}
+use Rattle.sp_typing.specs.declared.places.Place.{Place}
+use Rattle.sp_typing.specs.declared.places.Place.TheVariants as place_is
 use Rattle.sp_typing.specs.Contexts.{Around}
+use Rattle.sp_operands.specs.Operands.{unknown}
 use Rattle.sp_operands.specs.Literals.{seen}
 use Rattle.sp_typing.specs.Typing.{typed, typed_all, pairs_typed, leaf_at, number_in, made_of, or_else, both_written, name_of, led}
 use Rattle.sp_types.specs.Integers.{int_word}
@@ -31,7 +35,7 @@ use Rattle.sp_list_laws.specs.known_types.Given.{may_be, is_named, IsKnown}
 use Rattle.sp_list_laws.proofs.known_types_lemmas.Full.{never, full_is_known}
 use Rattle.sp_list_laws.proofs.known_types_lemmas.Tests.{Fine, Clear, Holds, first_fine, first_names, right_of, is_whole, not_misplaced}
 use Rattle.sp_list_laws.proofs.known_types_lemmas.Kept.{HoldsAll, HoldsPairs, led_holds}
-use Rattle.sp_list_laws.proofs.known_types_lemmas.Nodes.{unary_holds, size_holds, cast_holds, binary_holds, choice_holds, member_holds, set_member_holds, index_holds}
+use Rattle.sp_list_laws.proofs.known_types_lemmas.Nodes.{chosen_full, unary_holds, size_holds, cast_holds, binary_holds, choice_holds, member_holds, set_member_holds, index_holds}
 use Rattle.sp_list_laws.proofs.known_types_lemmas.Callees.{gives}
 use Rattle.sp_list_laws.proofs.known_types_lemmas.Rows.{tuple_holds, vector_holds, set_holds, pairs_hold, call_holds, new_holds, method_holds}
 
@@ -54,6 +58,10 @@ stands_known result m e (leaf_is.Label owner k) t b n f = inl b
 stands_known result m e (leaf_is.Function k) t b n f = inr (and_parts (is_unknown t) (is_full (result k)) b).0
 stands_known result m e _ t b n f = inr b
 
+-- what is empty
+empty_full : (t : Ty) → is_full t ≡ true → is_full (if is_known t then t else unknown) ≡ true
+empty_full t f = chosen_full (is_known t) t (full_is_known t f) f
+
 none_else : {A : Type 0} (a b : Option A) → is_none (or_else a b) ≡ true → (is_none a ≡ true) × (is_none b ≡ true)
 none_else None b e = (refl, e)
 none_else (Some x) b e = never e
@@ -74,8 +82,8 @@ module _ (g : Around) (only : OneOp → Bool) (k : Known) (m : ℕ) (is_type is_
   named_holds _ b c = never b
 
   -- a type that is written
-  full_type : (t : Tree) → is_type t ≡ true → is_none (g.written t).misplaced ≡ true → (is_full (g.type_in t) && true) ≡ true
-  full_type t is p = and_from (is_full (g.type_in t)) true (known.type_in t is p) refl
+  full_type : (place : Place) (t : Tree) → is_type t ≡ true → is_none (g.written place t).misplaced ≡ true → (is_full (g.type_in place t) && true) ≡ true
+  full_type place t is p = and_from (is_full (g.type_in place t)) true (known.type_in place t is p) refl
 
   mutual
     pub typed_holds : (t : Tree) → is_expr is_type is_path t ≡ true → Holds only k m (typed g t)
@@ -96,21 +104,25 @@ module _ (g : Around) (only : OneOp → Bool) (k : Known) (m : ℕ) (is_type is_
     typed_holds (node (form_is.Expr expr_is.Map) span ts) is = pairs_hold only k m span (pairs_typed g ts) (pairs_hold_in ts is)
     typed_holds (node (form_is.Expr expr_is.EmptyVector) span (more t none)) is =
         let e = typed g (node (form_is.Expr expr_is.EmptyVector) span (more t none)) in
-        λ c. (refl, inl (full_type t is (not_misplaced m (g.written t).misplaced (first_fine only k m e c))))
+        λ c. (refl, inl (empty_full (made_of maker_is.Vector (g.type_in place_is.Value t ∷ [])) (full_type place_is.Value t is (not_misplaced m (g.written place_is.Value t).misplaced (first_fine only k m e c)))))
     typed_holds (node (form_is.Expr expr_is.EmptySet) span (more t none)) is =
         let e = typed g (node (form_is.Expr expr_is.EmptySet) span (more t none)) in
-        λ c. (refl, inl (full_type t is (not_misplaced m (g.written t).misplaced (first_fine only k m e c))))
+        λ c. (refl, inl (empty_full (made_of maker_is.Set (g.type_in place_is.Key t ∷ [])) (full_type place_is.Key t is (not_misplaced m (g.written place_is.Key t).misplaced (first_fine only k m e c)))))
     typed_holds (node (form_is.Expr expr_is.EmptyMap) span (more s (more t none))) is =
         let e = typed g (node (form_is.Expr expr_is.EmptyMap) span (more s (more t none))) in
         let are = and_parts (is_type s) (is_type t) is in
         λ c. (
-        let p = none_else (g.written s).misplaced (g.written t).misplaced (not_misplaced m (or_else (g.written s).misplaced (g.written t).misplaced) (first_fine only k m e c)) in
-        (refl, inl (and_from (is_full (g.type_in s)) (is_full (g.type_in t) && true) (known.type_in s are.0 p.0) (full_type t are.1 p.1)))
+        let first = (g.written place_is.Key s).misplaced in
+        let second = (g.written place_is.Value t).misplaced in
+        let p = none_else first second (not_misplaced m (or_else first second) (first_fine only k m e c)) in
+        let u = g.type_in place_is.Key s in
+        let v = g.type_in place_is.Value t in
+        (refl, inl (empty_full (made_of maker_is.Map (u ∷ v ∷ [])) (and_from (is_full u) (is_full v && true) (known.type_in place_is.Key s are.0 p.0) (full_type place_is.Value t are.1 p.1))))
         )
     typed_holds (node (form_is.Expr (expr_is.TypedNumber w)) span (more n none)) is = λ c. (refl, inl (int_full w))
     typed_holds (node (form_is.Expr expr_is.Cast) span (more t (more e none))) is =
         let p = and_parts (is_type t) (is_expr is_type is_path e) is in
-        cast_holds only k m span (typing.cast_type (g.type_in t)) (g.written t) (typed g e) (known.names_types t p.0) (typed_holds e p.1)
+        cast_holds only k m span (typing.cast_type (g.type_in place_is.Whole t)) (g.written place_is.Whole t) (typed g e) (known.names_types place_is.Whole t p.0) (typed_holds e p.1)
     typed_holds (node (form_is.Expr expr_is.New) span (more path (more (row ts) none))) is =
         let at = read.span_of path in
         let p = and_parts (is_path path) (are_exprs is_type is_path ts) is in

@@ -34,6 +34,7 @@ use Rattle.sp_typed_units.specs.declared.readings.TokenOp.TheVariants as token_i
 use Rattle.sp_typed_units.specs.Specs.{Spec}
 use Rattle.sp_typed_units.specs.Specs as spec_is
 use Rattle.sp_operands.specs.Operands.{unknown, is_integer, is_boolean}
+use Rattle.sp_typing.specs.declared.places.Place.TheVariants.{Whole}
 use Rattle.sp_typing.specs.Contexts.{Around}
 use Rattle.sp_typing.specs.Typing.{typed, typed_all}
 use Rattle.sp_typing_units.specs.declared.attributes.Site.{Site}
@@ -400,7 +401,7 @@ module _ (list : List Tree) (a : Answers list) (formed_list : list_all is_formed
 
   -- what is read
   base_known : (x : Tree) → is_of group_is.Bases x ≡ true → Fine x → Good (base_read g worth x).spec → HasRules (base_read g worth x).spec → Known_ (base_read g worth x)
-  base_known (node (form_is.Base base_is.Type) at (more t none)) of h good rules = type_known at t (g.type_in t)
+  base_known (node (form_is.Base base_is.Type) at (more t none)) of h good rules = type_known at t (g.type_in Whole t)
   base_known (node (form_is.Base base_is.Unit) at (more path (more (row ts) none))) of h good rules =
       let ws = more path (more (row ts) none) in
       let o = and_parts (is_of group_is.Paths path) (are_of group_is.Expressions ts && true) (formed list f m (form_is.Base base_is.Unit) at ws h) in

@@ -26,6 +26,7 @@ use Rattle.sp_typed_units.specs.Parts.{Part, Parts, Arms, no_parts, more_parts, 
 use Rattle.sp_operands.specs.declared.operators.OperatorSort.TheVariants as operator_is
 use Rattle.sp_operands.specs.Operands.{stands_before}
 use Rattle.sp_operands.specs.Literals.{seen, taken}
+use Rattle.sp_typing.specs.declared.places.Place.TheVariants.{Value}
 use Rattle.sp_typing.specs.Contexts.{Around}
 use Rattle.sp_typing.specs.Typing.{typed, typed_all, to_target}
 use Rattle.sp_typing_units.specs.Values.{Values}
@@ -35,11 +36,11 @@ use Rattle.sp_typing_units.specs.Parts.{Fields, arm_of, field_in, part_of, parts
 use Rattle.sp_solver.specs.Told.{told}
 use Rattle.sp_names.specs.Types.{or_unknown}
 use Rattle.sp_body_rules.specs.Known.{Known}
-use Rattle.sp_body_rules.specs.Values.{value_tests}
+use Rattle.sp_body_rules.specs.Values.{value_tests, written_tests}
 use Rattle.sp_body_rules.specs.StmtTests.{case_tests}
 use Rattle.sp_list_rules.specs.Lists.{all_tests, option_tests}
 use Rattle.sp_list_rules.specs.Names.{expr_names, part_names, parts_names, arms_names, variable_names, order_names}
-use Rattle.sp_list_rules.specs.Bodies.{inside_tests, is_enum_of, order_tests, plain_tests, member_type, first_value_tests, variable_tests}
+use Rattle.sp_list_rules.specs.Bodies.{inside_tests, is_enum_of, order_tests, member_type, first_value_tests, variable_tests}
 use Rattle.sp_list_rules.specs.Fields.{subject_tests, arm_tests, part_tests, parts_tests, arms_tests}
 use Rattle.sp_around.specs.Sources.{questions}
 use Rattle.sp_unit_rules.specs.declared.here.Here.{Here}
@@ -223,10 +224,10 @@ module _ (list : List Tree) (a : Answers list) (formed_list : list_all is_formed
       let value = node form span ts in
       let var = variable_of g fields name x (Some value) in
       let t = member_type (slice_get rows var.member) in
-      let e = to_target (g.type_in x) (typed g value) in
-      let p = none_parts (plain_tests m t var.written) (first_value_tests k m t e) tests in
+      let e = to_target (g.type_in Value x) (typed g value) in
+      let p = none_parts (written_tests m var.written) (first_value_tests k m t e) tests in
       let n_ = and_parts (not var.taken) (none_hold (expr_names m e)) names in
-      value_known k m e (target_holds any_op k m (g.type_in x) (typed g value) (typed_here list a formed_list unbroken n m ps full members value of h)) (target_value k m t e n_.1 p.1)
+      value_known k m e (target_holds any_op k m (g.type_in Value x) (typed g value) (typed_here list a formed_list unbroken n m ps full members value of h)) (target_value k m t e n_.1 p.1)
 
   pub variables_known : (rows : List Member) (xs : Trees) → are_of group_is.Items xs ≡ true → AllFine xs → none_hold (all_tests (variable_tests k m rows) (variables_in g fields xs)) ≡ true → none_hold (all_tests (variable_names m) (variables_in g fields xs)) ≡ true
       → list_all is_known_variable (variables_in g fields xs) ≡ true

@@ -19,6 +19,7 @@ use Rattle.sp_types.specs.Types.{Ty, word, made}
 use Rattle.sp_typed.specs.declared.words.LeafOp.{LeafOp}
 use Rattle.sp_typed.specs.declared.words.LeafOp.TheVariants as leaf_is
 use Rattle.sp_typed.specs.Exprs.{Expr, leaf}
+use Rattle.sp_typing.specs.declared.places.Place.TheVariants.{Whole}
 use Rattle.sp_typing.specs.Contexts.{Around}
 use Rattle.sp_typing_units.specs.declared.readings.Read.{Read}
 use Rattle.sp_typing_units.specs.declared.roles.Kind.{Kind}
@@ -127,7 +128,7 @@ module _ (g : Around) (v : Values) where
   contained_elements at (more x ts) r full e = contained_elements at ts r full e
 
   base_one : (t : Tree) → IsOne (base_read g v t)
-  base_one (node (form_is.Base base_is.Type) at (more t none)) = type_one at t (g.type_in t)
+  base_one (node (form_is.Base base_is.Type) at (more t none)) = type_one at t (g.type_in Whole t)
   base_one (node (form_is.Base base_is.Unit) at (more path (more (row ts) none))) = called_one at (trees.span_of path) (g.named (trees.span_of path) path) _
   base_one (node (form_is.Base base_is.Group) at (more inner (more (row counts) (more (row ts) none)))) =
       let r = base_read g v inner in

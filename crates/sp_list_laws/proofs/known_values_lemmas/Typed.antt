@@ -12,6 +12,7 @@ use Rattle.sp_ast.specs.declared.forms.ExprForm.TheVariants as expr_is
 use Rattle.sp_types.specs.Types.{word}
 use Rattle.sp_typed.specs.declared.words.OneOp.{OneOp}
 use Rattle.sp_typed.specs.declared.words.LeafOp.TheVariants as leaf_is
+use Rattle.sp_typing.specs.declared.places.Place.TheVariants.{Whole}
 use Rattle.sp_typing.specs.Contexts.{Around}
 use Rattle.sp_operands.specs.Literals.{can_take, seen, unsigned_literal}
 use Rattle.sp_typing.specs.Typing.{typed, typed_all, pairs_typed, leaf_at, number_in, name_of, led}
@@ -58,7 +59,7 @@ module _ (g : Around) (only : OneOp → Bool) (k : Known) (m : ℕ) (v : Values)
     typed_told (node (form_is.Expr expr_is.EmptyMap) span (more s (more t none))) is = λ c r p. refl
     typed_told (node (form_is.Expr (expr_is.TypedNumber w)) span (more n none)) is = λ c r p. typed_fits (int_word w) (number_in n) (int_takes w)
     typed_told (node (form_is.Expr expr_is.Cast) span (more t (more e none))) is =
-        cast_told only k m v span (g.type_in t) (g.written t) (typed g e) (typed_told e (and_parts (is_type t) (is_expr is_type is_path e) is).1)
+        cast_told only k m v span (g.type_in Whole t) (g.written Whole t) (typed g e) (typed_told e (and_parts (is_type t) (is_expr is_type is_path e) is).1)
     typed_told (node (form_is.Expr expr_is.New) span (more path (more (row ts) none))) is = new_told only k m v g span (read.span_of path) (g.named (read.span_of path) path) (typed_all g ts)
     typed_told (node (form_is.Expr expr_is.Size) span (more e none)) is = size_told only k m v span (typed g e) (typed_told e is)
     typed_told (node (form_is.Expr expr_is.Choice) span (more c (more a (more b none)))) is =

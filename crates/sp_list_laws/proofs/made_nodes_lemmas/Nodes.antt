@@ -31,10 +31,11 @@ use Rattle.sp_typed.specs.Nodes.{holds, all_hold}
 use Rattle.sp_operands.specs.Operands.{unknown, boolean, key_of, first_type, sort_of, result_type, second_type}
 use Rattle.sp_operands.specs.Literals.{can_take, taken, is_negative, seen, literal_word}
 use Rattle.sp_operands.specs.Wholes.{row_type, map_type}
+use Rattle.sp_typing.specs.declared.places.Place.TheVariants as place_is
 use Rattle.sp_typing.specs.declared.context.Member.{Member}
 use Rattle.sp_typing.specs.declared.context.Callable.{Callable}
 use Rattle.sp_typing.specs.Contexts.{Around}
-use Rattle.sp_typing.specs.Typing.{typed, typed_all, pairs_typed, name_of, number_in, one_at, size_type, cast_type, signed_type, unary_op, choice_type, made_of, both_written, call_of, widened, to_target, to_maybe, each_to, alike, agreeing, lead, maybe_taken, led, lead_half, in_turn, unary_at, joined, is_membership, binary_at, choice_at, member_at, set_op, set_member_at, part_at, item_of, item_at, index_at, no_call, callee_op, call_by, call_at, method_of, started, new_by}
+use Rattle.sp_typing.specs.Typing.{typed, typed_all, pairs_typed, name_of, number_in, one_at, size_type, cast_type, signed_type, unary_op, choice_type, empty_type, both_written, call_of, widened, to_target, to_maybe, each_to, alike, agreeing, lead, maybe_taken, led, lead_half, in_turn, unary_at, joined, is_membership, binary_at, choice_at, member_at, set_op, set_member_at, part_at, item_of, item_at, index_at, no_call, callee_op, call_by, call_at, method_of, started, new_by}
 use Rattle.sp_list_laws.specs.made_nodes.Makes.{Makes}
 
 module _ (g : Around) (p : Expr → Bool) (makes : Makes g p) where
@@ -243,13 +244,13 @@ module _ (g : Around) (p : Expr → Bool) (makes : Makes g p) where
         let ps = pairs_typed g ts in
         let es = in_turn (lead_half false ps) (lead_half true ps) ps in
         many_is_so (record { span = span; ty = map_type es; op = many_is.Map }) es (makes.entries span (lead_half false ps) (lead_half true ps) ps) (turn_are (lead_half false ps) (lead_half true ps) ps (pairs_are ts))
-    typed_holds (node (form_is.Expr expr_is.EmptyVector) span (more t none)) = makes.empty span (made_of maker_is.Vector (g.type_in t ∷ [])) (g.written t)
-    typed_holds (node (form_is.Expr expr_is.EmptySet) span (more t none)) = makes.empty span (made_of maker_is.Set (g.type_in t ∷ [])) (g.written t)
+    typed_holds (node (form_is.Expr expr_is.EmptyVector) span (more t none)) = makes.empty span (empty_type maker_is.Vector (g.type_in place_is.Value t ∷ [])) (g.written place_is.Value t)
+    typed_holds (node (form_is.Expr expr_is.EmptySet) span (more t none)) = makes.empty span (empty_type maker_is.Set (g.type_in place_is.Key t ∷ [])) (g.written place_is.Key t)
     typed_holds (node (form_is.Expr expr_is.EmptyMap) span (more s (more t none))) =
-        makes.empty span (made_of maker_is.Map (g.type_in s ∷ g.type_in t ∷ [])) (both_written (g.written s) (g.written t))
+        makes.empty span (empty_type maker_is.Map (g.type_in place_is.Key s ∷ g.type_in place_is.Value t ∷ [])) (both_written (g.written place_is.Key s) (g.written place_is.Value t))
     typed_holds (node (form_is.Expr (expr_is.TypedNumber w)) span (more n none)) = makes.typed_number span w (number_in n)
     typed_holds (node (form_is.Expr expr_is.Cast) span (more t (more e none))) =
-        one_is_so (record { span = span; ty = cast_type (g.type_in t); op = one_is.Cast (g.written t) }) (typed g e) (makes.cast span (g.type_in t) (g.written t) (typed g e)) (typed_holds e)
+        one_is_so (record { span = span; ty = cast_type (g.type_in place_is.Whole t); op = one_is.Cast (g.written place_is.Whole t) }) (typed g e) (makes.cast span (g.type_in place_is.Whole t) (g.written place_is.Whole t) (typed g e)) (typed_holds e)
     typed_holds (node (form_is.Expr expr_is.New) span (more path (more (row ts) none))) =
         let callee = g.named (read.span_of path) path in
         new_is span (read.span_of path) (started callee) callee (typed_all g ts) (makes.start span (read.span_of path) callee (typed_all g ts)) (makes.named (read.span_of path) path) (all_are ts)

@@ -33,7 +33,8 @@ use Rattle.sp_list_rules.specs.Lists.{all_tests, option_tests}
 use Rattle.sp_list_rules.specs.Names.{is_of_nothing, expr_names, stmt_names, variable_names, order_names, unit_names, hook_names, function_names}
 use Rattle.sp_list_rules.specs.Slots.{for_slots}
 use Rattle.sp_list_rules.specs.Told.{known_in, values_of}
-use Rattle.sp_list_rules.specs.Bodies.{body_tests, parameter_tests, plain_tests, wanted_of, given_tests, function_tests, priority_tests, hook_tests, order_tests, member_type, first_value_tests, variable_tests}
+use Rattle.sp_body_rules.specs.Values.{written_tests}
+use Rattle.sp_list_rules.specs.Bodies.{body_tests, parameter_tests, wanted_of, given_tests, function_tests, priority_tests, hook_tests, order_tests, member_type, first_value_tests, variable_tests}
 use Rattle.sp_list_rules.specs.Wholes.{unit_tests}
 use Rattle.sp_list_rows.specs.FunctionsAndOrders.{ranks}
 use Rattle.sp_checked_list.specs.Settled.{Answers}
@@ -84,7 +85,7 @@ variable_is_built : (k : Known) (m : ℕ) (members : List Member) (v : Variable)
 variable_is_built k m members v early names tests right =
     let t = member_type (slice_get members v.member) in
     let n = (and_parts (not v.taken) (none_hold (option_tests (expr_names m) v.value)) names).1 in
-    value_of_variable k m t v.value early n (none_parts (plain_tests m t v.written) (option_tests (first_value_tests k m t) v.value) tests).1 right
+    value_of_variable k m t v.value early n (none_parts (written_tests m v.written) (option_tests (first_value_tests k m t) v.value) tests).1 right
 
 unit_is_built : (k : Known) (u : TypedUnit) → UnitEarly u → none_hold (unit_names u) ≡ true → none_hold (unit_tests k u) ≡ true → is_known_unit u ≡ true → unit_built u ≡ true
 unit_is_built k u early names tests right =
@@ -106,8 +107,8 @@ module _ (t : Typed) where
       let m = x.«module» in
       let wanted = wanted_of x.written x.result in
       let k = known_in t (values_of t) (for_slots x.body) in
-      let p = none_parts (all_tests (parameter_tests m) x.parameters) (option_tests (plain_tests m x.result) x.written ++ given_tests t (values_of t) wanted x) tests in
-      let q = none_parts (option_tests (plain_tests m x.result) x.written) (given_tests t (values_of t) wanted x) p.1 in
+      let p = none_parts (all_tests (parameter_tests m) x.parameters) (option_tests (written_tests m) x.written ++ given_tests t (values_of t) wanted x) tests in
+      let q = none_parts (option_tests (written_tests m) x.written) (given_tests t (values_of t) wanted x) p.1 in
       let r = none_parts (end_tests wanted m x.span x.body) (body_tests k wanted m x.body) q.1 in
       let s = and_parts (list_all is_known_parameter x.parameters) (is_full x.result && is_known_body x.body) right in
       body_is_built k wanted m x.body early names r.1 (and_parts (is_full x.result) (is_known_body x.body) s.1).1

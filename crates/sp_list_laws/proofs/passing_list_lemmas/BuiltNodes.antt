@@ -287,7 +287,7 @@ module _ (k : Known) (m : ℕ) where
 
     local_value : (t : Ty) (w : Option Written) (e : Expr) → Fine (local_tests m t w e) → is_no_value e ≡ false
     local_value t None e f = f.0
-    local_value t (Some w) e f = (fine_parts (written_tests m w) _ f).1.1.0
+    local_value t (Some w) e f = (fine_parts (written_tests m w) _ f).1.0
 
     returned_value : (o : Option Ty) (e : Expr) → Fine (return_tests o m e) → is_no_value e ≡ false
     returned_value None e f = f.0

@@ -22,6 +22,7 @@ use Rattle.sp_names.specs.declared.rows.Declaration.{Declaration}
 use Rattle.sp_names.specs.declared.sort.DeclSort.TheVariants as sort_is
 use Rattle.sp_names.specs.Declarations.{rows, all_of, number_at, module_name, module_at}
 use Rattle.sp_names.specs.Names.{declaration_of}
+use Rattle.sp_typing.specs.declared.places.Place.TheVariants.{Value}
 use Rattle.sp_typing.specs.Contexts.{Around}
 use Rattle.sp_typing_units.specs.Attributes.{maybe_typed}
 use Rattle.sp_ast.specs.Views.{present}
@@ -95,7 +96,7 @@ module _ (g : Around) (early : AreEarly g) where
       let inner = (built_passes 0).parts (form_is.Decl (decl_is.Function public)) span (more name (more (row ps) (more result (more body none)))) h in
       let block = third_built (row ps) result body none (parts_built name (more (row ps) (more result (more body none))) inner).1 in
       let own = parameters_in g ps in
-      body_early (with_parameters 0 false own g) (parameters_early g 0 false own early) block.text block.«module» (body_giving (written_type g result)) [] body block.all
+      body_early (with_parameters 0 false own g) (parameters_early g 0 false own early) block.text block.«module» (body_giving (written_type g Value result)) [] body block.all
   function_early owner m _ h = refl
 
   -- hooks
@@ -126,7 +127,7 @@ module _ (g : Around) (early : AreEarly g) where
 
   variable_early : (fields : Fields) (x : Tree) → IsBuilt x → AllOf VariableEarly (variable_in g fields x)
   variable_early fields (node (form_is.Item item_is.Variable) span (more name (more t (more value none)))) h =
-      (value_early (g.type_in t) value (third_built name t value none ((built_passes 0).parts (form_is.Item item_is.Variable) span (more name (more t (more value none))) h)), tt)
+      (value_early (g.type_in Value t) value (third_built name t value none ((built_passes 0).parts (form_is.Item item_is.Variable) span (more name (more t (more value none))) h)), tt)
   variable_early fields _ h = tt
 
   variables_early : (fields : Fields) (xs : Trees) → AreBuilt xs → AllOf VariableEarly (variables_in g fields xs)

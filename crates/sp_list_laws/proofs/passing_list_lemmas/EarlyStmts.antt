@@ -16,6 +16,7 @@ use Rattle.sp_typed.specs.Exprs.{Expr, Exprs, leaf, one, two, three, many, exprs
 use Rattle.sp_typed.specs.Nodes.{holds, all_hold}
 use Rattle.sp_typed.specs.Stmts.{stmts, branch_row}
 use Rattle.sp_operands.specs.Literals.{seen}
+use Rattle.sp_typing.specs.declared.places.Place.TheVariants as place_is
 use Rattle.sp_typing.specs.Contexts.{Around}
 use Rattle.sp_typing.specs.Typing.{typed, to_target}
 use Rattle.sp_typing_stmts.specs.declared.body.Body.{Body}
@@ -74,8 +75,8 @@ module _ (g : Around) (known : AreEarly g) (text : List ℕ) (m : ℕ) where
 
   local_early : (sc : Scope) (span : Span) (name t e : Tree) → Fine text m e → stmt_early (local_in g sc span name t e).0 ≡ true
   local_early sc span name t absent h = refl
-  local_early sc span name t (row es) h = maybe_early (written_type g t) (value_in g sc (row es)).0 (value_early sc (row es) h)
-  local_early sc span name t (node form at es) h = maybe_early (written_type g t) (value_in g sc (node form at es)).0 (value_early sc (node form at es) h)
+  local_early sc span name t (row es) h = maybe_early (written_type g place_is.Local t) (value_in g sc (row es)).0 (value_early sc (row es) h)
+  local_early sc span name t (node form at es) h = maybe_early (written_type g place_is.Local t) (value_in g sc (node form at es)).0 (value_early sc (node form at es) h)
 
   module _ (b : Body) where
     return_early : (sc : Scope) (span : Span) (e : Tree) → Fine text m e → stmt_early (return_in b g sc span e).0 ≡ true

@@ -19,6 +19,7 @@ use Rattle.sp_names.specs.declared.rows.Declaration.{Declaration}
 use Rattle.sp_names.specs.declared.sort.DeclSort.TheVariants as sort_is
 use Rattle.sp_names.specs.Declarations.{all_of, sort_of, declaration_at, module_name, module_at}
 use Rattle.sp_names.specs.Names.{declaration_of}
+use Rattle.sp_typing.specs.declared.places.Place.TheVariants as place_is
 use Rattle.sp_typing.specs.declared.context.Member.{Member}
 use Rattle.sp_typing.specs.Contexts.{Around as Names}
 use Rattle.sp_typing_stmts.specs.Statements.{written_type, written_of}
@@ -29,7 +30,8 @@ use Rattle.sp_list_rules.specs.Lists.{all_tests, option_tests}
 use Rattle.sp_list_rules.specs.Names.{function_names}
 use Rattle.sp_list_rules.specs.Slots.{for_slots}
 use Rattle.sp_list_rules.specs.Told.{known_in, values_of}
-use Rattle.sp_list_rules.specs.Bodies.{body_tests, parameter_tests, plain_tests, wanted_of, given_tests, function_tests}
+use Rattle.sp_body_rules.specs.Values.{written_tests}
+use Rattle.sp_list_rules.specs.Bodies.{body_tests, parameter_tests, wanted_of, given_tests, function_tests}
 use Rattle.sp_body_rules.specs.Sweeps.{end_tests}
 use Rattle.sp_checked_list.specs.Settled.{Answers}
 use Rattle.sp_checked_list.specs.Lists.{typed_of}
@@ -79,15 +81,15 @@ each_at p (y ∷ xs) zero x at h = subst (λ z. p z ≡ true) (some_found y x at
 each_at p (y ∷ xs) (suc n) x at h = each_at p xs n x at (and_parts (p y) (list_all p xs) h).1
 
 -- what a function gives, by its rules
-wanted_is : (g : Names) (result : Tree) → wanted_of (written_of g result) (or_void (written_type g result)) ≡ written_type g result
+wanted_is : (g : Names) (result : Tree) → wanted_of (written_of g place_is.Value result) (or_void (written_type g place_is.Value result)) ≡ written_type g place_is.Value result
 wanted_is g absent = refl
 wanted_is g (row ts) = refl
 wanted_is g (node form span ts) = refl
 
-gives_back : (g : Names) (result : Tree) → is_full (or_void (written_type g result)) ≡ true → returns_so (returns.Function (or_void (written_type g result))) (written_type g result) ≡ true
+gives_back : (g : Names) (result : Tree) → is_full (or_void (written_type g place_is.Value result)) ≡ true → returns_so (returns.Function (or_void (written_type g place_is.Value result))) (written_type g place_is.Value result) ≡ true
 gives_back g absent full = refl
-gives_back g (row ts) full = (let u = g.type_in (row ts) in and_from (same u u) (is_full u) (same_itself u) full)
-gives_back g (node form span ts) full = (let u = g.type_in (node form span ts) in and_from (same u u) (is_full u) (same_itself u) full)
+gives_back g (row ts) full = (let u = g.type_in place_is.Value (row ts) in and_from (same u u) (is_full u) (same_itself u) full)
+gives_back g (node form span ts) full = (let u = g.type_in place_is.Value (node form span ts) in and_from (same u u) (is_full u) (same_itself u) full)
 
 module _ (list : List Tree) (a : Answers list) (formed_list : list_all is_formed list ≡ true) (unbroken : (x : Fault) → Breaks list x → ⊥)
     (members : (u : Ty) (name : List ℕ) (found : Member) → member_of list (stored_by list (told a.stored)) u name ≡ Some found → is_full found.ty ≡ true)
@@ -135,12 +137,12 @@ module _ (list : List Tree) (a : Answers list) (formed_list : list_all is_formed
       let a2 = and_parts (is_full x.result) (is_known_body x.body) a1.1 in
       let seen = parameters_known g any_op k m (types m) (paths m) (module_is_known list a formed_list unbroken (told a.stored) members slots m) 0 false parameters (decides t values slots any_op m (types m) (paths m) inner told_here) a1.0 in
       let under = decides_under t values slots any_op m (types m) (paths m) inner told_here in
-      let q1 = none_parts (all_tests (parameter_tests m) parameters) (option_tests (plain_tests m x.result) x.written ++ given_tests t values wanted x) tests in
-      let q2 = none_parts (option_tests (plain_tests m x.result) x.written) (given_tests t values wanted x) q1.1 in
+      let q1 = none_parts (all_tests (parameter_tests m) parameters) (option_tests (written_tests m) x.written ++ given_tests t values wanted x) tests in
+      let q2 = none_parts (option_tests (written_tests m) x.written) (given_tests t values wanted x) q1.1 in
       let q3 = none_parts (end_tests wanted m x.span x.body) (body_tests k wanted m x.body) q2.1 in
       let asks = subst (λ w. none_hold (body_tests k w m x.body) ≡ true) (wanted_is g result) q3.1 in
       let of : Body = record { around = round; returns = returns.Function x.result } in
-      let passes = body_so of inner (body_giving (written_type g result)) k m (types m) (paths m) (known_blind t values slots) seen under (parameters_made round g 0 false parameters (home_made list a formed_list unbroken (handed _) _ None m) (parameters_kept t parameters x.slots None)) (parameters_widen g 0 false parameters (home_widens list a formed_list unbroken m)) (calls_asked t values slots (handed _) _ None known) refl (gives_back g result a2.0) body (block_is m p span name ps result body h) (slots_kept t parameters x.slots None) built_here names asks a2.1 in
+      let passes = body_so of inner (body_giving (written_type g place_is.Value result)) k m (types m) (paths m) (known_blind t values slots) seen under (parameters_made round g 0 false parameters (home_made list a formed_list unbroken (handed _) _ None m) (parameters_kept t parameters x.slots None)) (parameters_widen g 0 false parameters (home_widens list a formed_list unbroken m)) (calls_asked t values slots (handed _) _ None known) refl (gives_back g result a2.0) body (block_is m p span name ps result body h) (slots_kept t parameters x.slots None) built_here names asks a2.1 in
       let ranges = (globals_of t).ranges in
       subst (λ (ks : List Kind). StmtPasses t (function_layout x) ks None (OfFunction (kind_of_type ranges x.result)) false x.body) (locals_listed ranges parameters x.slots) (stmt_sound of false x.body passes)
 

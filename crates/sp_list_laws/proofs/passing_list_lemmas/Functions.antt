@@ -20,9 +20,12 @@ use Rattle.sp_names.specs.declared.rows.Declaration.{Declaration}
 use Rattle.sp_names.specs.declared.sort.DeclSort.{DeclSort}
 use Rattle.sp_names.specs.declared.sort.DeclSort.TheVariants as sort_is
 use Rattle.sp_names.specs.Declarations.{list_of, rows, all_from, all_of, is_sort, sort_number, sort_of, declaration_at, module_name, module_at}
-use Rattle.sp_names.specs.Types.{type_in}
+use Rattle.sp_around.specs.Written.{type_at}
 use Rattle.sp_declared_values.specs.declared.answer.Answer.{Answer}
 use Rattle.sp_names.specs.Names.{declaration_of}
+use Rattle.sp_typing.specs.declared.places.Place.{Place}
+use Rattle.sp_typing.specs.declared.places.Place.TheVariants.{Value}
+use Rattle.sp_typing.specs.Places.{parameter_place}
 use Rattle.sp_typing.specs.Contexts.{Around}
 use Rattle.sp_typing_stmts.specs.Statements.{written_type}
 use Rattle.sp_typing_heads.specs.Functions.{or_void, function_of}
@@ -92,7 +95,7 @@ parameter_shape (node _ span ts) of h = never of
 parameter_shape absent of h = never of
 parameter_shape (row ts) of h = never of
 
-module _ (list : List Tree) (f : ℕ → Option Ty) (m : ℕ) (g : Around) (types : (t : Tree) → g.type_in t ≡ type_in list f m t) where
+module _ (list : List Tree) (f : ℕ → Option Ty) (m : ℕ) (g : Around) (types : (place : Place) (t : Tree) → g.type_in place t ≡ type_at list f m place t) where
   pub same_types : (ps : Trees) → are_of group_is.Parameters ps ≡ true → are_formed ps ≡ true → parameter_types list f m (list_of ps) ≡ types_in (parameters_in g ps)
   same_types none of h = refl
   same_types (more p ps) of h =
@@ -100,7 +103,7 @@ module _ (list : List Tree) (f : ℕ → Option Ty) (m : ℕ) (g : Around) (type
       let i = and_parts (is_formed p) (are_formed ps) h in
       let s = parameter_shape p o.0 i.0 in
       subst (λ q. parameter_types list f m (q ∷ list_of ps) ≡ types_in (parameters_in g (more q ps))) (sym s.is)
-      (ap (λ t. t ∷ parameter_types list f m (list_of ps)) (sym (types s.ty)) ∙ ap (λ ts. g.type_in s.ty ∷ ts) (same_types ps o.1 i.1))
+      (ap (λ t. t ∷ parameter_types list f m (list_of ps)) (sym (types (parameter_place s.inout) s.ty)) ∙ ap (λ ts. g.type_in (parameter_place s.inout) s.ty ∷ ts) (same_types ps o.1 i.1))
 
 module _ (list : List Tree) (f : ℕ → Option Ty) (known : ℕ → Option Answer) (stored : ℕ → Option Ty) where
   abbrev pub the_function : Declaration → Function
@@ -121,7 +124,7 @@ module _ (list : List Tree) (f : ℕ → Option Ty) (known : ℕ → Option Answ
   function_number n = functions_get (all_of sort_is.Function list) n (all_declared list sort_is.Function)
 
   -- what a function gives and takes
-  gives_in : (d : Declaration) (result : Tree) → type_or_void list f d.«module» result ≡ or_void (written_type (in_module list f known stored d.«module») result)
+  gives_in : (d : Declaration) (result : Tree) → type_or_void list f d.«module» result ≡ or_void (written_type (in_module list f known stored d.«module») Value result)
   gives_in d absent = refl
   gives_in d (row ts) = refl
   gives_in d (node form span ts) = refl
@@ -141,7 +144,7 @@ module _ (list : List Tree) (f : ℕ → Option Ty) (known : ℕ → Option Answ
       let q = and_parts (is_formed w.name) (are_formed (more (row w.parameters) (more w.result (more w.body none)))) p.1 in
       let r = and_parts (are_formed w.parameters) (are_formed (more w.result (more w.body none))) q.1 in
       subst (λ z. parameter_types list f m (function_parameters z) ≡ types_in (function_of (in_module list f known stored m) (module_name (module_at list m)) m z).parameters) (sym w.is)
-      (same_types list f m (in_module list f known stored m) (λ t. refl) w.parameters of r.0)
+      (same_types list f m (in_module list f known stored m) (λ place t. refl) w.parameters of r.0)
 
 -- In a list in which no rule is broken.
 module _ (list : List Tree) (a : Answers list) (formed_list : list_all is_formed list ≡ true) (unbroken : (x : Fault) → Breaks list x → ⊥) where

@@ -18,6 +18,7 @@ use Rattle.sp_typed.specs.declared.words.LeafOp.{LeafOp}
 use Rattle.sp_typed.specs.declared.words.LeafOp.TheVariants as leaf_is
 use Rattle.sp_typed.specs.Exprs.{Expr, leaf}
 use Rattle.sp_typed_units.specs.declared.attributes.Attribute.{Attribute}
+use Rattle.sp_typing.specs.declared.places.Place.TheVariants.{Whole}
 use Rattle.sp_typing.specs.Contexts.{Around}
 use Rattle.sp_typing_units.specs.declared.attributes.Site.{Site}
 use Rattle.sp_typing_units.specs.declared.readings.Read.{Read}
@@ -177,7 +178,7 @@ module _ (g : Around) (v : Values) where
 
   -- a base, and one with counts behind it
   base_reads : (x : Tree) → IsBuilt x → Reads (base_read g v x)
-  base_reads (node (form_is.Base base_is.Type) at (more t none)) b e = type_reads at t (g.type_in t) e
+  base_reads (node (form_is.Base base_is.Type) at (more t none)) b e = type_reads at t (g.type_in Whole t) e
   base_reads (node (form_is.Base base_is.Unit) at (more path (more (row ts) none))) b e = called_reads at (trees.span_of path) (g.named (trees.span_of path) path) (typed_all g ts) e
   base_reads (node (form_is.Base base_is.Group) at (more inner (more (row counts) (more (row ts) none)))) b e =
       let parts = parts_built (form_is.Base base_is.Group) at (more inner (more (row counts) (more (row ts) none))) b in

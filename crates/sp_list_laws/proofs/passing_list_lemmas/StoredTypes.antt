@@ -30,10 +30,10 @@ use Rattle.sp_names.specs.Types.{or_unknown}
 use Rattle.sp_around.specs.Members.{unit_items, members_of, declared_unit, unit_declaration, unit_members, first_member, numbered, kinds_of}
 use Rattle.sp_around.specs.Arounds.{stored_by, kind_type, kind_member, some_member, unit_member}
 use Rattle.sp_body_rules.specs.Known.{Known}
-use Rattle.sp_body_rules.specs.Values.{is_no_value, value_goes, target_tests}
+use Rattle.sp_body_rules.specs.Values.{is_no_value, value_goes, target_tests, written_tests}
 use Rattle.sp_list_rules.specs.Lists.{all_tests, option_tests}
 use Rattle.sp_list_rules.specs.Names.{order_names, variable_names, sink_names, parts_names}
-use Rattle.sp_list_rules.specs.Bodies.{member_type, plain_tests, inside_tests, first_value_tests, variable_tests}
+use Rattle.sp_list_rules.specs.Bodies.{member_type, inside_tests, first_value_tests, variable_tests}
 use Rattle.sp_around.specs.declared.sources.Source.{Source}
 use Rattle.sp_around.specs.declared.sources.Source.TheVariants as source_is
 use Rattle.sp_around.specs.declared.sources.Question.{Question}
@@ -98,7 +98,7 @@ rows_stored g v known_fields k m rows (x ∷ vs) known all right tests =
     let own = all.0 in
     let r = and_parts (is_known_variable x) (list_all is_known_variable vs) right in
     let q = none_parts (variable_tests k m rows x) (all_tests (variable_tests k m rows) vs) tests in
-    let asked = (none_parts (plain_tests m (member_type o) x.written) (option_tests (first_value_tests k m (member_type o)) x.value) q.0).1 in
+    let asked = (none_parts (written_tests m x.written) (option_tests (first_value_tests k m (member_type o)) x.value) q.0).1 in
     let here = subst (λ y. none_hold (option_tests (first_value_tests k m (member_type y)) x.value) ≡ true) own.stands asked in
     let one = value_so g k m own.member x.value own.value (each_at is_known_member rows x.member own.member own.stands known) r.0 here in
     and_from (has_member o) (value_stored o x.value && variables_stored rows vs) (ap has_member own.stands)

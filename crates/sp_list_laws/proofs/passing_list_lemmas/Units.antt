@@ -11,6 +11,7 @@ use Rattle.sp_typed.specs.Exprs.{Expr, type_of}
 use Rattle.sp_typed.specs.Nodes.{holds, nodes}
 use Rattle.sp_typed_units.specs.declared.declarations.Member.{Member}
 use Rattle.sp_typed_units.specs.declared.declarations.Variable.{Variable}
+use Rattle.sp_typing.specs.declared.places.Place.TheVariants.{Value}
 use Rattle.sp_typing.specs.Contexts.{Around as Names}
 use Rattle.sp_typing.specs.Typing.{typed, to_target}
 use Rattle.sp_typing_units.specs.Attributes.{maybe_typed}
@@ -19,9 +20,9 @@ use Rattle.sp_typing_units.specs.Parts.{Fields}
 use Rattle.sp_unit_rows.specs.Items.{brought, variable_in, variables_in}
 use Rattle.sp_list_rules.specs.Lists.{all_tests, option_tests}
 use Rattle.sp_list_rules.specs.Names.{expr_names, variable_names}
-use Rattle.sp_list_rules.specs.Bodies.{member_type, plain_tests, inside_tests, first_value_tests, variable_tests}
+use Rattle.sp_list_rules.specs.Bodies.{member_type, inside_tests, first_value_tests, variable_tests}
 use Rattle.sp_body_rules.specs.Known.{Known}
-use Rattle.sp_body_rules.specs.Values.{target_tests}
+use Rattle.sp_body_rules.specs.Values.{target_tests, written_tests}
 use Rattle.sp_body_rules.specs.ExprTests.{expr_tests}
 use Rattle.sp_list_laws.specs.known_types.Full.{is_right}
 use Rattle.sp_list_laws.specs.known_types.Clear.{none_hold}
@@ -55,7 +56,7 @@ abbrev VariableIs : Names → Variable → Type 0
 VariableIs g v = IsBrought g v.value
 
 variable_is : (g : Names) (fields : Fields) (x : Tree) → AllOf (VariableIs g) (variable_in g fields x)
-variable_is g fields (node (form_is.Item item_is.Variable) span (more name (more t (more value none)))) = (brought_is g (g.type_in t) (present value), tt)
+variable_is g fields (node (form_is.Item item_is.Variable) span (more name (more t (more value none)))) = (brought_is g (g.type_in Value t) (present value), tt)
 variable_is g fields (node (form_is.Item item_is.Variable) span none) = tt
 variable_is g fields (node (form_is.Item item_is.Variable) span (more name none)) = tt
 variable_is g fields (node (form_is.Item item_is.Variable) span (more name (more t none))) = tt
@@ -101,5 +102,5 @@ module _ (around : Around) (g : Names) (made : AreMade around g) (wide : AreWide
       let n = none_parts (variable_names m v) (all_tests (variable_names m) vs) names in
       let own = and_parts (not v.taken) (none_hold (option_tests (expr_names m) v.value)) n.0 in
       let q = none_parts (variable_tests k m members v) (all_tests (variable_tests k m members) vs) tests in
-      let p = none_parts (plain_tests m target v.written) (option_tests (first_value_tests k m target) v.value) q.0 in
+      let p = none_parts (written_tests m v.written) (option_tests (first_value_tests k m target) v.value) q.0 in
       (value_passes target v.value are.0 b.0 r.0 own.1 p.1, each_passes members vs are.1 b.1 r.1 n.1 q.1)

@@ -17,6 +17,7 @@ use Rattle.sp_typed_units.specs.declared.declarations.Member.{Member}
 use Rattle.sp_typed_units.specs.declared.declarations.Variable.{Variable}
 use Rattle.sp_typed_units.specs.declared.items.Field.{Field}
 use Rattle.sp_typed_units.specs.Parts.{Part, Parts, field, choice, no_parts, more_parts, parts}
+use Rattle.sp_typing.specs.declared.places.Place.TheVariants.{Value}
 use Rattle.sp_typing.specs.Contexts.{Around}
 use Rattle.sp_typing.specs.Typing.{name_of, typed, to_target}
 use Rattle.sp_typing_units.specs.Values.{Values}
@@ -172,7 +173,7 @@ module _ (g : Around) (v : Values) (fields : Fields) (members : List Member) whe
 
     -- variables
     variable_so : (m : ℕ) (near : List ℕ) (kept : List Kept) (before : List Named) (span : Span) (name t value : Tree) (xs : Trees) → Passed near kept before (more (node (form_is.Item item_is.Variable) span (more name (more t (more value none)))) xs) → fields.taken (span_of name) ≡ false
-        → (y : Member) × (slice_get members (fields.number (name_of name)) ≡ Some y) × (y.ty ≡ g.type_in t)
+        → (y : Member) × (slice_get members (fields.number (name_of name)) ≡ Some y) × (y.ty ≡ g.type_in Value t)
     variable_so m near kept before span name t value xs p free =
         let x = node (form_is.Item item_is.Variable) span (more name (more t (more value none))) in
         let d : Named = record { name = name_of name; source = source_is.Variable t } in
@@ -183,10 +184,10 @@ module _ (g : Around) (v : Values) (fields : Fields) (members : List Member) whe
     variables_so m none near kept before p names = tt
     variables_so m (more (node (form_is.Item item_is.Variable) span (more name (more t (more value none)))) xs) near kept before p names =
         let x = node (form_is.Item item_is.Variable) span (more name (more t (more value none))) in
-        let w : Variable = record { member = fields.number (name_of name); span = span_of name; written = g.written t; taken = fields.taken (span_of name); value = brought (g.type_in t) (maybe_typed g (present value)) } in
+        let w : Variable = record { member = fields.number (name_of name); span = span_of name; written = g.written Value t; taken = fields.taken (span_of name); value = brought (g.type_in Value t) (maybe_typed g (present value)) } in
         let q = none_parts (variable_names m w) (all_tests (variable_names m) (variables_in g fields xs)) names in
         let own = variable_so m near kept before span name t value xs p (free_of w.taken _ q.0) in (
-          record { member = own.0; stands = own.1; value = subst (λ u. IsBroughtTo g u w.value) (sym own.2) (brought_to g (g.type_in t) (present value)) },
+          record { member = own.0; stands = own.1; value = subst (λ u. IsBroughtTo g u w.value) (sym own.2) (brought_to g (g.type_in Value t) (present value)) },
           variables_so m xs _ _ _ (next near kept before x xs p) q.1,
         )
     variables_so m (more (node (form_is.Item item_is.Variable) span none) xs) near kept before p names = variables_so m xs _ _ _ (next near kept before (node (form_is.Item item_is.Variable) span none) xs p) names

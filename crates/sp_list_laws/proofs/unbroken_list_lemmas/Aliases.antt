@@ -11,6 +11,7 @@ use Rattle.sp_ast.specs.declared.forms.DeclForm.TheVariants as decl_is
 use Rattle.sp_types.specs.Types.{Ty}
 use Rattle.sp_names.specs.declared.rows.Declaration.{Declaration}
 use Rattle.sp_names.specs.Declarations.{rows, declaration_at, sort_of, type_tree_of}
+use Rattle.sp_typing.specs.declared.places.Place.TheVariants.{Whole}
 use Rattle.sp_around.specs.Written.{written_in}
 use Rattle.sp_body_rules.specs.Values.{written_tests}
 use Rattle.sp_list_rows.specs.Aliases.{is_alias, alias, if_alias, aliases_from, aliases}
@@ -78,5 +79,5 @@ module _ (list : List Tree) (f : ℕ → Option Ty) where
       let m = d.«module» in
       let t = type_tree_of d.tree in
       let h = ap (λ i. none_hold (alias_tests (alias list f i m t))) (sym zero_more) ∙ alias_at (rows list) 0 g d at is tests in
-      let p = none_parts (written_tests m (written_in list f m t)) _ h in
-      (twice_not (is_some (f g)) (and_parts (not (not (is_some (f g)))) true p.1).0, alias_type m d.tree is fine, placed m (written_in list f m t).misplaced p.0)
+      let p = none_parts (written_tests m (written_in list f m Whole t)) _ h in
+      (twice_not (is_some (f g)) (and_parts (not (not (is_some (f g)))) true p.1).0, alias_type m d.tree is fine, placed m (written_in list f m Whole t).misplaced p.0)

@@ -19,17 +19,17 @@ use Rattle.sp_names.specs.declared.sort.DeclSort.{DeclSort}
 use Rattle.sp_names.specs.declared.sort.DeclSort.TheVariants as sort_is
 use Rattle.sp_names.specs.Declarations.{rows, all_from, all_of, is_sort, sort_number, sort_of, sort_or, sort_at, type_sort, type_tree_of, declaration_at, number_in, number_at, module_name, module_at}
 use Rattle.sp_names.specs.Names.{declaration_of}
-use Rattle.sp_names.specs.Types.{type_in, mentions_in}
+use Rattle.sp_names.specs.Types.{mentions_in}
 use Rattle.sp_around.specs.Heads.{result_type, type_or_void}
-use Rattle.sp_around.specs.Written.{written_in}
-use Rattle.sp_around.specs.declared.written.Place.TheVariants as place_is
+use Rattle.sp_around.specs.Written.{type_at, written_in}
+use Rattle.sp_typing.specs.declared.places.Place.TheVariants as place_is
 use Rattle.sp_typing.specs.Contexts.{Around}
 use Rattle.sp_typing_stmts.specs.Statements.{written_type, written_of}
 use Rattle.sp_typing_heads.specs.Functions.{or_void, function_of}
 use Rattle.sp_surroundings.specs.Parameters.{parameters_in}
 use Rattle.sp_body_rules.specs.Values.{written_tests}
 use Rattle.sp_list_rules.specs.Lists.{all_tests, option_tests}
-use Rattle.sp_list_rules.specs.Bodies.{parameter_tests, plain_tests, wanted_of, given_tests, function_tests}
+use Rattle.sp_list_rules.specs.Bodies.{parameter_tests, wanted_of, given_tests, function_tests}
 use Rattle.sp_typed_units.specs.declared.declarations.Typed.{Typed}
 use Rattle.sp_constants.specs.Known.{Known as Values}
 use Rattle.sp_declared_values.specs.declared.answer.Answer.{Answer}
@@ -162,16 +162,15 @@ module _ (list : List Tree) (f : ℕ → Option Ty) (known : ℕ → Option Answ
 
   module _ (t : Typed) (values : Values) (types : (g : ℕ) → HasType list f g) where
     -- the type of what a function gives
-    written_full : (m : ℕ) (w : Tree) (u : Ty) → is_type list f m w ≡ true → none_hold (plain_tests m u (written_in list f m w)) ≡ true → is_full (type_in list f m w) ≡ true
-    written_full m w u is tests =
-        let p = none_parts (written_tests m (written_in list f m w)) _ tests in
-        type_full list f m place_is.Whole w is (placed m (written_in list f m w).misplaced p.0) (each_has list f m types (mentions_in list m w))
+    written_full : (m : ℕ) (w : Tree) → is_type list f m w ≡ true → none_hold (written_tests m (written_in list f m place_is.Value w)) ≡ true → is_full (type_at list f m place_is.Value w) ≡ true
+    written_full m w is tests =
+        type_full list f m place_is.Value w is (placed m (written_in list f m place_is.Value w).misplaced tests) (each_has list f m types (mentions_in list m w))
 
-    void_full : (m : ℕ) (w : Tree) → fits (slot_is.Optional group_is.Types) w ≡ true → IsFine list f m w → none_hold (option_tests (plain_tests m (or_void (written_type (in_module list f known stored m) w))) (written_of (in_module list f known stored m) w)) ≡ true
+    void_full : (m : ℕ) (w : Tree) → fits (slot_is.Optional group_is.Types) w ≡ true → IsFine list f m w → none_hold (option_tests (written_tests m) (written_of (in_module list f known stored m) place_is.Value w)) ≡ true
         → is_full (type_or_void list f m w) ≡ true
     void_full m absent of h tests = refl
     void_full m (row ts) of h tests = never of
-    void_full m (node form span ts) of h tests = written_full m (node form span ts) (or_void (written_type (in_module list f known stored m) (node form span ts))) (type_fine list f m (node form span ts) of h) tests
+    void_full m (node form span ts) of h tests = written_full m (node form span ts) (type_fine list f m (node form span ts) of h) tests
 
     gives_whole : (d : Declaration) (p : Bool) (span : Span) (name : Tree) (ps : Trees) (result body : Tree) → IsFine list f d.«module» (whole p span name ps result body)
         → none_hold (function_tests t values (function_of (home d) (module_name (module_at list d.«module»)) d.«module» (whole p span name ps result body))) ≡ true
@@ -184,8 +183,8 @@ module _ (list : List Tree) (f : ℕ → Option Ty) (known : ℕ → Option Answ
         let e = (function_slots name ps result body (formed list f m (form_is.Decl (decl_is.Function p)) span ts h)).1 in
         let q = rest list f m name (more (row ps) (more result (more body none))) (inside list f m (form_is.Decl (decl_is.Function p)) span ts h) in
         let r = first list f m result (more body none) (rest list f m (row ps) (more result (more body none)) q) in
-        let u = none_parts (all_tests (parameter_tests m) (parameters_in g ps)) (option_tests (plain_tests m fun.result) fun.written ++ given_tests t values (wanted_of fun.written fun.result) fun) tests in
-        let v = none_parts (option_tests (plain_tests m fun.result) fun.written) (given_tests t values (wanted_of fun.written fun.result) fun) u.1 in
+        let u = none_parts (all_tests (parameter_tests m) (parameters_in g ps)) (option_tests (written_tests m) fun.written ++ given_tests t values (wanted_of fun.written fun.result) fun) tests in
+        let v = none_parts (option_tests (written_tests m) fun.written) (given_tests t values (wanted_of fun.written fun.result) fun) u.1 in
         void_full m result e r v.0
 
     pub gives_full : (d : Declaration) (x : Tree) → is_function_sort (sort_of x) ≡ true → IsFine list f d.«module» x → none_hold (function_tests t values (function_of (home d) (module_name (module_at list d.«module»)) d.«module» x)) ≡ true

@@ -14,7 +14,7 @@ use Rattle.sp_names.specs.Declarations.{declaration_at, sort_of, sort_or, type_t
 use Rattle.sp_names.specs.Types.{or_unknown, type_in, mentions_in}
 use Rattle.sp_names.specs.Aliases.{first_open, sort_asks, sort_type, when_open, try_one, tries}
 use Rattle.sp_names.specs.AliasLaws.{none_some, by_option, open_none, when_done}
-use Rattle.sp_around.specs.declared.written.Place.TheVariants as place_is
+use Rattle.sp_typing.specs.declared.places.Place.TheVariants as place_is
 use Rattle.sp_around.specs.Written.{is_type_sort}
 use Rattle.sp_list_rows.specs.Aliases.{is_alias}
 use Rattle.sp_list_laws.specs.known_types.Full.{is_full}

@@ -11,6 +11,8 @@ use Rattle.sp_types.specs.Types.{Ty}
 use Rattle.sp_typed.specs.StmtNodes.{stmts_in, stmt_nodes}
 use Rattle.sp_typed_units.specs.declared.declarations.Parameter.{Parameter}
 use Rattle.sp_typed_units.specs.declared.declarations.Typed.{Typed}
+use Rattle.sp_typing.specs.declared.places.Place.TheVariants.{Value}
+use Rattle.sp_typing.specs.Places.{parameter_place}
 use Rattle.sp_typing.specs.Contexts.{Around}
 use Rattle.sp_typing_stmts.specs.declared.body.Body.{Body}
 use Rattle.sp_typing_stmts.specs.Statements.{typed_body, written_type, written_of}
@@ -26,7 +28,7 @@ use Rattle.sp_list_rules.specs.Lists.{all_tests, option_tests}
 use Rattle.sp_list_rules.specs.Names.{stmt_names}
 use Rattle.sp_list_rules.specs.Slots.{for_slots}
 use Rattle.sp_list_rules.specs.Told.{known_in}
-use Rattle.sp_list_rules.specs.Bodies.{body_tests, parameter_tests, plain_tests, wanted_of, given_tests, function_tests}
+use Rattle.sp_list_rules.specs.Bodies.{body_tests, parameter_tests, wanted_of, given_tests, function_tests}
 use Rattle.sp_list_laws.specs.known_types.Full.{is_full}
 use Rattle.sp_list_laws.specs.known_types.Clear.{none_hold, any_op}
 use Rattle.sp_list_laws.specs.known_types.Given.{IsKnown}
@@ -64,17 +66,15 @@ module _ (k : Known) (m : ℕ) (is_type is_path : Tree → Bool) (blind : IsBlin
         let are = and_parts (is_type t) (are_parameters is_type ps) is in
         let first = parameter_of g inout name t in
         let p = none_parts (parameter_tests m first) (all_tests (parameter_tests m) (parameters_in g ps)) tests in
-        let q = none_parts (written_tests m (g.written t)) _ p.0 in
-        and_from (is_full (g.type_in t)) (parameters_full (parameters_in g ps)) (known.type_in t are.0 (placed m (g.written t).misplaced q.0)) (parameters_whole ps are.1 p.1)
+        let place = parameter_place inout in
+        and_from (is_full (g.type_in place t)) (parameters_full (parameters_in g ps)) (known.type_in place t are.0 (placed m (g.written place t).misplaced p.0)) (parameters_whole ps are.1 p.1)
     parameters_whole (more _ ps) is tests = parameters_whole ps is tests
 
     -- a result
-    result_of : (t : Tree) → is_type t ≡ true → none_hold (plain_tests m (g.type_in t) (g.written t)) ≡ true → is_full (g.type_in t) ≡ true
-    result_of t is tests =
-        let p = none_parts (written_tests m (g.written t)) _ tests in
-        known.type_in t is (placed m (g.written t).misplaced p.0)
+    result_of : (t : Tree) → is_type t ≡ true → none_hold (written_tests m (g.written Value t)) ≡ true → is_full (g.type_in Value t) ≡ true
+    result_of t is tests = known.type_in Value t is (placed m (g.written Value t).misplaced tests)
 
-    pub result_whole : (t : Tree) → is_result is_type t ≡ true → none_hold (option_tests (plain_tests m (or_void (written_type g t))) (written_of g t)) ≡ true → is_full (or_void (written_type g t)) ≡ true
+    pub result_whole : (t : Tree) → is_result is_type t ≡ true → none_hold (option_tests (written_tests m) (written_of g Value t)) ≡ true → is_full (or_void (written_type g Value t)) ≡ true
     result_whole absent is tests = refl
     result_whole (row ts) is tests = result_of (row ts) is tests
     result_whole (node form span ts) is tests = result_of (node form span ts) is tests
@@ -92,13 +92,13 @@ function_whole t values g owner m is_type is_path (node (form_is.Decl (decl_is.F
     let k = known_in t values slots in
     let are = and_parts (are_parameters is_type ps) (is_result is_type result && is_body is_type is_path body) is in
     let rest = and_parts (is_result is_type result) (is_body is_type is_path body) are.1 in
-    let p = none_parts (all_tests (parameter_tests m) parameters) (option_tests (plain_tests m f.result) f.written ++ given_tests t values wanted f) tests in
-    let q = none_parts (option_tests (plain_tests m f.result) f.written) (given_tests t values wanted f) p.1 in
+    let p = none_parts (all_tests (parameter_tests m) parameters) (option_tests (written_tests m) f.written ++ given_tests t values wanted f) tests in
+    let q = none_parts (option_tests (written_tests m) f.written) (given_tests t values wanted f) p.1 in
     let r = none_parts (end_tests wanted m f.span f.body) (body_tests k wanted m f.body) q.1 in
     let full = parameters_whole k m is_type is_path (blind slots) g (known slots) ps are.0 p.0 in
     let decided = decides slots parameters full in
     let inner = parameters_known g any_op k m is_type is_path (known slots) 0 false parameters decided.0 full in
-    let whole = body_whole k m is_type is_path (blind slots) (with_parameters 0 false parameters g) (body_giving (written_type g result)) wanted [] body inner decided.1 rest.1 names r.1 in
+    let whole = body_whole k m is_type is_path (blind slots) (with_parameters 0 false parameters g) (body_giving (written_type g Value result)) wanted [] body inner decided.1 rest.1 names r.1 in
     and_from (list_all is_known_parameter parameters) (is_full f.result && is_known_body f.body) full
     (and_from (is_full f.result) (is_known_body f.body) (result_whole k m is_type is_path (blind slots) g (known slots) result rest.0 q.0) whole)
 function_whole t values g owner m is_type is_path _ blind known decides is names tests = never is

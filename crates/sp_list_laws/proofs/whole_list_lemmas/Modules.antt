@@ -32,7 +32,7 @@ use Rattle.sp_names.specs.declared.sort.Meaning.TheVariants as meaning_is
 use Rattle.sp_names.specs.Declarations.{sort_at}
 use Rattle.sp_names.specs.Names.{path_means}
 use Rattle.sp_names.specs.Types.{mentions_in}
-use Rattle.sp_around.specs.declared.written.Place.TheVariants as place_is
+use Rattle.sp_typing.specs.declared.places.Place.TheVariants as place_is
 use Rattle.sp_around.specs.Heads.{function_gives}
 use Rattle.sp_around.specs.Members.{UnitMember, unit_members, numbered, kinds_of, range_number, bitfield_width, bitfield_tree}
 use Rattle.sp_method_types.specs.Methods.{told, begins_with_order, by_order, bytes_methods, text_methods, vector_methods, are_two, get_method, map_methods, method_gives, unit_methods, unit_method_gives, sink_methods, library_call, unit_call, sink_call, method_of, base_ten, utf8, replace, left_out_of}
@@ -201,8 +201,8 @@ module _ (list : List Tree) (facts : Facts) where
     named = named;
     itself = λ span. refl;
     current = λ span. refl;
-    names_types = λ t is. type_named list facts.answers m t is;
-    type_in = λ t is placed. type_full list facts.answers m place_is.Whole t is placed (each_has list facts.answers m types (mentions_in list m t));
+    names_types = λ place t is. type_named list facts.answers m t is;
+    type_in = λ place t is placed. type_full list facts.answers m place t is placed (each_has list facts.answers m types (mentions_in list m t));
     member = λ t name found e may. and_from (is_member_op found.op) (is_full found.ty) (member_op list facts.stored t name found e) (members t name found e may);
     method = λ t name span ts found e. method_op t name span ts found e;
     gives = λ t name span ts found e full. method_full t name span ts found e full;

@@ -5,12 +5,13 @@ use Rattle.std.proofs.lemmas.Bool.{and_parts, and_from}
 use Rattle.sp_base.specs.declared.places.Span.{Span}
 use Rattle.sp_words.specs.declared.words.IntWord.{IntWord}
 use Rattle.sp_words.specs.declared.words.IntWord.TheVariants as int
-use Rattle.sp_ast.specs.Trees.{Tree, Trees, node, none, more}
+use Rattle.sp_ast.specs.Trees.{Tree, Trees, node, none, more, span_of}
 use Rattle.sp_ast.specs.declared.forms.Form.TheVariants as form_is
 use Rattle.sp_ast.specs.declared.forms.TypeForm.TheVariants as type_is
 use Rattle.sp_types.specs.declared.words.Word.TheVariants as word_is
 use Rattle.sp_types.specs.declared.words.Maker.TheVariants as maker_is
-use Rattle.sp_types.specs.Types.{Ty, word, made, is_key, is_plain, are_plain}
+use Rattle.sp_types.specs.declared.words.Maker.{Maker}
+use Rattle.sp_types.specs.Types.{Ty, Tys, word, made, are_known, is_key, is_plain, are_plain}
 use Rattle.sp_types.specs.Types as types
 use Rattle.sp_names.specs.declared.sort.Meaning.{Meaning}
 use Rattle.sp_names.specs.declared.sort.Meaning.TheVariants as meaning_is
@@ -19,11 +20,12 @@ use Rattle.sp_names.specs.Types.{bitfield_word, bitfield_number, meaning_type, m
 use Rattle.sp_types.specs.Integers.{int_word}
 use Rattle.sp_operands.specs.Operands.{unknown}
 use Rattle.sp_typing.specs.Typing.{or_else}
-use Rattle.sp_around.specs.declared.written.Place.{Place}
-use Rattle.sp_around.specs.declared.written.Place.TheVariants as place_is
-use Rattle.sp_around.specs.Written.{nothing_at, unnamed_in, unnamed_among, names_type, suits, unless, path_suits, unless_key, misplaced_in, misplaced_among}
-use Rattle.sp_list_laws.specs.known_types.Full.{is_full, are_full}
-use Rattle.sp_list_laws.proofs.known_types_lemmas.Full.{never}
+use Rattle.sp_typing.specs.declared.places.Place.{Place}
+use Rattle.sp_typing.specs.declared.places.Place.TheVariants as place_is
+use Rattle.sp_typing.specs.Places.{suits}
+use Rattle.sp_around.specs.Written.{nothing_at, unnamed_in, unnamed_among, names_type, unless, type_at, misplaced_inside, misplaced_in, misplaced_among}
+use Rattle.sp_list_laws.specs.known_types.Full.{has_parts, is_full, are_full}
+use Rattle.sp_list_laws.proofs.known_types_lemmas.Full.{never, full_are_known}
 use Rattle.sp_list_laws.proofs.known_types_lemmas.Nodes.{chosen_full}
 use Rattle.sp_list_laws.specs.whole_list.Known.{HasType}
 use Rattle.sp_list_laws.specs.whole_list.Types.{means_something, is_type, are_types}
@@ -42,11 +44,6 @@ unless_holds : (b : Bool) (span : Span) → is_none (unless b span) ≡ true →
 unless_holds true span e = refl
 unless_holds false span e = never e
 
-inside_none : (place : Place) (span : Span) (o : Option Span) → is_none (unless_key place span o) ≡ true → is_none o ≡ true
-inside_none place_is.Whole span o e = e
-inside_none place_is.Part span o e = e
-inside_none place_is.Key span o e = never e
-
 int_full : (w : IntWord) → is_full (word (int_word w)) ≡ true
 int_full int.Uint8 = refl
 int_full int.Uint16 = refl
@@ -61,44 +58,10 @@ bitfield_full : (o : Option ℕ) → is_some o ≡ true → is_full (bitfield_wo
 bitfield_full None e = never e
 bitfield_full (Some n) e = refl
 
--- types of keys are plain
-plain_key : (t : Ty) → is_key t ≡ true → is_plain t ≡ true
-plain_key (word word_is.Unknown) e = refl
-plain_key (word word_is.Bool) e = refl
-plain_key (word (word_is.Uint w)) e = refl
-plain_key (word (word_is.Int w)) e = refl
-plain_key (word word_is.Bytes) e = refl
-plain_key (word word_is.String) e = refl
-plain_key (word (word_is.Enum n)) e = refl
-plain_key _ e = never e
-
-int_key : (w : IntWord) → is_key (word (int_word w)) ≡ true
-int_key int.Uint8 = refl
-int_key int.Uint16 = refl
-int_key int.Uint32 = refl
-int_key int.Uint64 = refl
-int_key int.Int8 = refl
-int_key int.Int16 = refl
-int_key int.Int32 = refl
-int_key int.Int64 = refl
-
-key_suits : (place : Place) (t : Ty) → is_key t ≡ true → suits place t ≡ true
-key_suits place_is.Whole t e = refl
-key_suits place_is.Part t e = plain_key t e
-key_suits place_is.Key t e = e
-
-made_suits : (place : Place) (span : Span) (o : Option Span) (t : Ty) → is_none (unless_key place span o) ≡ true → is_plain t ≡ true → suits place t ≡ true
-made_suits place_is.Whole span o t h e = refl
-made_suits place_is.Part span o t h e = e
-made_suits place_is.Key span o t h e = never h
-
-plain_if : (b : Bool) (t : Ty) → is_plain t ≡ true → is_plain (if b then t else unknown) ≡ true
-plain_if true t e = e
-plain_if false t e = refl
-
-bitfield_plain : (o : Option ℕ) → is_plain (bitfield_word o) ≡ true
-bitfield_plain None = refl
-bitfield_plain (Some n) = refl
+-- what is made of full types that may stand in it
+whole_full : (maker : Maker) (us : Tys) → has_parts maker us ≡ true → are_full us ≡ true → may_hold maker us ≡ true → is_full (whole_type maker us) ≡ true
+whole_full maker us parts full holds_ =
+    chosen_full (are_known us && may_hold maker us) (made maker us) (and_from (are_known us) (may_hold maker us) (full_are_known us full) holds_) (and_from (has_parts maker us) (are_full us) parts full)
 
 module _ (list : List Tree) (f : ℕ → Option Ty) where
   meaning_full : (meaning : Meaning) → means_something meaning ≡ true → names_type list meaning ≡ true → ((g : ℕ) → meaning ≡ meaning_is.Declaration g → HasType list f g) → is_full (meaning_type f meaning) ≡ true
@@ -109,105 +72,75 @@ module _ (list : List Tree) (f : ℕ → Option Ty) where
   meaning_full (meaning_is.Nothing k) something type has = never something
 
   module _ (m : ℕ) where
-    -- a type that is not misplaced suits its place
-    mutual
-      suited : (place : Place) (t : Tree) → is_type list f m t ≡ true → is_none (misplaced_in list f m place t) ≡ true → suits place (type_in list f m t) ≡ true
-      suited place (node (form_is.Type type_is.Path) span (more path none)) is placed =
-          let meaning = path_means list f m path in
-          (and_parts (names_type list meaning) (suits place (meaning_type f meaning)) (unless_holds (path_suits list f place meaning) span placed)).1
-      suited place (node (form_is.Type type_is.Bool) span none) is placed = key_suits place (word word_is.Bool) refl
-      suited place (node (form_is.Type type_is.Bytes) span none) is placed = key_suits place (word word_is.Bytes) refl
-      suited place (node (form_is.Type type_is.String) span none) is placed = key_suits place (word word_is.String) refl
-      suited place (node (form_is.Type type_is.Void) span none) is placed = unless_holds (suits place (word word_is.Void)) span placed
-      suited place (node (form_is.Type (type_is.Int w)) span none) is placed = key_suits place (word (int_word w)) (int_key w)
-      suited place (node (form_is.Type type_is.Tuple) span ts) is placed =
-          let inside = inside_none place span (misplaced_among list f m ts) placed in
-          let us = types_in list f m ts in
-          made_suits place span (misplaced_among list f m ts) (whole_type maker_is.Tuple us) placed (plain_if (may_hold maker_is.Tuple us) (made maker_is.Tuple us) (all_plain ts is inside))
-      suited place (node (form_is.Type type_is.Vector) span (more t none)) is placed =
-          let o = misplaced_in list f m place_is.Part t in
-          let us = types.more (type_in list f m t) types.none in
-          let plain = and_from (is_plain (type_in list f m t)) true (suited place_is.Part t is (inside_none place span o placed)) refl in
-          made_suits place span o (whole_type maker_is.Vector us) placed (plain_if (may_hold maker_is.Vector us) (made maker_is.Vector us) plain)
-      suited place (node (form_is.Type type_is.Set) span (more t none)) is placed =
-          let o = misplaced_in list f m place_is.Key t in
-          let us = types.more (type_in list f m t) types.none in
-          let plain = and_from (is_plain (type_in list f m t)) true (plain_key (type_in list f m t) (suited place_is.Key t is (inside_none place span o placed))) refl in
-          made_suits place span o (whole_type maker_is.Set us) placed (plain_if (may_hold maker_is.Set us) (made maker_is.Set us) plain)
-      suited place (node (form_is.Type type_is.Map) span (more k (more v none))) is placed =
-          let key = misplaced_in list f m place_is.Key k in
-          let value = misplaced_in list f m place_is.Part v in
-          let inside = none_else key value (inside_none place span (or_else key value) placed) in
-          let are = and_parts (is_type list f m k) (is_type list f m v) is in
-          let us = types.more (type_in list f m k) (types.more (type_in list f m v) types.none) in
-          let plain =
-          and_from (is_plain (type_in list f m k)) (is_plain (type_in list f m v) && true) (plain_key (type_in list f m k) (suited place_is.Key k are.0 inside.0))
-          (and_from (is_plain (type_in list f m v)) true (suited place_is.Part v are.1 inside.1) refl) in
-          made_suits place span (or_else key value) (whole_type maker_is.Map us) placed (plain_if (may_hold maker_is.Map us) (made maker_is.Map us) plain)
-      suited place (node (form_is.Type type_is.Bitfield) span ts) is placed =
-          made_suits place span None (bitfield_word (bitfield_number list m span.from)) placed (bitfield_plain (bitfield_number list m span.from))
-      suited place (node (form_is.Type type_is.Enum) span ts) is placed = never placed
-      suited place (node (form_is.Type type_is.Unit) span ts) is placed = never placed
-      suited place _ is placed = never is
+    -- a type that is not misplaced suits its place, and nothing inside it is misplaced
+    suited : (place : Place) (t : Tree) → is_none (misplaced_in list f m place t) ≡ true → (is_none (misplaced_inside list f m t) ≡ true) × (suits place (type_in list f m t) ≡ true)
+    suited place t placed =
+        let fit = suits place (type_in list f m t) in
+        let both = none_else (misplaced_inside list f m t) (unless fit (span_of t)) placed in
+        (both.0, unless_holds fit (span_of t) both.1)
 
-      all_plain : (ts : Trees) → are_types list f m ts ≡ true → is_none (misplaced_among list f m ts) ≡ true → are_plain (types_in list f m ts) ≡ true
-      all_plain none is placed = refl
-      all_plain (more t ts) is placed =
-          let are = and_parts (is_type list f m t) (are_types list f m ts) is in
-          let inside = none_else (misplaced_in list f m place_is.Part t) (misplaced_among list f m ts) placed in
-          and_from (is_plain (type_in list f m t)) (are_plain (types_in list f m ts)) (suited place_is.Part t are.0 inside.0) (all_plain ts are.1 inside.1)
+    all_plain : (ts : Trees) → is_none (misplaced_among list f m ts) ≡ true → are_plain (types_in list f m ts) ≡ true
+    all_plain none placed = refl
+    all_plain (more t ts) placed =
+        let both = none_else (misplaced_in list f m place_is.Value t) (misplaced_among list f m ts) placed in
+        and_from (is_plain (type_in list f m t)) (are_plain (types_in list f m ts)) (suited place_is.Value t both.0).1 (all_plain ts both.1)
 
     mutual
-      pub type_full : (place : Place) (t : Tree) → is_type list f m t ≡ true → is_none (misplaced_in list f m place t) ≡ true → Each (HasType list f) (mentions_in list m t) → is_full (type_in list f m t) ≡ true
-      type_full place (node (form_is.Type type_is.Path) span (more path none)) is placed has =
+      inside_full : (t : Tree) → is_type list f m t ≡ true → is_none (misplaced_inside list f m t) ≡ true → Each (HasType list f) (mentions_in list m t) → is_full (type_in list f m t) ≡ true
+      inside_full (node (form_is.Type type_is.Path) span (more path none)) is placed has =
           let meaning = path_means list f m path in
-          let stands = unless_holds (path_suits list f place meaning) span placed in
-          meaning_full meaning is (and_parts (names_type list meaning) (suits place (meaning_type f meaning)) stands).0 (λ g e. mentioned (HasType list f) list f m (path_names path) g e has)
-      type_full place (node (form_is.Type type_is.Bool) span none) is placed has = refl
-      type_full place (node (form_is.Type type_is.Bytes) span none) is placed has = refl
-      type_full place (node (form_is.Type type_is.String) span none) is placed has = refl
-      type_full place (node (form_is.Type type_is.Void) span none) is placed has = refl
-      type_full place (node (form_is.Type (type_is.Int w)) span none) is placed has = int_full w
-      type_full place (node (form_is.Type type_is.Tuple) span ts) is placed has =
-          let inside = inside_none place span (misplaced_among list f m ts) placed in
-          let us = types_in list f m ts in
-          chosen_full (may_hold maker_is.Tuple us) (made maker_is.Tuple us) (all_plain ts is inside) (types_full ts is inside has)
-      type_full place (node (form_is.Type type_is.Vector) span (more t none)) is placed has =
-          let inside = inside_none place span (misplaced_in list f m place_is.Part t) placed in
+          meaning_full meaning is (unless_holds (names_type list meaning) span placed) (λ g e. mentioned (HasType list f) list f m (path_names path) g e has)
+      inside_full (node (form_is.Type type_is.Bool) span none) is placed has = refl
+      inside_full (node (form_is.Type type_is.Bytes) span none) is placed has = refl
+      inside_full (node (form_is.Type type_is.String) span none) is placed has = refl
+      inside_full (node (form_is.Type type_is.Void) span none) is placed has = refl
+      inside_full (node (form_is.Type (type_is.Int w)) span none) is placed has = int_full w
+      inside_full (node (form_is.Type type_is.Tuple) span ts) is placed has =
+          whole_full maker_is.Tuple (types_in list f m ts) refl (types_full ts is placed has) (all_plain ts placed)
+      inside_full (node (form_is.Type type_is.Vector) span (more t none)) is placed has =
+          let s = suited place_is.Value t placed in
           let u = type_in list f m t in
-          chosen_full (is_plain u && true) (made maker_is.Vector (types.more u types.none)) (and_from (is_plain u) true (suited place_is.Part t is inside) refl)
-          (and_from (is_full u) true (type_full place_is.Part t is inside (each_left (HasType list f) (mentions_in list m t) [] has)) refl)
-      type_full place (node (form_is.Type type_is.Set) span (more t none)) is placed has =
-          let inside = inside_none place span (misplaced_in list f m place_is.Key t) placed in
+          whole_full maker_is.Vector (types.more u types.none) refl
+          (and_from (is_full u) true (inside_full t is s.0 (each_left (HasType list f) (mentions_in list m t) [] has)) refl)
+          (and_from (is_plain u) true s.1 refl)
+      inside_full (node (form_is.Type type_is.Set) span (more t none)) is placed has =
+          let s = suited place_is.Key t placed in
           let u = type_in list f m t in
-          chosen_full (is_key u) (made maker_is.Set (types.more u types.none)) (suited place_is.Key t is inside)
-          (and_from (is_full u) true (type_full place_is.Key t is inside (each_left (HasType list f) (mentions_in list m t) [] has)) refl)
-      type_full place (node (form_is.Type type_is.Map) span (more k (more v none))) is placed has =
-          let key = misplaced_in list f m place_is.Key k in
-          let value = misplaced_in list f m place_is.Part v in
-          let inside = none_else key value (inside_none place span (or_else key value) placed) in
+          whole_full maker_is.Set (types.more u types.none) refl
+          (and_from (is_full u) true (inside_full t is s.0 (each_left (HasType list f) (mentions_in list m t) [] has)) refl)
+          s.1
+      inside_full (node (form_is.Type type_is.Map) span (more k (more v none))) is placed has =
+          let both = none_else (misplaced_in list f m place_is.Key k) (misplaced_in list f m place_is.Value v) placed in
+          let key = suited place_is.Key k both.0 in
+          let value = suited place_is.Value v both.1 in
           let are = and_parts (is_type list f m k) (is_type list f m v) is in
           let behind = each_right (HasType list f) (mentions_in list m k) (mentions_in list m v ++ []) has in
           let s = type_in list f m k in
           let u = type_in list f m v in
-          chosen_full (is_key s && (is_plain u && true)) (made maker_is.Map (types.more s (types.more u types.none)))
-          (and_from (is_key s) (is_plain u && true) (suited place_is.Key k are.0 inside.0) (and_from (is_plain u) true (suited place_is.Part v are.1 inside.1) refl))
+          whole_full maker_is.Map (types.more s (types.more u types.none)) refl
           (and_from (is_full s) (is_full u && true)
-          (type_full place_is.Key k are.0 inside.0 (each_left (HasType list f) (mentions_in list m k) (mentions_in list m v ++ []) has))
-          (and_from (is_full u) true (type_full place_is.Part v are.1 inside.1 (each_left (HasType list f) (mentions_in list m v) [] behind)) refl))
-      type_full place (node (form_is.Type type_is.Bitfield) span ts) is placed has = bitfield_full (bitfield_number list m span.from) is
-      type_full place (node (form_is.Type type_is.Enum) span ts) is placed has = never placed
-      type_full place (node (form_is.Type type_is.Unit) span ts) is placed has = never placed
-      type_full place _ is placed has = never is
+          (inside_full k are.0 key.0 (each_left (HasType list f) (mentions_in list m k) (mentions_in list m v ++ []) has))
+          (and_from (is_full u) true (inside_full v are.1 value.0 (each_left (HasType list f) (mentions_in list m v) [] behind)) refl))
+          (and_from (is_key s) (is_plain u && true) key.1 (and_from (is_plain u) true value.1 refl))
+      inside_full (node (form_is.Type type_is.Bitfield) span ts) is placed has = bitfield_full (bitfield_number list m span.from) is
+      inside_full (node (form_is.Type type_is.Enum) span ts) is placed has = never placed
+      inside_full (node (form_is.Type type_is.Unit) span ts) is placed has = never placed
+      inside_full _ is placed has = never is
 
-      pub types_full : (ts : Trees) → are_types list f m ts ≡ true → is_none (misplaced_among list f m ts) ≡ true → Each (HasType list f) (mentions_among list m ts) → are_full (types_in list f m ts) ≡ true
+      types_full : (ts : Trees) → are_types list f m ts ≡ true → is_none (misplaced_among list f m ts) ≡ true → Each (HasType list f) (mentions_among list m ts) → are_full (types_in list f m ts) ≡ true
       types_full none is placed has = refl
       types_full (more t ts) is placed has =
           let are = and_parts (is_type list f m t) (are_types list f m ts) is in
-          let inside = none_else (misplaced_in list f m place_is.Part t) (misplaced_among list f m ts) placed in
+          let both = none_else (misplaced_in list f m place_is.Value t) (misplaced_among list f m ts) placed in
           and_from (is_full (type_in list f m t)) (are_full (types_in list f m ts))
-          (type_full place_is.Part t are.0 inside.0 (each_left (HasType list f) (mentions_in list m t) (mentions_among list m ts) has))
-          (types_full ts are.1 inside.1 (each_right (HasType list f) (mentions_in list m t) (mentions_among list m ts) has))
+          (inside_full t are.0 (suited place_is.Value t both.0).0 (each_left (HasType list f) (mentions_in list m t) (mentions_among list m ts) has))
+          (types_full ts are.1 both.1 (each_right (HasType list f) (mentions_in list m t) (mentions_among list m ts) has))
+
+    -- what is declared with a type at a place where it can stand has a full type
+    pub type_full : (place : Place) (t : Tree) → is_type list f m t ≡ true → is_none (misplaced_in list f m place t) ≡ true → Each (HasType list f) (mentions_in list m t) → is_full (type_at list f m place t) ≡ true
+    type_full place t is placed has =
+        let s = suited place t placed in
+        chosen_full (suits place (type_in list f m t)) (type_in list f m t) s.1 (inside_full t is s.0 has)
 
     -- where each declaration of a type has a full one, so have all that a type mentions
     pub each_has : ((g : ℕ) → HasType list f g) → (ns : List ℕ) → Each (HasType list f) ns

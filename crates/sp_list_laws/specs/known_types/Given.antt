@@ -11,6 +11,7 @@ use Rattle.sp_typed.specs.declared.words.ManyOp.{ManyOp}
 use Rattle.sp_typed.specs.declared.words.ManyOp.TheVariants as many_is
 use Rattle.sp_typed.specs.Exprs.{Expr, leaf, exprs, type_of}
 use Rattle.sp_typed.specs.Nodes.{holds, all_hold}
+use Rattle.sp_typing.specs.declared.places.Place.{Place}
 use Rattle.sp_typing.specs.declared.context.Member.{Member}
 use Rattle.sp_typing.specs.declared.context.Callable.{Callable}
 use Rattle.sp_typing.specs.Contexts.{Around}
@@ -73,8 +74,8 @@ pub record IsKnown (g : Around) (only : OneOp → Bool) (k : Known) (m : ℕ) (i
   pub named : (span : Span) (path : Tree) → IsTrue (is_path path) → IsTrue (is_named g.result (g.named span path))
   pub itself : (span : Span) → IsTrue (is_named g.result (g.itself span))
   pub current : (span : Span) → IsTrue (is_named g.result (g.current span))
-  pub names_types : (t : Tree) → IsTrue (is_type t) → IsTrue (is_none (g.written t).unnamed)
-  pub type_in : (t : Tree) → IsTrue (is_type t) → IsTrue (is_none (g.written t).misplaced) → IsTrue (is_full (g.type_in t))
+  pub names_types : (place : Place) (t : Tree) → IsTrue (is_type t) → IsTrue (is_none (g.written place t).unnamed)
+  pub type_in : (place : Place) (t : Tree) → IsTrue (is_type t) → IsTrue (is_none (g.written place t).misplaced) → IsTrue (is_full (g.type_in place t))
   pub member : (t : Ty) (name : List ℕ) (found : Member) → g.member t name ≡ Some found → IsTrue (only found.op) → IsTrue (is_member found)
   pub method : (t : Ty) (name : List ℕ) (span : Span) (ts : List Ty) (found : Callable) → g.method t name span ts ≡ Some found → IsTrue (is_method_op found.op)
   pub gives : (t : Ty) (name : List ℕ) (span : Span) (ts : List Ty) (found : Callable) → g.method t name span ts ≡ Some found → IsTrue (is_full t) → IsTrue (is_full found.ty)

@@ -128,8 +128,8 @@ locals_alone = record {
   named = λ span path. leaf_at span unknown (leaf_is.Function 0);
   itself = λ span. leaf_at span unknown (leaf_is.Itself stands.Unmeant);
   current = λ span. leaf_at span byte (leaf_is.Current stands.Meant);
-  type_in = λ t. boolean;
-  written = λ t. record { span = here; unnamed = None; misplaced = None };
+  type_in = λ place t. boolean;
+  written = λ place t. record { span = here; unnamed = None; misplaced = None };
   member = λ t name. None;
   method = λ t name span ts. None;
   target = λ op t n. None;
@@ -147,8 +147,8 @@ all_is_known = record {
   named = λ span path is. refl;
   itself = λ span. refl;
   current = λ span. refl;
-  names_types = λ t is. refl;
-  type_in = λ t is placed. refl;
+  names_types = λ place t is. refl;
+  type_in = λ place t is placed. refl;
   member = λ t name found at may. none_found found at;
   method = λ t name span ts found at. none_found found at;
   gives = λ t name span ts found at full. none_found found at;

@@ -8,7 +8,7 @@ use Rattle.sp_names.specs.declared.rows.Declaration.{Declaration}
 use Rattle.sp_names.specs.declared.sort.DeclSort.TheVariants as sort_is
 use Rattle.sp_names.specs.Declarations.{sort_at, number_at, type_tree_of}
 use Rattle.sp_names.specs.Types.{or_unknown}
-use Rattle.sp_around.specs.declared.written.Place.TheVariants as place_is
+use Rattle.sp_typing.specs.declared.places.Place.TheVariants as place_is
 use Rattle.sp_around.specs.Heads.{function_gives}
 use Rattle.sp_around.specs.Written.{is_type_sort, misplaced_in}
 use Rattle.sp_around.specs.Arounds.{Facts, member_of}

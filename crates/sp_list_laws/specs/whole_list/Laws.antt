@@ -7,12 +7,11 @@ use Rattle.sp_typed.specs.declared.words.OneOp.{OneOp}
 use Rattle.sp_typed_units.specs.declared.declarations.Typed.{Typed}
 use Rattle.sp_names.specs.declared.rows.Declaration.{Declaration}
 use Rattle.sp_names.specs.Declarations.{declaration_at, sort_of}
-use Rattle.sp_names.specs.Types.{type_in}
 use Rattle.sp_names.specs.Aliases.{tries}
 use Rattle.sp_typing.specs.Contexts.{Around}
 use Rattle.sp_typing_heads.specs.Functions.{function_of}
-use Rattle.sp_around.specs.declared.written.Place.TheVariants.{Whole}
-use Rattle.sp_around.specs.Written.{misplaced_in}
+use Rattle.sp_typing.specs.declared.places.Place.{Place}
+use Rattle.sp_around.specs.Written.{type_at, misplaced_in}
 use Rattle.sp_around.specs.Arounds.{Facts, around}
 use Rattle.sp_constants.specs.Known.{Known as Values}
 use Rattle.sp_body_rules.specs.Known.{Known}
@@ -37,12 +36,13 @@ TypesAreFull =
     → ((g : ℕ) (d : Declaration) → declaration_at list g ≡ Some d → IsTrue (is_alias (sort_of d.tree)) → Stands list f g d)
     → (g : ℕ) → HasType list f g
 
--- Where each declaration of a type has a full one, a type that is written in a module is full, unless it can't stand there.
+-- Where each declaration of a type has a full one, what is declared with a type that is written in a module has a full type, unless
+-- that can't stand there.
 abbrev pub WrittenTypesAreFull : Type 0
 WrittenTypesAreFull =
-    (list : List Tree) (f : ℕ → Option Ty) (m : ℕ) (t : Tree)
+    (list : List Tree) (f : ℕ → Option Ty) (m : ℕ) (place : Place) (t : Tree)
     → ((g : ℕ) → HasType list f g) → IsTrue (is_type list f m t)
-    → IsTrue (is_none (misplaced_in list f m Whole t)) → IsTrue (is_full (type_in list f m t))
+    → IsTrue (is_none (misplaced_in list f m place t)) → IsTrue (is_full (type_at list f m place t))
 
 -- Where declarations have full types, all is known that the expressions of a module can name.
 abbrev pub ModulesAreKnown : Type 0

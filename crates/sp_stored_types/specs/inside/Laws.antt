@@ -19,6 +19,7 @@ use Rattle.sp_typed.specs.declared.words.OneOp.TheVariants as one_is
 use Rattle.sp_typed.specs.declared.words.Standing.TheVariants as standing_is
 use Rattle.sp_typed.specs.Exprs.{Expr, Exprs, leaf, one, two, three, many}
 use Rattle.sp_typed.specs.Exprs as typed_is
+use Rattle.sp_typing.specs.declared.places.Place.TheVariants as place_is
 use Rattle.sp_typing.specs.Contexts.{Around}
 use Rattle.sp_operands.specs.Operands.{unknown}
 use Rattle.sp_operands.specs.Literals.{seen}
@@ -109,7 +110,7 @@ module _ (list : List Tree) (count : ℕ) (in_row : AreInRow list count) (f g : 
 
   base_kept : (o : Around) (t : Tree) → Kept g (base_read (early o) v t).ty (base_open list count f (early o) v t) (base_read (late o) v t).ty (base_open list count g (late o) v t)
   base_kept o (node (form_is.Base base_is.Type) at (more t none)) = record {
-    same = λ e. ap (λ r. Read.ty r) (type_same o at t (o.type_in t));
+    same = λ e. ap (λ r. Read.ty r) (type_same o at t (o.type_in place_is.Whole t));
     none = λ e. refl;
     waits = λ j e n. absurd (none_some None j refl e);
   }
@@ -130,7 +131,7 @@ module _ (list : List Tree) (count : ℕ) (in_row : AreInRow list count) (f g : 
 
   pub source_kept : (o : Around) (s : Source) → Kept g (source_type (early o) v s) (source_open list count f (early o) v s) (source_type (late o) v s) (source_open list count g (late o) v s)
   source_kept o (source_is.Field t) = field_kept o t
-  source_kept o (source_is.Variable t) = kept_known g (o.type_in t)
+  source_kept o (source_is.Variable t) = kept_known g (o.type_in place_is.Value t)
   source_kept o source_is.Sink = kept_known g (word word_is.Sink)
 
 -- what is open has no answer, and is in the row

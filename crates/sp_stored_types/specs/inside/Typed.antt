@@ -20,6 +20,7 @@ use Rattle.sp_typed.specs.declared.words.NewOf.{NewOf}
 use Rattle.sp_typed.specs.Exprs.{Expr, leaf}
 use Rattle.sp_typed_units.specs.declared.declarations.MemberKind.{MemberKind}
 use Rattle.sp_typed_units.specs.declared.declarations.MemberKind.TheVariants as kind_is
+use Rattle.sp_typing.specs.declared.places.Place.TheVariants.{Whole}
 use Rattle.sp_typing.specs.declared.context.Callable.{Callable}
 use Rattle.sp_typing.specs.declared.context.Member.{Member}
 use Rattle.sp_typing.specs.Contexts.{Around}
@@ -234,7 +235,7 @@ module _ (list : List Tree) (count : ℕ) (in_row : AreInRow list count) where
       typed_kept o (node (form_is.Expr expr_is.Map) span ts) =
           kept_nodes list count f g w (open_pairs list count) (map_at span) (map_at span) (pairs_typed (within f o) ts) (pairs_typed (within g o) ts) (λ z. refl) (map_first list count span) (pairs_kept o ts)
       typed_kept o (node (form_is.Expr expr_is.Cast) span (more t (more e none))) =
-          one_kept span (λ a. cast_type (o.type_in t)) (one_is.Cast (o.written t)) (λ h a. refl) (typed (within f o) e) (typed (within g o) e) (typed_kept o e)
+          one_kept span (λ a. cast_type (o.type_in Whole t)) (one_is.Cast (o.written Whole t)) (λ h a. refl) (typed (within f o) e) (typed (within g o) e) (typed_kept o e)
       typed_kept o (node (form_is.Expr expr_is.New) span (more path (more (row ts) none))) =
           let named = o.named (read.span_of path) path in
           kept_nodes list count f g w (open_head list count) (λ p. new_at (within f o) span (read.span_of path) p.0 p.1) (λ p. new_at (within g o) span (read.span_of path) p.0 p.1) (head_of named (typed_all (within f o) ts)) (head_of named (typed_all (within g o) ts))

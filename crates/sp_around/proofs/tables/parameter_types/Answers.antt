@@ -1,7 +1,6 @@
-use Rattle.std.proofs.Common.{◌∙◌, ap}
+use Rattle.std.proofs.Common.{◌∙◌}
 use Rattle.sp_solver.specs.Told.{told}
-use Rattle.sp_names.specs.Types.{type_in}
-use Rattle.sp_around.specs.Heads.{parameter_tree, parameter_types}
+use Rattle.sp_around.specs.Heads.{parameter_types}
 use Rattle.sp_around.proofs.Steps.{one_parameter, all_parameters}
 use Rattle.sp_around.proofs.tables.parameter_types.Goals as goal
 
@@ -12,8 +11,8 @@ loop-parameter-preserved c =
     let m = c.args.owner in (
       tt,
       tt,
-      one_parameter list f m c.in-Some.parameter c.next.new.self c.loop-parameter.parameter-iterator c.loop-parameter.types.items c.push.new.self.items c.in_ok-type_in.field-0 c.in-Some.ensures.steps c.in_ok-push.ensures.items
-          (c.in_ok-type_in.ensures ∙ ap (λ p. type_in list f m (parameter_tree p)) c.view.ensures)
+      one_parameter list f m c.in-Some.parameter c.next.new.self c.loop-parameter.parameter-iterator c.loop-parameter.types.items c.push.new.self.items c.in_ok-parameter_type.field-0 c.in-Some.ensures.steps c.in_ok-push.ensures.items
+          c.in_ok-parameter_type.ensures
           ∙ c.loop-parameter.invariant.2,
     )
 

@@ -5,10 +5,13 @@ use Rattle.sp_around.specs.Written.{misplaced_among}
 use Rattle.sp_around.proofs.written.+misplaced.Given as goal
 
 abbrev pub decreases-misplaced_in : goal.decreases-misplaced_in
-decreases-misplaced_in l = 2 * tree_size l.tree.now + 1
+decreases-misplaced_in l = 3 * tree_size l.tree.now + 2
+
+abbrev pub decreases-misplaced_inside : goal.decreases-misplaced_inside
+decreases-misplaced_inside l = 3 * tree_size l.tree.now + 1
 
 abbrev pub decreases-misplaced_among : goal.decreases-misplaced_among
-decreases-misplaced_among l = 2 * trees_size (trees l.members)
+decreases-misplaced_among l = 3 * trees_size (trees l.members)
 
 abbrev pub invariant-misplaced_among-loop-member : goal.invariant-misplaced_among-loop-member
 invariant-misplaced_among-loop-member l =

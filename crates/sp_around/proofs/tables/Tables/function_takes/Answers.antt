@@ -6,8 +6,8 @@ pub returns-in-Some : goal.returns-in-Some
 returns-in-Some c =
     let t = c.self.inside in
     let at = rw c.deref.ensures.value at c.in-Some.ensures.lookup in
-    let is = rw c.deref-in-Some.ensures.value at c.type_at.ensures in
-    calls_found c.type_at.result t.names.now t.known.now c.args.self.now t.functions.items c.args.function c.args.number c.in-Some.table.now c.self.view_is c.self.invariant.functions_are (some_at t.functions.items c.args.function c.in-Some.table.now at.3.0 at.1) is
+    let is = rw c.deref-in-Some.ensures.value at c.numbered_type.ensures in
+    calls_found c.numbered_type.result t.names.now t.known.now c.args.self.now t.functions.items c.args.function c.args.number c.in-Some.table.now c.self.view_is c.self.invariant.functions_are (some_at t.functions.items c.args.function c.in-Some.table.now at.3.0 at.1) is
 
 pub returns-in-None : goal.returns-in-None
 returns-in-None c =
