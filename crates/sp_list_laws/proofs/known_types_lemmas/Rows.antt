@@ -24,7 +24,7 @@ use Rattle.sp_operands.specs.Operands.{unknown}
 use Rattle.sp_operands.specs.Operands as typing
 use Rattle.sp_operands.specs.Literals.{seen, is_past}
 use Rattle.sp_operands.specs.Wholes.{may_hold, is_of, all_of, has_keys_alone, row_type, all_in_turn, are_entries, map_type}
-use Rattle.sp_typing.specs.Typing.{one_at, many_at, each_to, row_at, in_turn, lead_half, map_of, map_at, tuple_at, no_call, callee_op, call_by, call_at, method_of, started, new_by, new_at}
+use Rattle.sp_typing.specs.Typing.{one_at, many_at, each_to, row_at, in_turn, leading_half, map_of, map_at, tuple_at, no_call, callee_op, call_by, call_at, method_of, started, new_by, new_at}
 use Rattle.sp_body_rules.specs.Known.{Known}
 use Rattle.sp_body_rules.specs.Values.{is_no_value, knows, is_new}
 use Rattle.sp_body_rules.specs.ExprTests.{unlike, all_value_tests, elements_tests, row_tests, entries_tests, map_tests, argument_tests, connects}
@@ -172,7 +172,7 @@ module _ (only : OneOp → Bool) (k : Known) (m : ℕ) where
       many_good span t many_is.Map es (whole_all es v.0) refl v.1
 
   pub pairs_hold : (span : Span) (ps : List (Expr × Expr)) → HoldsPairs only k m ps → Holds only k m (map_at span ps)
-  pairs_hold span ps h = map_holds span (in_turn (lead_half false ps) (lead_half true ps) ps) (turn_holds only k m (lead_half false ps) (lead_half true ps) ps h)
+  pairs_hold span ps h = map_holds span (in_turn (leading_half false ps) (leading_half true ps) ps) (turn_holds only k m (leading_half false ps) (leading_half true ps) ps h)
 
   -- arguments: of those that are right without a value of their own there are none
   bare_argument : (starts : Bool) (e : Expr) → is_bare e ≡ true → (is_no_value e && not (starts && is_new (type_of e))) ≡ true
