@@ -237,7 +237,7 @@ is_place k (two h a b) = is_element h.op (type_of a) && is_place k a
 is_place k (three h a b c) = false
 is_place k (many h es) = false
 
--- `self`, `$$` and calls can't be changed, of whatever type they are
+-- `self`, `$$` and calls can't be changed, of whatever type they are; literals and `x?.f` are always of a known one
 abbrev pub is_fixed_leaf : LeafOp → Bool
 is_fixed_leaf (leaf_is.Itself s) = true
 is_fixed_leaf (leaf_is.Current s) = true
@@ -279,9 +279,9 @@ abbrev pub is_itself : Expr → Bool
 is_itself (leaf h) = itself_leaf h.op
 is_itself _ = false
 
--- what a method asks of its receiver
+-- What a method asks of its receiver. Only what has a known type has methods.
 abbrev pub receiver_tests : Known → ℕ → ManyOp → Expr → List (Bool × Fault)
-receiver_tests k m (many_is.Method method slot) e = (changes method && not (may_change k e), at m rule_is.NotAssignable (span_of e)) ∷ []
+receiver_tests k m (many_is.Method method slot) e = (changes method && not (is_place k e), at m rule_is.NotAssignable (span_of e)) ∷ []
 receiver_tests k m (many_is.OfUnit method name) e = (is_of_self method && not (is_itself e), at m rule_is.SelfOutside name) ∷ []
 receiver_tests k m _ e = []
 

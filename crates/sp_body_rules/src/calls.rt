@@ -226,7 +226,7 @@ fn note_receiver<F: Facts>(facts: &F, owner: u32, op: &ManyOp, e: &Expr, least: 
 {
     match op {
         ManyOp::Method(method, _) => {
-            let fixed = method.changes() && !may_change(facts, e);
+            let fixed = method.changes() && !is_place(facts, e);
             note_at(fixed, owner, Rule::NotAssignable, e.span(), least);
         }
         ManyOp::OfUnit(method, name) => {

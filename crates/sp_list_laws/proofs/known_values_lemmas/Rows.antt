@@ -28,8 +28,8 @@ use Rattle.sp_typing.specs.Contexts.{Around}
 use Rattle.sp_typing.specs.declared.context.Member.{Member}
 use Rattle.sp_typing.specs.declared.context.Callable.{Callable}
 use Rattle.sp_operands.specs.Operands.{unknown, boolean}
-use Rattle.sp_operands.specs.Literals.{seen, is_past}
-use Rattle.sp_operands.specs.Wholes.{may_hold, all_of as whole_of, all_in_turn, first_seen, second_seen, row_type, map_type, are_entries}
+use Rattle.sp_operands.specs.Literals.{taken, seen, is_past}
+use Rattle.sp_operands.specs.Wholes.{may_hold, are_parts, tuple_type, all_of as whole_of, all_in_turn, first_seen, second_seen, row_type, map_type, are_entries}
 use Rattle.sp_operands.specs.Wholes as wholes
 use Rattle.sp_typing.specs.Typing.{one_at, many_at, tuple_at, row_at, map_of, map_at, in_turn, leading_half, led, leading, member_at, set_op, set_member_at, call_by, callee_op, call_at, each_to, method_of, new_by, new_at, started}
 use Rattle.sp_body_rules.specs.Known.{Known}
@@ -212,8 +212,12 @@ module _ (only : OneOp → Bool) (k : Known) (m : ℕ) (v : Values) where
   pub tuple_told : (span : Span) (es : List Expr) → ToldAll es → Told only k m v (tuple_at span es)
   tuple_told span es h c r p =
       let t = made maker_is.Tuple (tys (map seen es)) in
-      let right = right_parts span t many_is.Tuple es r in
-      members_told (map seen es) (all_values v (exprs es)) (members_fit es h (clear_parts span t many_is.Tuple es c) right.1 (first_fine only k m (tuple_at span es) c))
+      let u = tuple_type (map seen es) in
+      let os = all_values v (exprs es) in
+      let right = right_parts span u many_is.Tuple es r in
+      let whole = if_full (are_parts (map seen es)) t (and_parts true (is_full u) right.0).1 in
+      ap (λ b. fits (if b then t else unknown) (many_value many_is.Tuple os)) whole
+      ∙ members_told (map seen es) os (members_fit es h (clear_parts span u many_is.Tuple es c) right.1 (first_fine only k m (tuple_at span es) c))
 
   -- vectors and sets
   elements_fit : (keyed : Bool) (first : Expr) (t : Ty) (es : List Expr) → ToldAll es → ClearAll es → RightAll es → Fine (elements_tests m keyed first (exprs es)) → whole_of t es ≡ true → FitAll (map (λ (e : Expr). t) es) (all_values v (exprs es))

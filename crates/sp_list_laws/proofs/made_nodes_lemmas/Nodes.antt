@@ -30,7 +30,7 @@ use Rattle.sp_typed.specs.Exprs.{Expr, leaf, one, two, three, many, exprs, span_
 use Rattle.sp_typed.specs.Nodes.{holds, all_hold}
 use Rattle.sp_operands.specs.Operands.{unknown, boolean, key_of, first_type, sort_of, result_type, second_type}
 use Rattle.sp_operands.specs.Literals.{can_take, taken, is_negative, seen, literal_word}
-use Rattle.sp_operands.specs.Wholes.{row_type, map_type}
+use Rattle.sp_operands.specs.Wholes.{row_type, map_type, tuple_type}
 use Rattle.sp_typing.specs.declared.context.Member.{Member}
 use Rattle.sp_typing.specs.declared.context.Callable.{Callable}
 use Rattle.sp_typing.specs.Contexts.{Around}
@@ -228,7 +228,7 @@ module _ (g : Around) (p : Expr → Bool) (makes : Makes g p) where
     typed_holds (node (form_is.Expr (expr_is.Regex text)) span none) = makes.regex span text
     typed_holds (node (form_is.Expr expr_is.Tuple) span ts) =
         let es = typed_all g ts in
-        many_is_so (record { span = span; ty = made maker_is.Tuple (tys (map seen es)); op = many_is.Tuple }) es (makes.tuple span es) (all_are ts)
+        many_is_so (record { span = span; ty = tuple_type (map seen es); op = many_is.Tuple }) es (makes.tuple span es) (all_are ts)
     typed_holds (node (form_is.Expr expr_is.Vector) span ts) =
         let es = led (typed_all g ts) in
         many_is_so (record { span = span; ty = row_type maker_is.Vector es; op = many_is.Vector }) es (makes.vector span es) (led_are (typed_all g ts) (all_are ts))
