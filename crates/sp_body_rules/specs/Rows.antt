@@ -643,7 +643,7 @@ add_of_no_key = refl
 print_of_a_place : at_stmt None (print (on 1) (exprs (local 2 some_unit ∷ local 3 place ∷ []))) ≡ ((rule_is.TypeMismatch, 3) ∷ [])
 print_of_a_place = refl
 
-print_of_places : at_stmt None (print (on 1) (exprs (local 2 (made maker_is.Tuple (tys (uint8 ∷ place ∷ []))) ∷ local 3 sink ∷ [])) ≡ ((rule_is.TypeMismatch, 2) ∷ (rule_is.TypeMismatch, 3) ∷ [])
+print_of_places : at_stmt None (print (on 1) (exprs (local 2 (made maker_is.Tuple (tys (uint8 ∷ place ∷ []))) ∷ local 3 sink ∷ []))) ≡ ((rule_is.TypeMismatch, 2) ∷ (rule_is.TypeMismatch, 3) ∷ [])
 print_of_places = refl
 
 local_of_a_sink : at_stmt None (valued_at 1 (valued_is.Local (record { slot = 0; name = on 1; ty = sink; written = None; taken = false })) (local 3 sink)) ≡ ((rule_is.TypeMismatch, 3) ∷ [])

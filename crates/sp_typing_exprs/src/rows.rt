@@ -8,9 +8,7 @@ ghost use Rattle.sp_operands.specs.Wholes.{row_type, map_type, tuple_type};
 
 use crate::nodes::{many_at, to_target};
 use sp_base::{NoMemory, Span, or_drop};
-use sp_operands::{
-    is_negative, literal_word, map_type, row_type, seen, taken, tuple_type,
-};
+use sp_operands::{is_negative, literal_word, map_type, row_type, seen, taken, tuple_type};
 use sp_typed::{Expr, ManyOp};
 use sp_types::{Maker, Type};
 use sp_typing::Context;
