@@ -57,8 +57,8 @@ is_no_value (two h a b) = is_set_key h.op (type_of a) || is_valueless h.ty
 is_no_value (three h a b c) = is_valueless h.ty
 is_no_value (many h es) = is_valueless h.ty
 
--- Where a sink may stand, too: before the dot of a method, and by itself behind the arrow of a field. It is of a type, so that, unlike
--- what else has no value, it can be an argument of a wrong type.
+-- Whether an expression is neither a value nor a sink. A sink stands before the dot of its methods and by itself behind the arrow of a
+-- field; and it is of a type, so that it can be an argument of a wrong type, which what else has no value can't.
 abbrev pub is_no_object : Expr → Bool
 is_no_object e = is_no_value e && not (is_sink (type_of e))
 
