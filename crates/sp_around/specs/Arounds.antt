@@ -1,8 +1,8 @@
 -- What stands round the expressions of a module: what names, types and members mean there, where no body, unit or hook adds
 -- anything.
-use Rattle.std.specs.Prelude.{ℕ, ◌+◌, ◌==◌, if◌then◌else◌, List, [], Option, Some, None, slice_get}
+use Rattle.std.specs.Prelude.{ℕ, ◌+◌, ◌==◌, Bool, true, false, if◌then◌else◌, List, [], Option, Some, None, slice_get}
 use Rattle.sp_base.specs.declared.places.Span.{Span}
-use Rattle.sp_ast.specs.Trees.{Tree}
+use Rattle.sp_ast.specs.Trees.{Tree, span_of}
 use Rattle.sp_numbers.specs.declared.width.Width.TheVariants as width
 use Rattle.sp_types.specs.declared.words.Word.{Word}
 use Rattle.sp_types.specs.declared.words.Word.TheVariants as word_is
@@ -78,8 +78,23 @@ meaning_at list f constant span path (meaning_is.Label owner label) = leaf_at sp
 meaning_at list f constant span path meaning_is.Decoder = leaf_at span unknown leaf_is.Decoder
 meaning_at list f constant span path (meaning_is.Nothing k) = leaf_at span unknown (leaf_is.Nothing (name_span path k))
 
+-- whether what a path means is a value: a constant or a label
+abbrev pub is_constant : DeclSort → Bool
+is_constant sort_is.Constant = true
+is_constant _ = false
+
+abbrev pub means_value : List Tree → Meaning → Bool
+means_value list (meaning_is.Declaration g) = is_constant (sort_at list g)
+means_value list (meaning_is.Label owner label) = true
+means_value list _ = false
+
+-- Parentheses round a path are part of a value. Where it is none, it begins at its own first token, for a path has no parentheses.
+abbrev pub slice_of : List Tree → Span → Tree → Meaning → Span
+slice_of list span path meaning = if means_value list meaning then span else span_of path
+
 abbrev pub path_at : List Tree → (ℕ → Option Ty) → (ℕ → Ty) → ℕ → Span → Tree → Expr
-path_at list f constant m span path = meaning_at list f constant span path (path_means list f m path)
+path_at list f constant m span path =
+    meaning_at list f constant (slice_of list span path (path_means list f m path)) path (path_means list f m path)
 
 -- a member of a unit of this kind, and its type
 abbrev pub kind_type : (ℕ → Ty) → ℕ → MemberKind → Ty

@@ -187,6 +187,22 @@ label_row = refl
 library_row : g.path here (path (codes "spicy" ∷ codes "BitOrder" ∷ codes "MSB0" ∷ [])) ≡ leaf_at here (word (word_is.Enum 1)) (leaf_is.Label 1 1)
 library_row = refl
 
+-- parentheses round a constant and a label are part of them, but none are round a function, a type and an enum of the library
+constant_in_parentheses : g.path (span 8) (path (codes "C" ∷ [])) ≡ leaf_at (span 8) number (leaf_is.Constant 0)
+constant_in_parentheses = refl
+
+label_in_parentheses : g.path (span 8) (path (codes "E" ∷ codes "A" ∷ [])) ≡ leaf_at (span 8) (word (word_is.Enum 4)) (leaf_is.Label 4 0)
+label_in_parentheses = refl
+
+function_in_parentheses : g.path (span 8) (path (codes "g" ∷ [])) ≡ leaf_at here unknown (leaf_is.Function 1)
+function_in_parentheses = refl
+
+unit_in_parentheses : g.path (span 8) (path (codes "V" ∷ [])) ≡ leaf_at here unknown (leaf_is.TypeName (word_is.Unit 1))
+unit_in_parentheses = refl
+
+enum_in_parentheses : g.path (span 8) (path (codes "spicy" ∷ codes "BitOrder" ∷ [])) ≡ leaf_at here unknown (leaf_is.TypeName (word_is.Enum 1))
+enum_in_parentheses = refl
+
 -- a module by itself, and what isn't declared, name nothing
 module_row : g.path here (path (codes "M" ∷ [])) ≡ leaf_at here unknown (leaf_is.Nothing here)
 module_row = refl

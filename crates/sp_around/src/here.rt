@@ -7,7 +7,7 @@ ghost use Rattle.sp_names.specs.Declarations.{sort_at};
 ghost use Rattle.sp_operands.specs.Operands.{unknown};
 ghost use Rattle.sp_typing.specs.Typing.{leaf_at};
 ghost use Rattle.sp_solver.specs.Told.{told};
-ghost use Rattle.sp_around.specs.Arounds.{stored_by, type_leaf, declared_at, path_at, member_of, new_takes, target_of, left_out_by};
+ghost use Rattle.sp_around.specs.Arounds.{stored_by, type_leaf, declared_at, meaning_at, means_value, slice_of, path_at, member_of, new_takes, target_of, left_out_by};
 
 use crate::tables::Tables;
 use crate::written::{name_span, type_at, written_in};
@@ -100,17 +100,41 @@ fn declared_at<K: Constants>(
     }
 }
 
-fn path_at<K: Constants>(
+/// Whether what a path means is a value.
+fn means_value(tables: &Tables<'_>, meaning: Meaning) -> bool
+    ensures { result ≡ means_value tables.now.0 meaning }
+{
+    match meaning {
+        Meaning::Declaration(declaration) => {
+            matches!(tables.names().sort(declaration), DeclSort::Constant)
+        }
+        Meaning::Label { .. } => true,
+        _ => false,
+    }
+}
+
+/// Where a path stands, by what it means: parentheses round it are part of a value alone.
+fn slice_of(tables: &Tables<'_>, span: Span, path: &Ref<'_, PathKind>, meaning: Meaning) -> Span
+    ensures { result ≡ slice_of tables.now.0 span path.now meaning }
+{
+    if means_value(tables, meaning) {
+        span
+    } else {
+        path.span()
+    }
+}
+
+fn meaning_at<K: Constants>(
     tables: &Tables<'_>,
     constants: &K,
-    owner: u32,
     span: Span,
     path: &Ref<'_, PathKind>,
+    meaning: Meaning,
 ) -> Result<Expr, NoMemory>
-    ensures { IfOk result (λ e. e ≡ path_at tables.now.0 (told tables.now.1)
-        (K.constant_type constants.now) owner span path.now) }
+    ensures { IfOk result (λ e. e ≡ meaning_at tables.now.0 (told tables.now.1)
+        (K.constant_type constants.now) span path.now meaning) }
 {
-    match tables.names().means(tables.known(), owner, path) {
+    match meaning {
         Meaning::Declaration(declaration) => declared_at(tables, constants, span, declaration),
         Meaning::LibraryEnum(number) => { Ok(word_at(span, LeafOp::TypeName(Word::Enum(number)))) }
         Meaning::Label { owner, label } => Ok(leaf_at(
@@ -121,6 +145,21 @@ fn path_at<K: Constants>(
         Meaning::Decoder => Ok(word_at(span, LeafOp::Decoder)),
         Meaning::Nothing(place) => Ok(word_at(span, LeafOp::Nothing(name_span(path, place)))),
     }
+}
+
+fn path_at<K: Constants>(
+    tables: &Tables<'_>,
+    constants: &K,
+    owner: u32,
+    span: Span,
+    path: &Ref<'_, PathKind>,
+) -> Result<Expr, NoMemory>
+    ensures { IfOk result (λ e. e ≡ path_at tables.now.0 (told tables.now.1)
+        (K.constant_type constants.now) owner span path.now) }
+{
+    let meaning = tables.names().means(tables.known(), owner, path);
+    let span = slice_of(tables, span, path, meaning);
+    meaning_at(tables, constants, span, path, meaning)
 }
 
 fn member_of(

@@ -27,12 +27,12 @@ use Rattle.sp_typed.specs.declared.words.Written.{Written}
 use Rattle.sp_typed.specs.Exprs.{Expr, Exprs, leaf, one, two, three, many, none, more, type_of, span_of, is_number}
 use Rattle.sp_operands.specs.declared.operators.OperatorSort.{OperatorSort}
 use Rattle.sp_operands.specs.declared.operators.OperatorSort.TheVariants as sort_is
-use Rattle.sp_operands.specs.Operands.{unknown, is_unsigned, is_signed, is_integer, is_enum, sort_of, stands_before, stands_behind, agree, stands_alone, has_size, key_of, is_valueless}
+use Rattle.sp_operands.specs.Operands.{unknown, is_unsigned, is_signed, is_integer, is_enum, sort_of, stands_before, stands_behind, agree, stands_alone, has_size, key_of}
 use Rattle.sp_operands.specs.Literals.{is_over, seen, is_past}
 use Rattle.sp_body_rules.specs.declared.facts.Constancy.{Constancy}
 use Rattle.sp_body_rules.specs.declared.facts.Constancy.TheVariants as constancy_is
 use Rattle.sp_body_rules.specs.Known.{Known}
-use Rattle.sp_body_rules.specs.Values.{is_new, is_no_value, knows, value_goes, value_span, value_tests, wrong, right_tests, condition_tests, written_tests}
+use Rattle.sp_body_rules.specs.Values.{is_new, is_no_value, is_no_object, knows, value_goes, value_span, value_tests, object_tests, wrong, right_tests, condition_tests, written_tests}
 use Rattle.sp_rules.specs.Faults.{at}
 
 abbrev pub is_unmeant : Standing → Bool
@@ -64,7 +64,7 @@ cast_tests m t w e =
 
 -- a member that its object doesn't have
 abbrev pub no_member_tests : ℕ → Span → Expr → List (Bool × Fault)
-no_member_tests m name e = value_tests m e ++ ((knows e, at m rule_is.UnknownMember name) ∷ [])
+no_member_tests m name e = object_tests m e ++ ((knows e, at m rule_is.UnknownMember name) ∷ [])
 
 abbrev pub one_op_tests : ℕ → Ty → OneOp → Expr → List (Bool × Fault)
 one_op_tests m t one_is.Negate e = right_tests m (negates e) e
@@ -169,9 +169,9 @@ abbrev pub map_tests : ℕ → Span → Exprs → List (Bool × Fault)
 map_tests m span (more key (more value es)) = entries_tests m true key value (more key (more value es))
 map_tests m span _ = (true, at m rule_is.TypeMismatch span) ∷ []
 
--- Whether an argument goes to its parameter. A literal past its type doesn't; of what has no value nothing is asked.
+-- Whether an argument goes to its parameter. A literal past its type doesn't; of what is neither a value nor a sink nothing is asked.
 abbrev pub argument_goes : Ty → Expr → Bool
-argument_goes t e = not (is_past e) && (is_valueless (type_of e) || goes (type_of e) t)
+argument_goes t e = not (is_past e) && (is_no_object e || goes (type_of e) t)
 
 abbrev pub argument_fits : Option Ty → Expr → Bool
 argument_fits None e = false
@@ -196,7 +196,7 @@ argument_tests m starts (more e es) =
 
 -- The number that becomes a value of an enum may be of any integer type.
 abbrev pub is_convertible : Expr → Bool
-is_convertible e = not (is_past e) && (not (is_known (type_of e)) || is_valueless (type_of e) || is_integer (type_of e))
+is_convertible e = not (is_past e) && (not (is_known (type_of e)) || is_no_object e || is_integer (type_of e))
 
 abbrev pub converts : Exprs → Bool
 converts none = false
@@ -211,17 +211,15 @@ abbrev pub call_tests : Known → ℕ → ManyOp → Span → Ty → Exprs → L
 call_tests k m op span receiver es =
     (not (arguments_fit (k.target op receiver) 0 es), at m rule_is.WrongArguments span) ∷ argument_tests m (connects op) es
 
--- Whether what an expression names may be changed: a local, a field and a variable of a unit, and elements of vectors and maps
--- in these; but not the variable of a `for`. Of what names nothing nothing is asked.
+-- What names a place whose value can be changed: a local, a field and a variable of a unit, and elements of vectors and maps in these;
+-- but not the variable of a `for`.
 abbrev pub changes_leaf : Known → LeafOp → Bool
 changes_leaf k (leaf_is.Local slot) = not (k.fixed slot)
-changes_leaf k (leaf_is.Nothing span) = true
 changes_leaf k _ = false
 
 abbrev pub changes_one : OneOp → Bool
 changes_one (one_is.Field n) = true
 changes_one (one_is.Variable n) = true
-changes_one (one_is.NoMember name) = true
 changes_one _ = false
 
 abbrev pub is_tuple : Ty → Bool
@@ -232,12 +230,38 @@ abbrev pub is_element : TwoOp → Ty → Bool
 is_element two_is.Index t = not (is_tuple t)
 is_element _ t = false
 
+abbrev pub is_place : Known → Expr → Bool
+is_place k (leaf h) = changes_leaf k h.op
+is_place k (one h a) = changes_one h.op
+is_place k (two h a b) = is_element h.op (type_of a) && is_place k a
+is_place k (three h a b c) = false
+is_place k (many h es) = false
+
+-- `self`, `$$` and calls can't be changed, of whatever type they are; literals and `x?.f` are always of a known one
+abbrev pub is_fixed_leaf : LeafOp → Bool
+is_fixed_leaf (leaf_is.Itself s) = true
+is_fixed_leaf (leaf_is.Current s) = true
+is_fixed_leaf _ = false
+
+abbrev pub is_call : ManyOp → Bool
+is_call many_is.Tuple = false
+is_call many_is.Vector = false
+is_call many_is.Set = false
+is_call many_is.Map = false
+is_call _ = true
+
+abbrev pub is_fixed : Expr → Bool
+is_fixed (leaf h) = is_fixed_leaf h.op
+is_fixed (many h es) = is_call h.op
+is_fixed _ = false
+
+-- Whether an expression may be changed. Where it breaks a rule, so that its type is unknown, nothing is asked but its form.
 abbrev pub may_change : Known → Expr → Bool
-may_change k (leaf h) = changes_leaf k h.op
-may_change k (one h a) = changes_one h.op
-may_change k (two h a b) = is_element h.op (type_of a) && may_change k a
-may_change k (three h a b c) = false
-may_change k (many h es) = false
+may_change k e = is_place k e || (not (is_known (type_of e)) && not (is_fixed e))
+
+-- whether an element of what an expression is may be changed
+abbrev pub may_change_in : Known → Expr → Bool
+may_change_in k e = is_place k e || not (is_known (type_of e))
 
 -- `offset`, `input`, `set_input` and `backtrack` are called on `self` alone
 abbrev pub is_of_self : UnitMethod → Bool
@@ -255,15 +279,15 @@ abbrev pub is_itself : Expr → Bool
 is_itself (leaf h) = itself_leaf h.op
 is_itself _ = false
 
--- what a method asks of its receiver
+-- What a method asks of its receiver. Only what has a known type has methods.
 abbrev pub receiver_tests : Known → ℕ → ManyOp → Expr → List (Bool × Fault)
-receiver_tests k m (many_is.Method method slot) e = (changes method && not (may_change k e), at m rule_is.NotAssignable (span_of e)) ∷ []
+receiver_tests k m (many_is.Method method slot) e = (changes method && not (is_place k e), at m rule_is.NotAssignable (span_of e)) ∷ []
 receiver_tests k m (many_is.OfUnit method name) e = (is_of_self method && not (is_itself e), at m rule_is.SelfOutside name) ∷ []
 receiver_tests k m _ e = []
 
 abbrev pub method_tests : Known → ℕ → ManyOp → Span → Exprs → List (Bool × Fault)
 method_tests k m op span none = []
-method_tests k m op span (more e es) = value_tests m e ++ (receiver_tests k m op e ++ call_tests k m op span (seen e) es)
+method_tests k m op span (more e es) = object_tests m e ++ (receiver_tests k m op e ++ call_tests k m op span (seen e) es)
 
 -- what can't be called, and the arguments behind it
 abbrev pub uncalled_tests : ℕ → Exprs → List (Bool × Fault)

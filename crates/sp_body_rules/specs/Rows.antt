@@ -36,6 +36,7 @@ use Rattle.sp_typed.specs.Stmts.{Stmt, bare, valued, assign, print, block, branc
 use Rattle.sp_body_rules.specs.declared.facts.Constancy.{Constancy}
 use Rattle.sp_body_rules.specs.declared.facts.Constancy.TheVariants as constancy_is
 use Rattle.sp_body_rules.specs.Known.{Known}
+use Rattle.sp_body_rules.specs.Values.{arrow_tests}
 use Rattle.sp_body_rules.specs.ExprTests.{expr_tests}
 use Rattle.sp_body_rules.specs.StmtTests.{stmt_tests}
 use Rattle.sp_body_rules.specs.Sweeps.{end_tests}
@@ -429,8 +430,38 @@ convert_of_none = refl
 convert_of_two : at_node (many_at 1 uint8 (many_is.Convert 4) (local 2 uint8 ∷ local 3 uint8 ∷ [])) ≡ ((rule_is.WrongArguments, 1) ∷ [])
 convert_of_two = refl
 
-convert_of_a_sink : at_node (many_at 1 uint8 (many_is.Convert 4) (local 2 sink ∷ [])) ≡ ((rule_is.WrongArguments, 1) ∷ [])
+convert_of_a_sink : at_node (many_at 1 uint8 (many_is.Convert 4) (local 2 sink ∷ [])) ≡ ((rule_is.WrongArguments, 1) ∷ (rule_is.TypeMismatch, 2) ∷ [])
 convert_of_a_sink = refl
+
+-- a sink is no value: in a tuple, as either value of `c ? a : b`, as an element, as an operand, alone; as an argument it is of a wrong
+-- type, too
+sink_in_a_tuple : at_node (many_at 1 nothing many_is.Tuple (local 2 sink ∷ number 3 uint64 1 ∷ [])) ≡ ((rule_is.TypeMismatch, 2) ∷ [])
+sink_in_a_tuple = refl
+
+choice_of_sinks : at_node (three (record { span = on 1; ty = sink }) (local 1 truth) (local 2 sink) (local 3 sink)) ≡ ((rule_is.TypeMismatch, 2) ∷ (rule_is.TypeMismatch, 3) ∷ [])
+choice_of_sinks = refl
+
+sink_in_a_map : at_node (many_at 1 nothing many_is.Map (local 2 text ∷ local 3 sink ∷ [])) ≡ ((rule_is.TypeMismatch, 3) ∷ [])
+sink_in_a_map = refl
+
+call_of_a_sink : at_node (many_at 1 uint8 (many_is.Call 0) (local 2 sink ∷ [])) ≡ ((rule_is.WrongArguments, 1) ∷ (rule_is.TypeMismatch, 2) ∷ [])
+call_of_a_sink = refl
+
+-- it stands before a dot, and by itself behind the arrow of a field
+no_member_of_a_sink : at_node (one_at 1 nothing (one_is.NoMember (on 3)) (local 1 sink)) ≡ ((rule_is.UnknownMember, 3) ∷ [])
+no_member_of_a_sink = refl
+
+abbrev behind_arrow : Expr → List (Rule × ℕ)
+behind_arrow e = map told (broken (arrow_tests 0 e))
+
+sink_behind_arrow : behind_arrow (local 1 sink) ≡ []
+sink_behind_arrow = refl
+
+bytes_behind_arrow : behind_arrow (local 1 bytes) ≡ ((rule_is.TypeMismatch, 1) ∷ [])
+bytes_behind_arrow = refl
+
+nothing_behind_arrow : behind_arrow (many_at 1 (word word_is.Void) (many_is.Call 0) []) ≡ ((rule_is.TypeMismatch, 1) ∷ (rule_is.TypeMismatch, 1) ∷ [])
+nothing_behind_arrow = refl
 
 -- a unit is started by `connect` alone, which takes nothing else
 abbrev started : Expr
@@ -534,6 +565,58 @@ assign_to_element = refl
 assign_to_field : at_stmt None (set_to assign_is.Set (one_at 1 uint8 (one_is.Field 0) (leaf_at 1 some_unit (leaf_is.Parameter 0 stands.Meant))) (number 2 uint8 1)) ≡ []
 assign_to_field = refl
 
+-- a sink can't be changed, and `+=` takes none
+assign_to_sink : at_stmt None (set_to assign_is.Set (one_at 1 sink (one_is.SinkOf 0) (local 1 some_unit)) (number 2 uint8 1)) ≡ ((rule_is.NotAssignable, 1) ∷ (rule_is.NotAssignable, 2) ∷ [])
+assign_to_sink = refl
+
+append_to_sink : at_stmt None (set_to assign_is.Add (one_at 1 sink (one_is.SinkOf 0) (local 1 some_unit)) (number 2 uint8 1)) ≡ ((rule_is.TypeMismatch, 1) ∷ (rule_is.NotAssignable, 1) ∷ (rule_is.NotAssignable, 2) ∷ [])
+append_to_sink = refl
+
+-- What has no type since it breaks a rule may be changed: a constant, a parameter, the variable of a `for`, a member that isn't there,
+-- an element of such, a member past a tuple, and what an operator gives.
+abbrev assigned : Expr → List (Rule × ℕ)
+assigned e = at_stmt None (set_to assign_is.Set e (number 9 uint64 1))
+
+unknown_constant : assigned (leaf_at 1 nothing (leaf_is.Constant 0)) ≡ []
+unknown_constant = refl
+
+unknown_parameter : assigned (leaf_at 1 nothing (leaf_is.Parameter 0 stands.Meant)) ≡ []
+unknown_parameter = refl
+
+unknown_loop_variable : assigned (leaf_at 1 nothing (leaf_is.Local 7)) ≡ []
+unknown_loop_variable = refl
+
+unknown_name : assigned (leaf_at 1 nothing (leaf_is.Nothing (on 1))) ≡ []
+unknown_name = refl
+
+unknown_member : assigned (one_at 1 nothing (one_is.NoMember (on 2)) (leaf_at 1 some_unit (leaf_is.Parameter 0 stands.Meant))) ≡ []
+unknown_member = refl
+
+element_of_itself : assigned (two_at 1 nothing two_is.Index (leaf_at 1 nothing (leaf_is.Itself stands.Unmeant)) (number 2 uint64 0)) ≡ []
+element_of_itself = refl
+
+element_of_element : assigned (two_at 1 nothing two_is.Index (two_at 1 nothing two_is.Index (leaf_at 1 nothing (leaf_is.Current stands.Meant)) (number 2 uint64 0)) (number 3 uint64 0)) ≡ []
+element_of_element = refl
+
+element_past_tuple : assigned (two_at 1 nothing two_is.Index (local 1 pair) (number 2 uint64 2)) ≡ []
+element_past_tuple = refl
+
+unknown_sum : assigned (two_at 1 nothing (two_is.Binary op_is.Add) (number 1 uint64 1) (local 2 text)) ≡ []
+unknown_sum = refl
+
+-- `self`, `$$` and calls of no known type can't, and neither can `x?.f`, which is a truth
+unknown_itself : assigned (leaf_at 1 nothing (leaf_is.Itself stands.Unmeant)) ≡ ((rule_is.NotAssignable, 1) ∷ [])
+unknown_itself = refl
+
+unknown_current : assigned (leaf_at 1 nothing (leaf_is.Current stands.Unmeant)) ≡ ((rule_is.NotAssignable, 1) ∷ [])
+unknown_current = refl
+
+unknown_call : assigned (many_at 1 nothing (many_is.Call 0) (local 2 uint8 ∷ [])) ≡ ((rule_is.NotAssignable, 1) ∷ [])
+unknown_call = refl
+
+set_member_as_target : assigned (one_at 1 truth (one_is.NoMember (on 2)) (local 1 nothing)) ≡ ((rule_is.NotAssignable, 1) ∷ (rule_is.NotAssignable, 9) ∷ [])
+set_member_as_target = refl
+
 append_to_bytes : at_stmt None (set_to assign_is.Add (local 1 bytes) (local 2 bytes)) ≡ []
 append_to_bytes = refl
 
@@ -553,6 +636,13 @@ entry = two_at 2 uint8 two_is.Index (local 2 table) (local 3 text)
 add_to_map : at_stmt None (valued_at 1 (valued_is.Add None) entry) ≡ ((rule_is.TypeMismatch, 2) ∷ [])
 add_to_map = refl
 
+add_to_constant : at_stmt None (valued_at 1 (valued_is.Add None) (two_at 2 nothing two_is.Index (leaf_at 2 set (leaf_is.Constant 0)) (local 3 uint16))) ≡ ((rule_is.NotAssignable, 2) ∷ [])
+add_to_constant = refl
+
+-- `add self[k]` where there is no `self`
+add_to_unknown : at_stmt None (valued_at 1 (valued_is.Add None) (two_at 2 nothing two_is.Index (leaf_at 2 nothing (leaf_is.Itself stands.Unmeant)) (local 3 uint16))) ≡ []
+add_to_unknown = refl
+
 delete_of_map : at_stmt None (valued_at 1 (valued_is.Delete None) entry) ≡ []
 delete_of_map = refl
 
@@ -562,6 +652,12 @@ add_of_no_key = refl
 -- prints, conditions, sequences and cases
 print_of_a_place : at_stmt None (print (on 1) (exprs (local 2 some_unit ∷ local 3 place ∷ []))) ≡ ((rule_is.TypeMismatch, 3) ∷ [])
 print_of_a_place = refl
+
+print_of_places : at_stmt None (print (on 1) (exprs (local 2 (made maker_is.Tuple (tys (uint8 ∷ place ∷ []))) ∷ local 3 sink ∷ []))) ≡ ((rule_is.TypeMismatch, 2) ∷ (rule_is.TypeMismatch, 3) ∷ [])
+print_of_places = refl
+
+local_of_a_sink : at_stmt None (valued_at 1 (valued_is.Local (record { slot = 0; name = on 1; ty = sink; written = None; taken = false })) (local 3 sink)) ≡ ((rule_is.TypeMismatch, 3) ∷ [])
+local_of_a_sink = refl
 
 while_a_number : at_stmt None (while_loop (number 1 uint64 1) (block (stmts []))) ≡ ((rule_is.TypeMismatch, 1) ∷ [])
 while_a_number = refl
@@ -580,6 +676,9 @@ call_alone = refl
 
 regex_alone : at_stmt None (valued_at 1 valued_is.Expr (leaf_at 1 (word word_is.Regex) (leaf_is.Constant 0))) ≡ ((rule_is.TypeMismatch, 1) ∷ [])
 regex_alone = refl
+
+sink_alone : at_stmt None (valued_at 1 valued_is.Expr (local 1 sink)) ≡ ((rule_is.TypeMismatch, 1) ∷ [])
+sink_alone = refl
 
 -- ends: a `return` in one branch alone is no end, and a loop is none
 abbrev returns : Stmt

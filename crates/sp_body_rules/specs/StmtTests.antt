@@ -7,7 +7,6 @@ use Rattle.sp_words.specs.declared.operators.AssignOp.{AssignOp}
 use Rattle.sp_words.specs.declared.operators.AssignOp.TheVariants as assign_is
 use Rattle.sp_types.specs.Types.{Ty, Tys, word, made}
 use Rattle.sp_types.specs.Types as types
-use Rattle.sp_types.specs.declared.words.Word.{Word}
 use Rattle.sp_types.specs.declared.words.Word.TheVariants as word_is
 use Rattle.sp_types.specs.declared.words.Maker.TheVariants as maker_is
 use Rattle.sp_typed.specs.declared.stmt_words.BareOp.{BareOp}
@@ -22,14 +21,11 @@ use Rattle.sp_typed.specs.Stmts.{Stmt, Branches, Cases, bare, valued, assign, pr
 use Rattle.sp_operands.specs.declared.operators.OperatorSort.TheVariants as sort_is
 use Rattle.sp_operands.specs.Operands.{is_integer, is_bytes, is_text, stands_before, agree}
 use Rattle.sp_operands.specs.Literals.{seen, is_past}
-use Rattle.sp_body_rules.specs.Values.{is_void, is_set, is_no_value, knows, value_span, wrong, right_tests, condition_tests, target_tests, written_tests}
+use Rattle.sp_body_rules.specs.Values.{is_void, is_set, is_no_value, is_no_object, knows, value_span, value_tests, wrong, right_tests, condition_tests, target_tests, written_tests}
 use Rattle.sp_rules.specs.Faults.{at}
 use Rattle.sp_body_rules.specs.Known.{Known}
-use Rattle.sp_body_rules.specs.ExprTests.{may_change}
+use Rattle.sp_body_rules.specs.ExprTests.{may_change, may_change_in}
 
-abbrev pub is_sink : Ty → Bool
-is_sink (word word_is.Sink) = true
-is_sink _ = false
 
 abbrev pub is_map : Ty → Bool
 is_map (made maker_is.Map ts) = true
@@ -40,9 +36,9 @@ abbrev pub bare_local_tests : ℕ → Span → Option Written → List (Bool × 
 bare_local_tests m name None = (true, at m rule_is.TypeMismatch name) ∷ []
 bare_local_tests m name (Some w) = written_tests m w
 
--- a local and its value, which goes to the type that is written; without one it can't be a sink
+-- a local and its value, which goes to the type that is written
 abbrev pub local_tests : ℕ → Ty → Option Written → Expr → List (Bool × Fault)
-local_tests m t None e = right_tests m (not (is_sink (type_of e))) e
+local_tests m t None e = value_tests m e
 local_tests m t (Some w) e = written_tests m w ++ target_tests m t e
 
 -- a word that stands where it means nothing
@@ -66,7 +62,7 @@ has_changed_keys deletes t = is_set t || (deletes && is_map t)
 
 abbrev pub key_change_tests : Known → ℕ → Bool → TwoOp → Span → Expr → List (Bool × Fault)
 key_change_tests k m deletes two_is.Index span a =
-    (knows a && not (has_changed_keys deletes (type_of a)), at m rule_is.TypeMismatch span) ∷ ((not (may_change k a), at m rule_is.NotAssignable span) ∷ [])
+    (knows a && not (has_changed_keys deletes (type_of a)), at m rule_is.TypeMismatch span) ∷ ((not (may_change_in k a), at m rule_is.NotAssignable span) ∷ [])
 key_change_tests k m deletes _ span a = (true, at m rule_is.TypeMismatch span) ∷ []
 
 abbrev pub change_tests : Known → ℕ → Bool → Expr → List (Bool × Fault)
@@ -93,23 +89,16 @@ takes_target assign_is.Set t = true
 takes_target assign_is.Add t = is_integer t || is_bytes t || is_text t
 takes_target assign_is.Subtract t = is_integer t
 
+-- A sink as a target is one that can't be changed.
 abbrev pub assign_tests : Known → ℕ → AssignOp → Expr → Expr → List (Bool × Fault)
 assign_tests k m op target value =
-    (is_no_value target, at m rule_is.TypeMismatch (value_span target)) ∷ (wrong m (takes_target op (type_of target)) target ∷ ((not (may_change k target), at m rule_is.NotAssignable (span_of target)) ∷ target_tests m (seen target) value))
+    (is_no_object target, at m rule_is.TypeMismatch (value_span target)) ∷ (wrong m (takes_target op (type_of target)) target ∷ ((not (may_change k target), at m rule_is.NotAssignable (span_of target)) ∷ target_tests m (seen target) value))
 
--- what can be printed: all but places of the input, sinks and what is no value, also inside others
-abbrev pub is_printable_word : Word → Bool
-is_printable_word word_is.Iterator = false
-is_printable_word word_is.Sink = false
-is_printable_word word_is.Regex = false
-is_printable_word word_is.Void = false
-is_printable_word word_is.New = false
-is_printable_word word_is.Decoder = false
-is_printable_word _ = true
-
+-- what can be printed: all values but places of the input, also inside others
 abbrev mutual
   pub is_printable : Ty → Bool
-  is_printable (word w) = is_printable_word w
+  is_printable (word word_is.Iterator) = false
+  is_printable (word _) = true
   is_printable (made maker ts) = are_printable ts
 
   pub are_printable : Tys → Bool

@@ -24,6 +24,10 @@ abbrev pub is_void : Ty → Bool
 is_void (word word_is.Void) = true
 is_void _ = false
 
+abbrev pub is_sink : Ty → Bool
+is_sink (word word_is.Sink) = true
+is_sink _ = false
+
 abbrev pub is_new : Ty → Bool
 is_new (word word_is.New) = true
 is_new _ = false
@@ -53,6 +57,11 @@ is_no_value (two h a b) = is_set_key h.op (type_of a) || is_valueless h.ty
 is_no_value (three h a b c) = is_valueless h.ty
 is_no_value (many h es) = is_valueless h.ty
 
+-- Whether an expression is neither a value nor a sink. A sink stands before the dot of its methods and by itself behind the arrow of a
+-- field; and it is of a type, so that it can be an argument of a wrong type, which what else has no value can't.
+abbrev pub is_no_object : Expr → Bool
+is_no_object e = is_no_value e && not (is_sink (type_of e))
+
 -- Whether the type of an expression is known. What breaks a rule has none, and so has a literal past its type; a number whose type
 -- is written before it has that type.
 abbrev pub knows : Expr → Bool
@@ -75,6 +84,10 @@ value_span (many h es) = h.span
 abbrev pub value_tests : ℕ → Expr → List (Bool × Fault)
 value_tests m e = (is_no_value e, at m rule_is.TypeMismatch (value_span e)) ∷ ((is_past e, at m rule_is.LiteralRange (span_of e)) ∷ [])
 
+-- an expression that stands as a value or a sink
+abbrev pub object_tests : ℕ → Expr → List (Bool × Fault)
+object_tests m e = (is_no_object e, at m rule_is.TypeMismatch (value_span e)) ∷ ((is_past e, at m rule_is.LiteralRange (span_of e)) ∷ [])
+
 -- a value whose type is known, and is not right
 abbrev pub wrong : ℕ → Bool → Expr → Bool × Fault
 wrong m right e = (knows e && not right, at m rule_is.TypeMismatch (value_span e))
@@ -82,6 +95,10 @@ wrong m right e = (knows e && not right, at m rule_is.TypeMismatch (value_span e
 -- a value of which something is asked
 abbrev pub right_tests : ℕ → Bool → Expr → List (Bool × Fault)
 right_tests m right e = value_tests m e ++ (wrong m right e ∷ [])
+
+-- what stands behind the arrow of a field: a sink by itself
+abbrev pub arrow_tests : ℕ → Expr → List (Bool × Fault)
+arrow_tests m e = object_tests m e ++ (wrong m (is_sink (type_of e)) e ∷ [])
 
 abbrev pub condition_tests : ℕ → Expr → List (Bool × Fault)
 condition_tests m e = right_tests m (is_boolean (type_of e)) e

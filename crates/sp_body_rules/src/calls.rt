@@ -4,13 +4,15 @@ ghost use Rattle.sp_rules.specs.Least.{better, checked};
 ghost use Rattle.sp_typed.specs.Exprs.{exprs};
 ghost use Rattle.sp_body_rules.specs.Known.{Known};
 ghost use Rattle.sp_rules.specs.Faults.{at};
-ghost use Rattle.sp_body_rules.specs.ExprTests.{argument_goes, argument_fits, arguments_fit, connects, argument_tests, call_tests, is_convertible, converts, convert_tests, changes_leaf, changes_one, is_element, is_tuple, may_change, is_of_self, itself_leaf, is_itself, receiver_tests, method_tests, uncalled_tests};
+ghost use Rattle.sp_body_rules.specs.ExprTests.{argument_goes, argument_fits, arguments_fit, connects, argument_tests, call_tests, is_convertible, converts, convert_tests, changes_leaf, changes_one, is_element, is_tuple, is_place, is_fixed_leaf, is_call, is_fixed, may_change, may_change_in, is_of_self, itself_leaf, is_itself, receiver_tests, method_tests, uncalled_tests};
 
 use crate::facts::Facts;
 use crate::rows::note_values;
-use crate::values::{is_new, is_no_value, knows, note_value, value_span};
+use crate::values::{
+    is_new, is_no_object, is_no_value, knows, note_object, note_value, value_span,
+};
 use sp_base::{NoMemory, Span};
-use sp_operands::{is_integer, is_past, is_valueless, seen};
+use sp_operands::{is_integer, is_past, seen};
 use sp_rules::{Fault, Rule, note_at};
 use sp_typed::{Expr, ExprLevel, LeafOp, ManyOp, OneOp, SinkMethod, TwoOp, UnitMethod};
 use sp_types::{Level, Maker, Type};
@@ -18,7 +20,7 @@ use sp_types::{Level, Maker, Type};
 fn argument_goes(to: &Type, e: &Expr) -> bool
     ensures { result ≡ argument_goes to.now e.now }
 {
-    !is_past(e) && (is_valueless(e.ty()) || e.ty().goes(to))
+    !is_past(e) && (is_no_object(e) || e.ty().goes(to))
 }
 
 fn argument_fits(to: Option<Type>, e: &Expr) -> bool
@@ -72,7 +74,7 @@ fn note_arguments(owner: u32, starts: bool, arguments: &[Expr], least: &mut Opti
 fn is_convertible(e: &Expr) -> bool
     ensures { result ≡ is_convertible e.now }
 {
-    !is_past(e) && (!e.ty().is_known() || is_valueless(e.ty()) || is_integer(e.ty()))
+    !is_past(e) && (!e.ty().is_known() || is_no_object(e) || is_integer(e.ty()))
 }
 
 /// Whether these are one such expression.
@@ -124,7 +126,6 @@ fn changes_leaf<F: Facts>(facts: &F, op: &LeafOp) -> bool
 {
     match op {
         LeafOp::Local(slot) => !facts.fixed(*slot),
-        LeafOp::Nothing(_) => true,
         _ => false,
     }
 }
@@ -132,10 +133,7 @@ fn changes_leaf<F: Facts>(facts: &F, op: &LeafOp) -> bool
 fn changes_one(op: &OneOp) -> bool
     ensures { result ≡ changes_one op.now }
 {
-    matches!(
-        op,
-        OneOp::Field(_) | OneOp::Variable(_) | OneOp::NoMember(_)
-    )
+    matches!(op, OneOp::Field(_) | OneOp::Variable(_))
 }
 
 fn is_tuple(t: &Type) -> bool
@@ -153,16 +151,55 @@ fn is_element(op: &TwoOp, t: &Type) -> bool
     }
 }
 
-/// Whether what an expression names may be changed.
-pub(crate) fn may_change<F: Facts>(facts: &F, e: &Expr) -> bool
-    ensures { result ≡ may_change (F.known facts.now) e.now }
+/// Whether an expression names a place whose value can be changed.
+fn is_place<F: Facts>(facts: &F, e: &Expr) -> bool
+    ensures { result ≡ is_place (F.known facts.now) e.now }
 {
     match e.level() {
         ExprLevel::Leaf(head) => changes_leaf(facts, &head.op),
         ExprLevel::One(head, _) => changes_one(&head.op),
-        ExprLevel::Two(head, a, _) => is_element(&head.op, a.ty()) && may_change(facts, a),
+        ExprLevel::Two(head, a, _) => is_element(&head.op, a.ty()) && is_place(facts, a),
         ExprLevel::Three(..) | ExprLevel::Many(..) => false,
     }
+}
+
+fn is_fixed_leaf(op: &LeafOp) -> bool
+    ensures { result ≡ is_fixed_leaf op.now }
+{
+    matches!(op, LeafOp::Itself(_) | LeafOp::Current(_))
+}
+
+fn is_call(op: &ManyOp) -> bool
+    ensures { result ≡ is_call op.now }
+{
+    !matches!(
+        op,
+        ManyOp::Tuple | ManyOp::Vector | ManyOp::Set | ManyOp::Map
+    )
+}
+
+fn is_fixed(e: &Expr) -> bool
+    ensures { result ≡ is_fixed e.now }
+{
+    match e.level() {
+        ExprLevel::Leaf(head) => is_fixed_leaf(&head.op),
+        ExprLevel::Many(head, _) => is_call(&head.op),
+        ExprLevel::One(..) | ExprLevel::Two(..) | ExprLevel::Three(..) => false,
+    }
+}
+
+/// Whether an expression may be changed.
+pub(crate) fn may_change<F: Facts>(facts: &F, e: &Expr) -> bool
+    ensures { result ≡ may_change (F.known facts.now) e.now }
+{
+    is_place(facts, e) || (!e.ty().is_known() && !is_fixed(e))
+}
+
+/// Whether an element of what an expression is may be changed.
+pub(crate) fn may_change_in<F: Facts>(facts: &F, e: &Expr) -> bool
+    ensures { result ≡ may_change_in (F.known facts.now) e.now }
+{
+    is_place(facts, e) || !e.ty().is_known()
 }
 
 fn is_of_self(method: UnitMethod) -> bool
@@ -189,7 +226,7 @@ fn note_receiver<F: Facts>(facts: &F, owner: u32, op: &ManyOp, e: &Expr, least: 
 {
     match op {
         ManyOp::Method(method, _) => {
-            let fixed = method.changes() && !may_change(facts, e);
+            let fixed = method.changes() && !is_place(facts, e);
             note_at(fixed, owner, Rule::NotAssignable, e.span(), least);
         }
         ManyOp::OfUnit(method, name) => {
@@ -216,7 +253,7 @@ pub(crate) fn note_method<F: Facts>(
     match parts.split_first() {
         Some((e, arguments)) => {
             let receiver = seen(e)?;
-            note_value(owner, e, least);
+            note_object(owner, e, least);
             note_receiver(facts, owner, op, e, least);
             let noted = note_call(facts, owner, op, span, &receiver, arguments, least);
             drop(receiver);

@@ -21,9 +21,9 @@ pub use facts::{Constancy, Facts};
 pub use laws::least_of_broken;
 pub use nodes::is_not_constant;
 pub use rows::unlike;
-pub use stmts::{is_sink, note_case};
+pub use stmts::note_case;
 pub use sweep::note_expr;
 pub use values::{
-    is_regex, note_condition, note_right, note_target, note_value, note_written, value_goes,
-    value_span,
+    is_regex, note_arrow, note_condition, note_right, note_target, note_value, note_written,
+    value_goes, value_span,
 };

@@ -12,7 +12,8 @@ use crate::calls::{note_call, note_convert, note_method, note_uncalled};
 use crate::facts::{Constancy, Facts};
 use crate::rows::{note_map, note_row, note_values, unlike};
 use crate::values::{
-    knows, note_condition, note_right, note_value, note_written, note_wrong, value_goes, value_span,
+    knows, note_condition, note_object, note_right, note_value, note_written, note_wrong,
+    value_goes, value_span,
 };
 use sp_base::{NoMemory, Span};
 use sp_operands::{
@@ -76,7 +77,7 @@ fn note_cast(owner: u32, to: &Type, written: &Written, e: &Expr, least: &mut Opt
 fn note_no_member(owner: u32, name: Span, e: &Expr, least: &mut Option<Fault>)
     ensures { least.new ≡ checked least.old (no_member_tests owner name e.now) }
 {
-    note_value(owner, e, least);
+    note_object(owner, e, least);
     note_at(knows(e), owner, Rule::UnknownMember, name, least);
 }
 

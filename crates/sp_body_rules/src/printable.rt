@@ -1,20 +1,9 @@
 // What can be printed.
 ghost use Rattle.std.specs.Prelude.{◌≡◌};
 ghost use Rattle.sp_types.specs.Types.{tys};
-ghost use Rattle.sp_body_rules.specs.StmtTests.{is_printable_word, is_printable, are_printable};
+ghost use Rattle.sp_body_rules.specs.StmtTests.{is_printable, are_printable};
 
 use sp_types::{Level, Type, Word};
-
-fn is_printable_word(word: Word) -> bool
-    ensures { result ≡ is_printable_word word }
-{
-    match word {
-        Word::Iterator | Word::Sink | Word::Regex | Word::Void | Word::New | Word::Decoder => {
-            false
-        }
-        _ => true,
-    }
-}
 
 #[cycle(printable)]
 fn are_printable(parts: &[Type]) -> bool
@@ -34,7 +23,7 @@ pub(crate) fn is_printable(t: &Type) -> bool
     ensures { result ≡ is_printable t.now }
 {
     match t.level() {
-        Level::Word(word) => is_printable_word(word),
+        Level::Word(word) => !matches!(word, Word::Iterator),
         Level::Made(_, parts) => are_printable(parts),
     }
 }

@@ -10,15 +10,15 @@ ghost use Rattle.sp_operands.specs.declared.operators.OperatorSort.TheVariants a
 ghost use Rattle.sp_body_rules.specs.Known.{Known};
 ghost use Rattle.sp_body_rules.specs.Values.{right_tests};
 ghost use Rattle.sp_rules.specs.Faults.{at};
-ghost use Rattle.sp_body_rules.specs.StmtTests.{is_sink, is_map, bare_local_tests, local_tests, bare_op_tests, return_tests, has_changed_keys, key_change_tests, change_tests, alone_tests, valued_op_tests, takes_target, assign_tests, print_tests, branches_tests, is_sequence, differs, case_tests, cases_tests, stmt_tests};
+ghost use Rattle.sp_body_rules.specs.StmtTests.{is_map, bare_local_tests, local_tests, bare_op_tests, return_tests, has_changed_keys, key_change_tests, change_tests, alone_tests, valued_op_tests, takes_target, assign_tests, print_tests, branches_tests, is_sequence, differs, case_tests, cases_tests, stmt_tests};
 ghost use Rattle.sp_typed.specs.StmtViews.{stmt_of};
 
-use crate::calls::may_change;
+use crate::calls::{may_change, may_change_in};
 use crate::facts::Facts;
 use crate::printable::is_printable;
 use crate::values::{
-    is_no_value, is_set, is_void, knows, note_condition, note_right, note_target, note_written,
-    note_wrong, value_span,
+    is_no_object, is_no_value, is_set, is_void, knows, note_condition, note_right, note_target,
+    note_value, note_written, note_wrong, value_span,
 };
 use sp_base::{NoMemory, Span};
 use sp_operands::{OperatorSort, is_bytes, is_integer, is_past, is_text, seen};
@@ -26,13 +26,6 @@ use sp_rules::{Fault, Rule, note_at};
 use sp_typed::{BareOp, Expr, ExprLevel, Local, Stmt, StmtNode, TwoOp, ValuedOp, Written};
 use sp_types::{Level, Maker, Type, Word};
 use sp_words::AssignOp;
-
-/// Whether a type is that of a sink.
-pub fn is_sink(t: &Type) -> bool
-    ensures { result ≡ is_sink t.now }
-{
-    matches!(t.level(), Level::Word(Word::Sink))
-}
 
 fn is_map(t: &Type) -> bool
     ensures { result ≡ is_map t.now }
@@ -60,7 +53,7 @@ fn note_local(
     ensures { least.new ≡ checked least.old (local_tests owner ty.now written.now value.now) }
 {
     match written {
-        None => note_right(!is_sink(value.ty()), owner, value, least),
+        None => note_value(owner, value, least),
         Some(written) => {
             note_written(owner, written, least);
             note_target(owner, ty, value, least);
@@ -128,7 +121,7 @@ fn note_key_change<F: Facts>(
             let wrong = knows(a) && !has_changed_keys(deletes, a.ty());
             note_at(wrong, owner, Rule::TypeMismatch, span, least);
             note_at(
-                !may_change(facts, a),
+                !may_change_in(facts, a),
                 owner,
                 Rule::NotAssignable,
                 span,
@@ -203,7 +196,7 @@ fn note_assign<F: Facts>(
 {
     let to = seen(target)?;
     note_at(
-        is_no_value(target),
+        is_no_object(target),
         owner,
         Rule::TypeMismatch,
         value_span(target),

@@ -1,7 +1,7 @@
 // What is no value, what type is asked of an expression, and whether a value goes to a target.
 ghost use Rattle.std.specs.Prelude.{◌≡◌, if◌then◌else◌};
 ghost use Rattle.sp_rules.specs.Least.{better, checked};
-ghost use Rattle.sp_body_rules.specs.Values.{is_regex, is_void, is_new, is_set, names_no_value, is_set_key, is_no_value, knows, value_goes, value_span, value_tests, wrong, right_tests, condition_tests, target_tests, written_tests};
+ghost use Rattle.sp_body_rules.specs.Values.{is_regex, is_void, is_sink, is_new, is_set, names_no_value, is_set_key, is_no_value, is_no_object, knows, value_goes, value_span, value_tests, object_tests, wrong, right_tests, arrow_tests, condition_tests, target_tests, written_tests};
 ghost use Rattle.sp_operands.specs.Literals.{is_past};
 ghost use Rattle.sp_operands.specs.Operands.{is_valueless};
 
@@ -23,6 +23,13 @@ pub(crate) fn is_void(t: &Type) -> bool
     ensures { result ≡ is_void t.now }
 {
     matches!(t.level(), Level::Word(Word::Void))
+}
+
+/// Whether a type is that of a sink.
+fn is_sink(t: &Type) -> bool
+    ensures { result ≡ is_sink t.now }
+{
+    matches!(t.level(), Level::Word(Word::Sink))
 }
 
 pub(crate) fn is_new(t: &Type) -> bool
@@ -66,6 +73,13 @@ pub(crate) fn is_no_value(e: &Expr) -> bool
         ExprLevel::Three(head, ..) => is_valueless(&head.ty),
         ExprLevel::Many(head, _) => is_valueless(&head.ty),
     }
+}
+
+/// Whether an expression is neither a value nor a sink.
+pub(crate) fn is_no_object(e: &Expr) -> bool
+    ensures { result ≡ is_no_object e.now }
+{
+    is_no_value(e) && !is_sink(e.ty())
 }
 
 /// Whether the type of an expression is known.
@@ -112,6 +126,20 @@ pub fn note_value(owner: u32, e: &Expr, least: &mut Option<Fault>)
     note_at(is_past(e), owner, Rule::LiteralRange, e.span(), least);
 }
 
+/// Notes what is wrong with an expression that stands as a value or a sink.
+pub(crate) fn note_object(owner: u32, e: &Expr, least: &mut Option<Fault>)
+    ensures { least.new ≡ checked least.old (object_tests owner e.now) }
+{
+    note_at(
+        is_no_object(e),
+        owner,
+        Rule::TypeMismatch,
+        value_span(e),
+        least,
+    );
+    note_at(is_past(e), owner, Rule::LiteralRange, e.span(), least);
+}
+
 /// Notes a value whose type is known, and is not right.
 pub(crate) fn note_wrong(right: bool, owner: u32, e: &Expr, least: &mut Option<Fault>)
     ensures { least.new
@@ -133,6 +161,14 @@ pub fn note_right(right: bool, owner: u32, e: &Expr, least: &mut Option<Fault>)
 {
     note_value(owner, e, least);
     note_wrong(right, owner, e, least);
+}
+
+/// Notes what is wrong with what stands behind the arrow of a field.
+pub fn note_arrow(owner: u32, e: &Expr, least: &mut Option<Fault>)
+    ensures { least.new ≡ checked least.old (arrow_tests owner e.now) }
+{
+    note_object(owner, e, least);
+    note_wrong(is_sink(e.ty()), owner, e, least);
 }
 
 /// Notes what is wrong with a condition.

@@ -35,7 +35,7 @@ use Rattle.sp_names.specs.Declarations.{sort_at, number_at, library_enums}
 use Rattle.sp_names.specs.Names.{path_means}
 use Rattle.sp_names.specs.Types.{one_or_none}
 use Rattle.sp_method_types.specs.Methods.{left_out_of, base_ten, utf8, replace}
-use Rattle.sp_around.specs.Arounds.{word_leaf, type_leaf, declared_at, meaning_at, path_at}
+use Rattle.sp_around.specs.Arounds.{word_leaf, type_leaf, declared_at, meaning_at, slice_of, path_at}
 use Rattle.sp_constants.specs.declared.outcome.Outcome.TheVariants.{Value}
 use Rattle.sp_constants.specs.Known.{Known}
 use Rattle.sp_constants.specs.Outcomes.{used}
@@ -133,7 +133,7 @@ module _ (list : List Tree) (f : ℕ → Option Ty) (before after : ℕ → Opti
 
   path_same : (m : ℕ) (span : Span) (path : Tree) → Same (needs_in list f m path)
       → (path_at list f types_before m span path ≡ path_at list f types_after m span path) × Holds Agree (path_at list f types_before m span path)
-  path_same m span (node form_is.Path at ts) s = meaning_same span (node form_is.Path at ts) (path_means list f m (node form_is.Path at ts)) s
+  path_same m span (node form_is.Path at ts) s = meaning_same (slice_of list span (node form_is.Path at ts) (path_means list f m (node form_is.Path at ts))) (node form_is.Path at ts) (path_means list f m (node form_is.Path at ts)) s
   path_same m span _ s = (refl, tt)
 
   module _ (m : ℕ) where

@@ -87,23 +87,20 @@ module _ (Is : LeafOp → Type 0) where
       (taken_holds (seen b) a h, taken_holds (seen a) b k)
 
   -- rows
-  maybe_taken_holds : (t : Option Ty) (e : Expr) → Holds e → Holds (typing.maybe_taken t e)
-  maybe_taken_holds None e h = h
-  maybe_taken_holds (Some t) e h = taken_holds t e h
 
-  all_taken_holds : (t : Option Ty) (es : List Expr) → HoldsOf es → HoldsOf (map (typing.maybe_taken t) es)
+  all_taken_holds : (t : Ty) (es : List Expr) → HoldsOf es → HoldsOf (map (taken t) es)
   all_taken_holds t [] h = tt
-  all_taken_holds t (e ∷ es) h = (maybe_taken_holds t e h.0, all_taken_holds t es h.1)
+  all_taken_holds t (e ∷ es) h = (taken_holds t e h.0, all_taken_holds t es h.1)
 
   pub led_holds : (es : List Expr) → HoldsOf es → HoldsOf (typing.led es)
-  led_holds es h = all_taken_holds (typing.lead es) es h
+  led_holds es h = all_taken_holds (typing.leading es) es h
 
-  in_turn_holds : (k v : Option Ty) (ps : List (Expr × Expr)) → HoldsIn ps → HoldsOf (typing.in_turn k v ps)
+  in_turn_holds : (k v : Ty) (ps : List (Expr × Expr)) → HoldsIn ps → HoldsOf (typing.in_turn k v ps)
   in_turn_holds k v [] h = tt
-  in_turn_holds k v (p ∷ ps) h = (maybe_taken_holds k p.0 h.0.0, (maybe_taken_holds v p.1 h.0.1, in_turn_holds k v ps h.1))
+  in_turn_holds k v (p ∷ ps) h = (taken_holds k p.0 h.0.0, (taken_holds v p.1 h.0.1, in_turn_holds k v ps h.1))
 
   pub map_holds : (span : Span) (ps : List (Expr × Expr)) → HoldsIn ps → Holds (typing.map_at span ps)
-  map_holds span ps h = in_turn_holds (typing.lead_half false ps) (typing.lead_half true ps) ps h
+  map_holds span ps h = in_turn_holds (typing.leading_half false ps) (typing.leading_half true ps) ps h
 
   -- operators
   pub binary_holds : (span : Span) (op : BinaryOp) (a b : Expr) → Holds a → Holds b → Holds (typing.binary_at span op a b)

@@ -28,10 +28,10 @@ use Rattle.sp_typing_units.specs.declared.roles.Role.{Role}
 use Rattle.sp_typing_units.specs.declared.roles.Role.TheVariants as role_is
 use Rattle.sp_typing_units.specs.Roles.{role_of}
 use Rattle.sp_body_rules.specs.Known.{Known}
-use Rattle.sp_body_rules.specs.Values.{value_goes, value_span, value_tests, right_tests, condition_tests, written_tests}
+use Rattle.sp_body_rules.specs.Values.{value_goes, value_span, value_tests, right_tests, arrow_tests, condition_tests, written_tests}
 use Rattle.sp_rules.specs.Faults.{at}
 use Rattle.sp_body_rules.specs.ExprTests.{call_tests}
-use Rattle.sp_body_rules.specs.StmtTests.{is_sink, case_tests}
+use Rattle.sp_body_rules.specs.StmtTests.{case_tests}
 use Rattle.sp_list_rules.specs.Lists.{all_tests, option_tests}
 use Rattle.sp_list_rules.specs.Bodies.{inside_tests, constant_tests, is_enum_of}
 use Rattle.sp_typing_units.specs.Kinds.{kind_of}
@@ -134,7 +134,7 @@ abbrev pub is_bytes_field : Field → Bool
 is_bytes_field f = reads_bytes f.spec && (not (is_known f.ty) || is_bytes f.ty)
 
 abbrev pub sink_tests : Known → ℕ → Bool → Expr → List (Bool × Fault)
-sink_tests k m takes e = (not takes, at m rule_is.TypeMismatch (span_of e)) ∷ asked_tests k m (is_sink (type_of e)) e
+sink_tests k m takes e = (not takes, at m rule_is.TypeMismatch (span_of e)) ∷ (arrow_tests m e ++ inside_tests k m e)
 
 -- A field.
 abbrev pub field_tests : Known → ℕ → Field → List (Bool × Fault)

@@ -4,14 +4,14 @@ ghost use Rattle.sp_rules.specs.Least.{checked};
 ghost use Rattle.sp_typed_units.specs.Parts.{parts, arms};
 ghost use Rattle.sp_list_rules.specs.Lists.{all_tests, option_tests};
 ghost use Rattle.sp_list_rules.specs.Bodies.{inside_tests};
-ghost use Rattle.sp_body_rules.specs.Values.{value_tests};
+ghost use Rattle.sp_body_rules.specs.Values.{value_tests, arrow_tests};
 ghost use Rattle.sp_list_rules.specs.Fields.{truth_tests, is_bytes_op, reads_bytes, is_bytes_field, sink_tests, field_tests, compared_tests, subject_tests, arm_tests, part_tests, parts_tests, arms_tests};
 
 use crate::attributes::{note_asked, note_attributes, note_truth};
 use crate::inside::note_inside;
 use crate::readings::note_spec;
 use sp_base::NoMemory;
-use sp_body_rules::{Facts, is_sink, note_case, note_value};
+use sp_body_rules::{Facts, note_arrow, note_case, note_value};
 use sp_operands::{OperatorSort, is_bytes};
 use sp_rules::{Fault, Rule, note_at};
 use sp_typed::Expr;
@@ -58,6 +58,7 @@ fn note_field_condition<F: Facts>(
     }
 }
 
+#[tactic(auto, using(crate::proofs::Checked::checked_more))]
 fn note_sink<F: Facts>(
     alloc: Global,
     facts: &F,
@@ -72,7 +73,8 @@ fn note_sink<F: Facts>(
     match sink {
         Some(e) => {
             note_at(!takes, owner, Rule::TypeMismatch, e.span(), least);
-            note_asked(alloc, facts, owner, is_sink(e.ty()), e, least)
+            note_arrow(owner, e, least);
+            note_inside(alloc, facts, owner, e, least)
         }
         None => Ok(()),
     }

@@ -16,10 +16,11 @@ unknown = word word_is.Unknown
 abbrev pub boolean : Ty
 boolean = word word_is.Bool
 
--- Types of what is no value: what a function without a result gives, a regular expression, and what a `connect` starts.
+-- Types of what is no value: what a function without a result gives, a regular expression, a sink, and what a `connect` starts.
 abbrev pub is_valueless : Ty → Bool
 is_valueless (word word_is.Void) = true
 is_valueless (word word_is.Regex) = true
+is_valueless (word word_is.Sink) = true
 is_valueless (word word_is.New) = true
 is_valueless _ = false
 

@@ -1,17 +1,25 @@
--- What makes a row whole, and of what type it is then. A row that is not whole has no type: what is wrong with its elements is
--- refused where these stand, and nothing is asked of the row.
+-- What makes a row and a tuple whole, and of what type they are then. What is not whole has no type: what is wrong with its parts
+-- is refused where these stand, and nothing is asked of the row or the tuple.
 use Rattle.std.specs.Prelude.{Bool, true, false, not, ◌&&◌, ◌||◌, if◌then◌else◌, List, [], ◌∷◌}
 use Rattle.sp_types.specs.declared.words.Maker.{Maker}
 use Rattle.sp_types.specs.declared.words.Maker.TheVariants as maker_is
-use Rattle.sp_types.specs.Types.{Ty, made, none, more, same, is_known, is_key}
+use Rattle.sp_types.specs.Types.{Ty, made, none, more, tys, same, is_known, is_key}
 use Rattle.sp_typed.specs.Exprs.{Expr, type_of}
 use Rattle.sp_operands.specs.Operands.{unknown, is_valueless}
 use Rattle.sp_operands.specs.Literals.{is_past, seen}
 
--- Types that elements may have: nothing in them is unknown, and they are types of values; in sets, and before the colons of
+-- Types that parts may have: nothing in them is unknown, and they are types of values; in sets, and before the colons of
 -- maps, they are types of keys.
 abbrev pub may_hold : Bool → Ty → Bool
 may_hold keyed t = is_known t && (not (is_valueless t) && (not keyed || is_key t))
+
+-- A tuple is whole where each of its parts has such a type.
+abbrev pub are_parts : List Ty → Bool
+are_parts [] = true
+are_parts (t ∷ ts) = may_hold false t && are_parts ts
+
+abbrev pub tuple_type : List Ty → Ty
+tuple_type ts = if are_parts ts then made maker_is.Tuple (tys ts) else unknown
 
 -- whether an element has a type, and is no literal past it
 abbrev pub is_of : Ty → Expr → Bool

@@ -1,4 +1,4 @@
-//! What operators take and give, what type literals take, and which rows of expressions are whole and of what type.
+//! What operators take and give, what type literals take, and which rows and tuples of expressions are whole and of what type.
 #![tactic(auto)]
 
 mod literals;
@@ -13,4 +13,4 @@ pub use operators::{
     is_signed, is_text, is_unsigned, is_valueless, key_of, second_type, sort_of, stands_alone,
     unary_type,
 };
-pub use wholes::{made_of_one, made_of_two, map_type, row_type};
+pub use wholes::{made_of_one, made_of_two, map_type, row_type, tuple_type};

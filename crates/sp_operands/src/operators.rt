@@ -33,7 +33,10 @@ pub enum OperatorSort {
 pub fn is_valueless(t: &Type) -> bool
     ensures { result ≡ is_valueless t.now }
 {
-    matches!(t.level(), Level::Word(Word::Void | Word::Regex | Word::New))
+    matches!(
+        t.level(),
+        Level::Word(Word::Void | Word::Regex | Word::Sink | Word::New)
+    )
 }
 
 /// Whether a type is that of unsigned integers.

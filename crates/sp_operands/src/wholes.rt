@@ -1,7 +1,7 @@
-// What makes a row whole, and of what type it is then.
+// What makes a row and a tuple whole, and of what type they are then.
 ghost use Rattle.std.specs.Prelude.{◌≡◌, ◌∷◌, [], IfOk, true};
 ghost use Rattle.sp_types.specs.Types.{made, tys};
-ghost use Rattle.sp_operands.specs.Wholes.{may_hold, is_of, all_of, first_seen, has_keys_alone, row_type, all_in_turn, second_seen, are_entries, map_type};
+ghost use Rattle.sp_operands.specs.Wholes.{may_hold, are_parts, tuple_type, is_of, all_of, first_seen, has_keys_alone, row_type, all_in_turn, second_seen, are_entries, map_type};
 
 use crate::literals::{is_past, seen};
 use crate::operators::is_valueless;
@@ -10,11 +10,34 @@ use sp_typed::Expr;
 use sp_types::{Maker, Type, Word};
 use std::alloc::Global;
 
-/// Whether elements may have a type; keys have one of keys.
+/// Whether parts may have a type; keys have one of keys.
 fn may_hold(keyed: bool, t: &Type) -> bool
     ensures { result ≡ may_hold keyed t.now }
 {
     t.is_known() && !is_valueless(t) && (!keyed || t.is_key())
+}
+
+fn are_parts(list: &[Type]) -> bool
+    ensures { result ≡ are_parts list.now }
+{
+    for t in list {
+        if !may_hold(false, t) {
+            return false;
+        }
+    }
+    true
+}
+
+/// The type of a tuple whose parts have these types.
+pub fn tuple_type(alloc: Global, list: Vec<Type>) -> Result<Type, NoMemory>
+    ensures { IfOk result (λ t. t ≡ tuple_type list.items) }
+{
+    if are_parts(&list) {
+        Type::made(alloc, Maker::Tuple, list)
+    } else {
+        drop(list);
+        Ok(Type::word(Word::Unknown))
+    }
 }
 
 /// Whether an element has a type, and is no literal past it.

@@ -22,13 +22,14 @@ use Rattle.sp_typed.specs.declared.words.LeafOp.{LeafOp}
 use Rattle.sp_typed.specs.declared.words.LeafOp.TheVariants as leaf_is
 use Rattle.sp_typed.specs.declared.words.OneOp.TheVariants as one_is
 use Rattle.sp_typed.specs.declared.words.TwoOp.TheVariants as two_is
+use Rattle.sp_typed.specs.declared.words.ManyOp.TheVariants as many_is
 use Rattle.sp_typed.specs.Exprs.{Expr, type_of, leaf}
 use Rattle.sp_typing.specs.declared.places.Place.TheVariants as place_is
 use Rattle.sp_typing.specs.Places.{suits, standing}
 use Rattle.sp_typing.specs.Contexts.{Around}
 use Rattle.sp_operands.specs.Operands.{unknown, boolean}
 use Rattle.sp_operands.specs.Literals.{seen}
-use Rattle.sp_typing.specs.Typing.{typed, leaf_at, one_at, two_at, name_of}
+use Rattle.sp_typing.specs.Typing.{typed, leaf_at, one_at, two_at, many_at, name_of}
 
 abbrev here : Span
 here = record { from = 0; to = 0 }
@@ -39,14 +40,14 @@ byte = word (word_is.Uint W8)
 abbrev short : Ty
 short = word (word_is.Uint W16)
 
--- x is of type uint8, and s of type set<uint16>; t is a tuple of a Boolean and a text
+-- x is of type uint8, s of type set<uint16>, and k a sink; t is a tuple of a Boolean and a text
 abbrev first_name : Tree → List ℕ
 first_name (node form span (more name ts)) = name_of name
 first_name _ = []
 
 abbrev named : List ℕ → Ty
 named x =
-    if bytes_eq x (codes "x") then byte else (if bytes_eq x (codes "s") then made maker_is.Set (types.more short types.none) else made maker_is.Tuple (types.more boolean (types.more (word word_is.String) types.none)))
+    if bytes_eq x (codes "x") then byte else (if bytes_eq x (codes "s") then made maker_is.Set (types.more short types.none) else (if bytes_eq x (codes "k") then word word_is.Sink else made maker_is.Tuple (types.more boolean (types.more (word word_is.String) types.none))))
 
 abbrev at_path : Span → Tree → Expr
 at_path span path = leaf_at span (named (first_name path)) (leaf_is.Local 0)
@@ -142,7 +143,54 @@ typed_past = refl
 row : type_of (typed around (expr expr_is.Vector (number 1 ∷ x ∷ []))) ≡ made maker_is.Vector (types.more byte types.none)
 row = refl
 
--- what is not whole has no type: `[x, True]`, `[x, 256]`, `[/a/]`, and `set(s)`, since a set is no key
+-- literals alone are of one type: of uint64, and of int64 where one of them has a minus sign
+abbrev one : Tree
+one = number 1
+
+abbrev minus_one : Tree
+minus_one = minus one
+
+abbrev vector_of : Ty → Ty
+vector_of t = made maker_is.Vector (types.more t types.none)
+
+abbrev signed : Ty
+signed = word (word_is.Int W64)
+
+abbrev unsigned : Ty
+unsigned = word (word_is.Uint W64)
+
+row_of_numbers : type_of (typed around (expr expr_is.Vector (one ∷ number 2 ∷ []))) ≡ vector_of unsigned
+row_of_numbers = refl
+
+row_of_both_signs : typed around (expr expr_is.Vector (one ∷ minus_one ∷ []))
+    ≡ many_at here (vector_of signed) many_is.Vector (leaf_at here signed (leaf_is.Number 1) ∷ one_at here signed one_is.Negate (leaf_at here unsigned (leaf_is.Number 1)) ∷ [])
+row_of_both_signs = refl
+
+minus_before_others : type_of (typed around (expr expr_is.Set (minus_one ∷ one ∷ minus (number 5) ∷ []))) ≡ made maker_is.Set (types.more signed types.none)
+minus_before_others = refl
+
+-- `[1, -1, x]` is of the type of x, past which the second is; `[-1, x]` too
+signs_beside_others : type_of (typed around (expr expr_is.Vector (one ∷ minus_one ∷ x ∷ []))) ≡ unknown
+signs_beside_others = refl
+
+zeros_beside_others : type_of (typed around (expr expr_is.Vector (minus (number 0) ∷ one ∷ x ∷ []))) ≡ vector_of byte
+zeros_beside_others = refl
+
+-- `[1, -1, 9223372036854775808]`: a literal past the type of all makes it unknown
+row_of_past : type_of (typed around (expr expr_is.Vector (one ∷ minus_one ∷ number 9223372036854775808 ∷ []))) ≡ unknown
+row_of_past = refl
+
+-- the members of a tuple are alone: `(1, -1)`; a part that is no value, or of no type, leaves a tuple without one
+tuple_of_both_signs : type_of (typed around (expr expr_is.Tuple (one ∷ minus_one ∷ []))) ≡ made maker_is.Tuple (types.more unsigned (types.more signed types.none))
+tuple_of_both_signs = refl
+
+tuple_of_a_sink : type_of (typed around (expr expr_is.Tuple (path (codes "k") ∷ one ∷ []))) ≡ unknown
+tuple_of_a_sink = refl
+
+tuple_of_unknown : type_of (typed around (expr expr_is.Tuple (one ∷ binary op_is.Add x (expr expr_is.True []) ∷ []))) ≡ unknown
+tuple_of_unknown = refl
+
+-- what is not whole has no type: `[x, True]`, `[x, 256]`, `[/a/]`, `[k]`, and `set(s)`, since a set is no key
 mixed : type_of (typed around (expr expr_is.Vector (x ∷ expr expr_is.True [] ∷ []))) ≡ unknown
 mixed = refl
 
@@ -151,6 +199,9 @@ past_element = refl
 
 no_value : type_of (typed around (expr expr_is.Vector (expr (expr_is.Regex (codes "a")) [] ∷ []))) ≡ unknown
 no_value = refl
+
+no_sink : type_of (typed around (expr expr_is.Vector (path (codes "k") ∷ []))) ≡ unknown
+no_sink = refl
 
 no_key : type_of (typed around (expr expr_is.Set (path (codes "s") ∷ []))) ≡ unknown
 no_key = refl
@@ -164,6 +215,10 @@ mixed_values = refl
 
 entries : type_of (typed around (expr expr_is.Map (pair x (number 1) ∷ pair (number 2) (number 3) ∷ []))) ≡ made maker_is.Map (types.more byte (types.more (word (word_is.Uint W64)) types.none))
 entries = refl
+
+-- `map(-1: 1, 1: 2)`: keys and values are apart
+entries_of_both_signs : type_of (typed around (expr expr_is.Map (pair minus_one one ∷ pair one (number 2) ∷ []))) ≡ made maker_is.Map (types.more signed (types.more unsigned types.none))
+entries_of_both_signs = refl
 
 -- `x in s`: the key is widened to the type of the keys
 key : typed around (binary op_is.In x (path (codes "s"))) ≡ two_at here boolean (two_is.Binary op_is.In) (one_at here short one_is.Widen local_x) (leaf_at here (named (codes "s")) (leaf_is.Local 0))

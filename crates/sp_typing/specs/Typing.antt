@@ -1,5 +1,6 @@
 -- The typed expression that a tree is, in what stands round it.
-use Rattle.std.specs.Prelude.{ℕ, zero, suc, Bool, true, false, not, ◌&&◌, ◌||◌, if◌then◌else◌, List, [], ◌∷◌, ◌++◌, map, length, Option, Some, None}
+use Rattle.std.specs.Prelude.{ℕ, zero, suc, Bool, true, false, not, ◌&&◌, ◌||◌, if◌then◌else◌, List, [], ◌∷◌, ◌++◌, map, filter, length, Option, Some, None}
+use Rattle.std.specs.List.{list_any}
 use Rattle.sp_base.specs.declared.places.Span.{Span}
 use Rattle.sp_words.specs.declared.operators.BinaryOp.{BinaryOp}
 use Rattle.sp_words.specs.declared.operators.UnaryOp.{UnaryOp}
@@ -37,7 +38,7 @@ use Rattle.sp_typing.specs.declared.places.Place.TheVariants as place_is
 use Rattle.sp_typing.specs.Contexts.{Around}
 use Rattle.sp_operands.specs.Operands.{unknown, boolean, is_integer, sort_of, result_type, unary_type, key_of, first_type, second_type}
 use Rattle.sp_operands.specs.Literals.{taken, seen, is_negative, literal_word, unsigned_literal, signed_literal}
-use Rattle.sp_operands.specs.Wholes.{row_type, map_type}
+use Rattle.sp_operands.specs.Wholes.{row_type, map_type, tuple_type}
 use Rattle.sp_types.specs.Integers.{int_word}
 
 -- nodes on a slice of the text, of a type
@@ -96,17 +97,17 @@ alike a b =
 abbrev pub agreeing : Expr → Expr → Expr × Expr
 agreeing a b = if is_literal a && is_literal b then alike a b else (taken (seen b) a, taken (seen a) b)
 
--- several that have to agree: literals take the type of the first that is none
-abbrev pub lead : List Expr → Option Ty
-lead [] = None
-lead (e ∷ es) = if is_literal e then lead es else Some (seen e)
+-- The type that several take which have to agree: that of the first that is no literal. Where all are literals, it is that of two: a
+-- signed one where one of them has a minus sign.
+abbrev pub leading_of : List Expr → Bool → Ty
+leading_of [] signed = word (literal_word signed)
+leading_of (e ∷ es) signed = seen e
 
-abbrev pub maybe_taken : Option Ty → Expr → Expr
-maybe_taken None e = e
-maybe_taken (Some t) e = taken t e
+abbrev pub leading : List Expr → Ty
+leading es = leading_of (filter (λ e. not (is_literal e)) es) (list_any is_negative es)
 
 abbrev pub led : List Expr → List Expr
-led es = map (maybe_taken (lead es)) es
+led es = map (taken (leading es)) es
 
 -- a vector and a set of elements
 abbrev pub row_at : Span → Maker → ManyOp → List Expr → Expr
@@ -117,22 +118,21 @@ abbrev pub half : Bool → Expr × Expr → Expr
 half true p = p.1
 half false p = p.0
 
-abbrev pub lead_half : Bool → List (Expr × Expr) → Option Ty
-lead_half values [] = None
-lead_half values (p ∷ ps) = if is_literal (half values p) then lead_half values ps else Some (seen (half values p))
+abbrev pub leading_half : Bool → List (Expr × Expr) → Ty
+leading_half values ps = leading (map (half values) ps)
 
-abbrev pub in_turn : Option Ty → Option Ty → List (Expr × Expr) → List Expr
+abbrev pub in_turn : Ty → Ty → List (Expr × Expr) → List Expr
 in_turn key value [] = []
-in_turn key value (p ∷ ps) = maybe_taken key p.0 ∷ (maybe_taken value p.1 ∷ in_turn key value ps)
+in_turn key value (p ∷ ps) = taken key p.0 ∷ (taken value p.1 ∷ in_turn key value ps)
 
 abbrev pub map_of : Span → List Expr → Expr
 map_of span es = many_at span (map_type es) many_is.Map es
 
 abbrev pub map_at : Span → List (Expr × Expr) → Expr
-map_at span ps = map_of span (in_turn (lead_half false ps) (lead_half true ps) ps)
+map_at span ps = map_of span (in_turn (leading_half false ps) (leading_half true ps) ps)
 
 abbrev pub tuple_at : Span → List Expr → Expr
-tuple_at span es = many_at span (made maker_is.Tuple (tys (map seen es))) many_is.Tuple es
+tuple_at span es = many_at span (tuple_type (map seen es)) many_is.Tuple es
 
 abbrev pub made_of : Maker → List Ty → Ty
 made_of maker ts = made maker (tys ts)

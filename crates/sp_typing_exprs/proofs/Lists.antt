@@ -1,13 +1,14 @@
--- One more at the end of a list.
+-- One more at the end of a list, and one fewer at its front.
 use Rattle.std.proofs.Common.{ℕ, zero, suc, ◌+◌, ◌-◌, ◌≤◌, ◌<◌, ◌≡◌, List, [], ◌∷◌, ◌++◌, Option, Some, None, true, ltb, get_or, length, length-append, append_assoc, refl, ap, sym, ◌∙◌, arith}
 use Rattle.std.proofs.lemmas.Bool.Decides.{nat_tests}
 use Rattle.sp_types.specs.Types.{Ty, tys}
 use Rattle.sp_typed.specs.Exprs.{Expr}
-use Rattle.sp_typing.specs.Typing.{in_turn, maybe_taken, each_to, to_maybe, part_at}
+use Rattle.sp_operands.specs.Literals.{taken}
+use Rattle.sp_typing.specs.Typing.{in_turn, each_to, to_maybe, part_at}
 
-pub in_turn_more : (k v : Option Ty) (ps : List (Expr × Expr)) (p : Expr × Expr) → in_turn k v (ps ++ p ∷ []) ≡ in_turn k v ps ++ maybe_taken k p.0 ∷ (maybe_taken v p.1 ∷ [])
+pub in_turn_more : (k v : Ty) (ps : List (Expr × Expr)) (p : Expr × Expr) → in_turn k v (ps ++ p ∷ []) ≡ in_turn k v ps ++ taken k p.0 ∷ (taken v p.1 ∷ [])
 in_turn_more k v [] p = refl
-in_turn_more k v (q ∷ ps) p = ap (λ es. maybe_taken k q.0 ∷ (maybe_taken v q.1 ∷ es)) (in_turn_more k v ps p)
+in_turn_more k v (q ∷ ps) p = ap (λ es. taken k q.0 ∷ (taken v q.1 ∷ es)) (in_turn_more k v ps p)
 
 -- each goes to its own target, where n stand before the first
 pub each_more : (f : ℕ → Option Ty) (n : ℕ) (es : List Expr) (e : Expr) → each_to f n (es ++ e ∷ []) ≡ each_to f n es ++ to_maybe (f (n + length es)) e ∷ []
@@ -16,10 +17,10 @@ each_more f n (x ∷ es) e =
     let s : suc n + length es ≡ n + length (x ∷ es) = omega arith in
     ap (λ ys. to_maybe (f n) x ∷ ys) (each_more f (suc n) es e ∙ ap (λ m. each_to f (suc n) es ++ to_maybe (f m) e ∷ []) s)
 
-pub in_turn_step : (k v : Option Ty) (ps : List (Expr × Expr)) (p : Expr × Expr) (all new : List Expr) → all ≡ in_turn k v ps → new ≡ all ++ maybe_taken k p.0 ∷ (maybe_taken v p.1 ∷ []) → new ≡ in_turn k v (ps ++ p ∷ [])
+pub in_turn_step : (k v : Ty) (ps : List (Expr × Expr)) (p : Expr × Expr) (all new : List Expr) → all ≡ in_turn k v ps → new ≡ all ++ taken k p.0 ∷ (taken v p.1 ∷ []) → new ≡ in_turn k v (ps ++ p ∷ [])
 in_turn_step k v ps p all new is put =
     put
-    ∙ ap (λ es. es ++ maybe_taken k p.0 ∷ (maybe_taken v p.1 ∷ [])) is
+    ∙ ap (λ es. es ++ taken k p.0 ∷ (taken v p.1 ∷ [])) is
     ∙ sym (in_turn_more k v ps p)
 
 each_length : (f : ℕ → Option Ty) (n : ℕ) (es : List Expr) → length (each_to f n es) ≡ length es

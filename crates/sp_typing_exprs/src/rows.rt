@@ -3,53 +3,47 @@ ghost use Rattle.std.specs.Prelude.{◌≡◌, ◌∷◌, [], ◌++◌, map, len
 ghost use Rattle.sp_types.specs.Types.{tys};
 ghost use Rattle.sp_typing.specs.Contexts.{Around};
 ghost use Rattle.sp_operands.specs.Literals.{seen, taken};
-ghost use Rattle.sp_typing.specs.Typing.{lead, maybe_taken, led, row_at, lead_half, in_turn, map_of, map_at, tuple_at, to_maybe, each_to, made_of};
-ghost use Rattle.sp_operands.specs.Wholes.{row_type, map_type};
+ghost use Rattle.sp_typing.specs.Typing.{leading, led, row_at, leading_half, in_turn, map_of, map_at, tuple_at, to_maybe, each_to};
+ghost use Rattle.sp_operands.specs.Wholes.{row_type, map_type, tuple_type};
 
 use crate::nodes::{many_at, to_target};
 use sp_base::{NoMemory, Span, or_drop};
-use sp_operands::{map_type, row_type, seen, taken};
+use sp_operands::{is_negative, literal_word, map_type, row_type, seen, taken, tuple_type};
 use sp_typed::{Expr, ManyOp};
 use sp_types::{Maker, Type};
 use sp_typing::Context;
 use std::alloc::Global;
 
-/// The type of the first that is no literal.
-fn lead(list: &[Expr]) -> Result<Option<Type>, NoMemory>
-    ensures { IfOk result (λ t. t ≡ lead list.now) }
+/// The type that several take which have to agree: that of the first that is no literal. Where all are literals, it is a signed
+/// one where one of them has a minus sign.
+fn leading(list: &[Expr]) -> Result<Type, NoMemory>
+    ensures { IfOk result (λ t. t ≡ leading list.now) }
 {
+    let mut signed = false;
     for e in list {
         if !e.is_literal() {
-            return Ok(Some(seen(e)?));
+            return seen(e);
         }
+        signed = signed || is_negative(e);
     }
-    Ok(None)
+    Ok(Type::word(literal_word(signed)))
 }
 
-fn maybe_taken(to: &Option<Type>, e: Expr) -> Expr
-    ensures { result ≡ maybe_taken to.now e }
-{
-    match to {
-        Some(to) => taken(to, e),
-        None => e,
-    }
-}
-
-fn all_taken(alloc: Global, to: &Option<Type>, list: Vec<Expr>) -> Result<Vec<Expr>, NoMemory>
-    ensures { IfOk result (λ r. r.items ≡ map (maybe_taken to.now) list.items) }
+fn all_taken(alloc: Global, to: &Type, list: Vec<Expr>) -> Result<Vec<Expr>, NoMemory>
+    ensures { IfOk result (λ r. r.items ≡ map (taken to.now) list.items) }
 {
     let mut all = or_drop!(Vec::with_capacity(alloc, list.len()); list);
     for e in list {
-        all.push(maybe_taken(to, e))?;
+        all.push(taken(to, e))?;
     }
     Ok(all)
 }
 
-/// Several that have to agree: literals take the type of the first that is none.
+/// Several that have to agree, each literal of the type that all take.
 pub(crate) fn led(alloc: Global, list: Vec<Expr>) -> Result<Vec<Expr>, NoMemory>
     ensures { IfOk result (λ r. r.items ≡ led list.items) }
 {
-    let to = or_drop!(lead(&list); list);
+    let to = or_drop!(leading(&list); list);
     let all = all_taken(alloc, &to, list);
     drop(to);
     all
@@ -69,40 +63,42 @@ pub(crate) fn row_at(
     many_at(span, ty, op, list)
 }
 
-/// The type of the first key, or of the first value, that is no literal.
-fn lead_half(values: bool, pairs: &[(Expr, Expr)]) -> Result<Option<Type>, NoMemory>
-    ensures { IfOk result (λ t. t ≡ lead_half values pairs.now) }
+/// The type that keys take, or values.
+fn leading_half(values: bool, pairs: &[(Expr, Expr)]) -> Result<Type, NoMemory>
+    ensures { IfOk result (λ t. t ≡ leading_half values pairs.now) }
 {
+    let mut signed = false;
     for pair in pairs {
         let e = if values { &pair.1 } else { &pair.0 };
         if !e.is_literal() {
-            return Ok(Some(seen(e)?));
+            return seen(e);
         }
+        signed = signed || is_negative(e);
     }
-    Ok(None)
+    Ok(Type::word(literal_word(signed)))
 }
 
 /// Puts a key and its value behind others, where literals take these types.
 fn put_both(
     all: &mut Vec<Expr>,
-    key: &Option<Type>,
-    value: &Option<Type>,
+    key: &Type,
+    value: &Type,
     pair: (Expr, Expr),
 ) -> Result<(), NoMemory>
     ensures { OnOk result (all.new.items ≡ all.old.items
-        ++ maybe_taken key.now pair.0 ∷ (maybe_taken value.now pair.1 ∷ [])) }
+        ++ taken key.now pair.0 ∷ (taken value.now pair.1 ∷ [])) }
 {
     let (k, v) = pair;
-    or_drop!(all.push(maybe_taken(key, k)); v);
-    all.push(maybe_taken(value, v))?;
+    or_drop!(all.push(taken(key, k)); v);
+    all.push(taken(value, v))?;
     Ok(())
 }
 
 /// Keys and values in turn, where literals take these types.
 fn in_turn(
     alloc: Global,
-    key: &Option<Type>,
-    value: &Option<Type>,
+    key: &Type,
+    value: &Type,
     pairs: Vec<(Expr, Expr)>,
 ) -> Result<Vec<Expr>, NoMemory>
     ensures { IfOk result (λ r. r.items ≡ in_turn key.now value.now pairs.items) }
@@ -125,8 +121,8 @@ fn map_of(alloc: Global, span: Span, parts: Vec<Expr>) -> Result<Expr, NoMemory>
 pub(crate) fn map_at(alloc: Global, span: Span, pairs: Vec<(Expr, Expr)>) -> Result<Expr, NoMemory>
     ensures { IfOk result (λ e. e ≡ map_at span pairs.items) }
 {
-    let key = or_drop!(lead_half(false, &pairs); pairs);
-    let value = or_drop!(lead_half(true, &pairs); key, pairs);
+    let key = or_drop!(leading_half(false, &pairs); pairs);
+    let value = or_drop!(leading_half(true, &pairs); key, pairs);
     let parts = in_turn(alloc, &key, &value, pairs);
     drop(key);
     drop(value);
@@ -148,7 +144,7 @@ pub(crate) fn tuple_at(alloc: Global, span: Span, list: Vec<Expr>) -> Result<Exp
     ensures { IfOk result (λ e. e ≡ tuple_at span list.items) }
 {
     let parts = or_drop!(all_seen(alloc, &list); list);
-    let ty = or_drop!(Type::made(alloc, Maker::Tuple, parts); list);
+    let ty = or_drop!(tuple_type(alloc, parts); list);
     many_at(span, ty, ManyOp::Tuple, list)
 }
 

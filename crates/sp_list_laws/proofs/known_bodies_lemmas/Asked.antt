@@ -17,14 +17,14 @@ use Rattle.sp_typed.specs.Exprs.{Expr, Exprs, leaf, one, two, three, many, none,
 use Rattle.sp_typed.specs.Nodes.{word_many}
 use Rattle.sp_operands.specs.declared.operators.OperatorSort.{OperatorSort}
 use Rattle.sp_operands.specs.declared.operators.OperatorSort.TheVariants as sort_is
-use Rattle.sp_operands.specs.Operands.{unknown, is_unsigned, is_signed, is_integer, is_enum, sort_of, stands_before, stands_behind, stands_alone, agree, has_size, key_of, is_valueless}
+use Rattle.sp_operands.specs.Operands.{unknown, is_unsigned, is_signed, is_integer, is_enum, sort_of, stands_before, stands_behind, stands_alone, agree, has_size, key_of}
 use Rattle.sp_operands.specs.Literals.{is_over, seen}
 use Rattle.sp_typing_stmts.specs.Owners.{with_slot_of}
 use Rattle.sp_body_rules.specs.declared.facts.Constancy.{Constancy}
 use Rattle.sp_body_rules.specs.Known.{Known}
-use Rattle.sp_body_rules.specs.Values.{is_no_value, is_new, value_span, written_tests, value_tests}
+use Rattle.sp_body_rules.specs.Values.{is_sink, is_no_value, is_new, value_span, written_tests, value_tests, object_tests}
 use Rattle.sp_rules.specs.Faults.{at}
-use Rattle.sp_body_rules.specs.ExprTests.{takes_no_cast, one_op_tests, disagreeing, is_past_key, operand_tests, is_constant, is_not_constant, index_tests, two_op_tests, choice_tests, all_value_tests, element_tests, elements_tests, row_tests, entries_tests, map_tests, argument_fits, arguments_fit, connects, argument_tests, converts, convert_tests, call_tests, is_element, may_change, is_of_self, receiver_tests, method_tests, uncalled_tests, many_op_tests, expr_tests}
+use Rattle.sp_body_rules.specs.ExprTests.{takes_no_cast, one_op_tests, disagreeing, is_past_key, operand_tests, is_constant, is_not_constant, index_tests, two_op_tests, choice_tests, all_value_tests, element_tests, elements_tests, row_tests, entries_tests, map_tests, argument_fits, arguments_fit, connects, argument_tests, converts, convert_tests, call_tests, is_element, is_place, is_of_self, receiver_tests, method_tests, uncalled_tests, many_op_tests, expr_tests}
 use Rattle.sp_words.specs.Methods.{changes}
 use Rattle.sp_list_laws.specs.known_bodies.Slots.{plain, all_plain, IsBlind}
 use Rattle.sp_list_laws.proofs.known_bodies_lemmas.Slots.{type_plain, span_plain, value_span_plain, no_value_plain, is_number_plain, literal_plain, over_plain, itself_plain}
@@ -62,6 +62,12 @@ past_by s = s.literal && s.over
 abbrev value_by : ℕ → Shown → List (Bool × Fault)
 value_by m s = (s.no_value, at m rule_is.TypeMismatch s.span) ∷ ((past_by s, at m rule_is.LiteralRange s.first) ∷ [])
 
+abbrev no_object_by : Shown → Bool
+no_object_by s = s.no_value && not (is_sink s.ty)
+
+abbrev object_by : ℕ → Shown → List (Bool × Fault)
+object_by m s = (no_object_by s, at m rule_is.TypeMismatch s.span) ∷ ((past_by s, at m rule_is.LiteralRange s.first) ∷ [])
+
 abbrev knows_by : Shown → Bool
 knows_by s = is_known s.ty && not (past_by s)
 
@@ -91,7 +97,7 @@ one_plain m t one_is.Complement e = ap (λ (s : Shown). right_by m (stands_alone
 one_plain m t one_is.Size e = ap (λ (s : Shown). right_by m (has_size s.ty) s) (shown_plain e)
 one_plain m t (one_is.Cast w) e =
     ap (λ (s : Shown). written_tests m w ++ ((takes_no_cast t w, at m rule_is.TypeMismatch w.span) ∷ (value_by m s ++ (wrong_by m (is_integer s.ty || is_enum s.ty) s ∷ ((is_enum s.ty && is_signed t, at m rule_is.TypeMismatch w.span) ∷ []))))) (shown_plain e)
-one_plain m t (one_is.NoMember name) e = ap (λ (s : Shown). value_by m s ++ ((knows_by s, at m rule_is.UnknownMember name) ∷ [])) (shown_plain e)
+one_plain m t (one_is.NoMember name) e = ap (λ (s : Shown). object_by m s ++ ((knows_by s, at m rule_is.UnknownMember name) ∷ [])) (shown_plain e)
 one_plain m t one_is.Widen e = refl
 one_plain m t _ e = ap (value_by m) (shown_plain e)
 
@@ -167,7 +173,7 @@ map_plain m span (more key (more value es)) = entries_plain m true key value (mo
 -- calls
 fits_plain : (o : Option Ty) (e : Expr) → argument_fits o (plain e) ≡ argument_fits o e
 fits_plain None e = refl
-fits_plain (Some t) e = ap (λ (s : Shown). not (past_by s) && (is_valueless s.ty || goes s.ty t)) (shown_plain e)
+fits_plain (Some t) e = ap (λ (s : Shown). not (past_by s) && (no_object_by s || goes s.ty t)) (shown_plain e)
 
 all_fit_plain : (f g : ℕ → Option Ty) → ((n : ℕ) → f n ≡ g n) → (n : ℕ) (es : Exprs) → arguments_fit f n (all_plain es) ≡ arguments_fit g n es
 all_fit_plain f g is n none = ap is_none (is n)
@@ -184,7 +190,7 @@ arguments_plain m starts (more e es) =
 
 converts_plain : (es : Exprs) → converts (all_plain es) ≡ converts es
 converts_plain none = refl
-converts_plain (more e none) = ap (λ (s : Shown). not (past_by s) && (not (is_known s.ty) || is_valueless s.ty || is_integer s.ty)) (shown_plain e)
+converts_plain (more e none) = ap (λ (s : Shown). not (past_by s) && (not (is_known s.ty) || no_object_by s || is_integer s.ty)) (shown_plain e)
 converts_plain (more e (more f es)) = refl
 
 convert_plain : (m : ℕ) (span : Span) (es : Exprs) → convert_tests m span (all_plain es) ≡ convert_tests m span es
@@ -206,12 +212,12 @@ word_slot (many_is.Method m old) = refl
 word_slot _ = refl
 
 module _ (k : Known) where
-  change_plain : (e : Expr) → may_change k (plain e) ≡ may_change k e
-  change_plain (leaf h) = refl
-  change_plain (one h a) = refl
-  change_plain (two h a b) = ap (λ t. is_element h.op t && may_change k (plain a)) (type_plain a) ∙ ap (λ c. is_element h.op (type_of a) && c) (change_plain a)
-  change_plain (three h a b c) = refl
-  change_plain (many h es) = refl
+  place_plain : (e : Expr) → is_place k (plain e) ≡ is_place k e
+  place_plain (leaf h) = refl
+  place_plain (one h a) = refl
+  place_plain (two h a b) = ap (λ t. is_element h.op t && is_place k (plain a)) (type_plain a) ∙ ap (λ c. is_element h.op (type_of a) && c) (place_plain a)
+  place_plain (three h a b c) = refl
+  place_plain (many h es) = refl
 
   module _ (blind : IsBlind k) (m : ℕ) where
     index_plain : (t : Ty) (a i : Expr) → index_tests k m t (plain a) (plain i) ≡ index_tests k m t a i
@@ -239,7 +245,7 @@ module _ (k : Known) where
 
     receiver_plain : (op : ManyOp) (e : Expr) → receiver_tests k m (with_slot_of op None) (plain e) ≡ receiver_tests k m op e
     receiver_plain (many_is.Method method slot) e =
-        ap (λ b. (changes method && not b, at m rule_is.NotAssignable (span_of (plain e))) ∷ []) (change_plain e) ∙ ap (λ (p : Span). (changes method && not (may_change k e), at m rule_is.NotAssignable p) ∷ []) (span_plain e)
+        ap (λ b. (changes method && not b, at m rule_is.NotAssignable (span_of (plain e))) ∷ []) (place_plain e) ∙ ap (λ (p : Span). (changes method && not (is_place k e), at m rule_is.NotAssignable p) ∷ []) (span_plain e)
     receiver_plain (many_is.OfUnit method name) e = ap (λ b. (is_of_self method && not b, at m rule_is.SelfOutside name) ∷ []) (itself_plain e)
     receiver_plain _ e = refl
 
@@ -247,9 +253,9 @@ module _ (k : Known) where
     method_plain op span none = refl
     method_plain op span (more e es) =
         let slotless = with_slot_of op None in
-        ap (λ (s : Shown). value_by m s ++ (receiver_tests k m slotless (plain e) ++ call_tests k m slotless span (seen_by s) (all_plain es))) (shown_plain e)
-        ∙ ap (λ r. value_tests m e ++ (r ++ call_tests k m slotless span (seen e) (all_plain es))) (receiver_plain op e)
-        ∙ ap (λ r. value_tests m e ++ (receiver_tests k m op e ++ r)) (call_plain op span (seen e) es)
+        ap (λ (s : Shown). object_by m s ++ (receiver_tests k m slotless (plain e) ++ call_tests k m slotless span (seen_by s) (all_plain es))) (shown_plain e)
+        ∙ ap (λ r. object_tests m e ++ (r ++ call_tests k m slotless span (seen e) (all_plain es))) (receiver_plain op e)
+        ∙ ap (λ r. object_tests m e ++ (receiver_tests k m op e ++ r)) (call_plain op span (seen e) es)
 
     many_plain : (op : ManyOp) (span : Span) (es : Exprs) → many_op_tests k m (with_slot_of op None) span (all_plain es) ≡ many_op_tests k m op span es
     many_plain many_is.Tuple span es = values_plain m es

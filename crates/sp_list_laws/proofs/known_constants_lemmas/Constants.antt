@@ -25,7 +25,7 @@ use Rattle.sp_names.specs.Names.{path_means}
 use Rattle.sp_names.specs.Types.{mentions_in}
 use Rattle.sp_typing.specs.declared.places.Place.TheVariants.{Value}
 use Rattle.sp_around.specs.Written.{type_at, written_in}
-use Rattle.sp_around.specs.Arounds.{stored_by, declared_at, meaning_at}
+use Rattle.sp_around.specs.Arounds.{stored_by, declared_at, meaning_at, slice_of}
 use Rattle.sp_ast.specs.Views.{present}
 use Rattle.sp_constants.specs.declared.outcome.Outcome.{Outcome}
 use Rattle.sp_constants.specs.declared.outcome.Outcome.TheVariants as outcome_is
@@ -162,7 +162,7 @@ module _ (list : List Tree) (f : ℕ → Option Ty) (known : ℕ → Option Answ
       let kv = known_values list f known in
       const_of k m kv (constant_expr list f known m w v)
       (maybe_spine k m kv w (typed g v) (typed_holds g constant_op k m types paths (values_known m) v is) (typed_told g constant_op k m kv types paths (values_told m) v is)
-      (typed_spine g k m kv types paths (values_known m) (values_told m) (λ span path. meaning_three list f (constant_type list f known) span path (path_means list f m path)) (λ span. refl) (λ span. refl) v is))
+      (typed_spine g k m kv types paths (values_known m) (values_told m) (λ span path. meaning_three list f (constant_type list f known) (slice_of list span path (path_means list f m path)) path (path_means list f m path)) (λ span. refl) (λ span. refl) v is))
 
   -- a type that is written
   written_full : (m : ℕ) (w : Tree) → is_type list f m w ≡ true → none_hold (written_tests m (written_in list f m Value w)) ≡ true → is_full (type_at list f m Value w) ≡ true

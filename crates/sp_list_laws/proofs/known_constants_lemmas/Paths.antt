@@ -23,7 +23,7 @@ use Rattle.sp_names.specs.Declarations.{sort_at, number_at}
 use Rattle.sp_names.specs.Names.{path_names, path_means}
 use Rattle.sp_names.specs.Types.{one_or_none}
 use Rattle.sp_around.specs.Heads.{function_gives}
-use Rattle.sp_around.specs.Arounds.{type_leaf, declared_at, meaning_at, path_at, around}
+use Rattle.sp_around.specs.Arounds.{type_leaf, declared_at, meaning_at, slice_of, path_at, around}
 use Rattle.sp_constants.specs.Outcomes.{used}
 use Rattle.sp_constants.specs.Known.{Known as Values}
 use Rattle.sp_body_rules.specs.Known.{Known}
@@ -77,7 +77,7 @@ module _ (list : List Tree) (f : ℕ → Option Ty) (known : ℕ → Option Answ
     meaning_named span path (meaning_is.Nothing n) h = refl
 
     pub path_named : (m : ℕ) (span : Span) (path : Tree) → is_told list f known m path ≡ true → is_named (function_gives list f) (path_at list f (constant_type list f known) m span path) ≡ true
-    path_named m span (node form_is.Path at ts) h = meaning_named span (node form_is.Path at ts) (path_means list f m (node form_is.Path at ts)) h
+    path_named m span (node form_is.Path at ts) h = meaning_named (slice_of list span (node form_is.Path at ts) (path_means list f m (node form_is.Path at ts))) (node form_is.Path at ts) (path_means list f m (node form_is.Path at ts)) h
     path_named m span absent h = refl
     path_named m span (row ts) h = refl
     path_named m span (node _ at ts) h = refl
@@ -113,7 +113,7 @@ module _ (list : List Tree) (f : ℕ → Option Ty) (known : ℕ → Option Answ
     path_told : (m : ℕ) (span : Span) (path : Tree) → is_told list f known m path ≡ true → Told (path_at list f (constant_type list f known) m span path)
     path_told m span (node form_is.Path at ts) h =
         let path = node form_is.Path at ts in
-        meaning_told span path (path_means list f m path) (means_there list f m (path_names path)) h
+        meaning_told (slice_of list span path (path_means list f m path)) path (path_means list f m path) (means_there list f m (path_names path)) h
     path_told m span absent h = λ c r p. never r
     path_told m span (row ts) h = λ c r p. never r
     path_told m span (node _ at ts) h = λ c r p. never r

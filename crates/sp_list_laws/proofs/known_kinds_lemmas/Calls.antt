@@ -15,21 +15,21 @@ use Rattle.sp_typed.specs.Exprs.{Expr, Exprs, none, more, type_of}
 use Rattle.sp_typed.specs.Nodes.{holds, all_hold}
 use Rattle.sp_typed_units.specs.declared.declarations.Parameter.{Parameter}
 use Rattle.sp_typed_units.specs.declared.declarations.Function.{Function}
-use Rattle.sp_operands.specs.Operands.{unknown, is_valueless}
+use Rattle.sp_operands.specs.Operands.{unknown}
 use Rattle.sp_operands.specs.Literals.{is_past}
 use Rattle.sp_method_types.specs.Methods.{number, signed, octets, nothing, order, charset, strategy, element, mapped, method_gives, method_takes}
-use Rattle.sp_body_rules.specs.Values.{is_no_value}
+use Rattle.sp_body_rules.specs.Values.{is_no_value, is_no_object}
 use Rattle.sp_body_rules.specs.ExprTests.{argument_fits, arguments_fit, argument_tests}
 use Rattle.sp_list_rules.specs.Told.{parameter_type, function_takes}
 use Rattle.sp_list_laws.specs.known_types.Full.{is_full, is_right, is_unknown}
 use Rattle.sp_list_laws.proofs.known_types_lemmas.Full.{never, full_is_known}
-use Rattle.sp_list_laws.proofs.known_types_lemmas.Tests.{Fine, at_first}
+use Rattle.sp_list_laws.proofs.known_types_lemmas.Tests.{Fine, at_first, no_object}
 use Rattle.sp_list_laws.specs.fit_expr.Sorts.{Void, Vectors, Maps, sort_of, same_sort}
 use Rattle.sp_list_laws.specs.fit_expr.Lists.{arguments_are, sorts_are}
 use Rattle.sp_list_laws.specs.fit_expr.Test.{is_sort, vector_of, wanted, gives, simple_is, element_is, map_of, value_is, value_or_is, method_is as method_passes, pushes, pops, change_is, call_is}
 use Rattle.sp_list_laws.specs.known_kinds.Made.{maybe_targeted, are_targeted, given_by, receiver_sort, drops_last}
 use Rattle.sp_list_laws.proofs.known_kinds_lemmas.Types.{sort_itself, either}
-use Rattle.sp_list_laws.proofs.known_kinds_lemmas.Values.{has_type, seen_is, full_type, not_unknown, turned, key_same, not_true, and_false, Valued}
+use Rattle.sp_list_laws.proofs.known_kinds_lemmas.Values.{no_regex_value, seen_is, full_type, not_unknown, turned, key_same, not_true, and_false, Valued}
 
 some_is : (a b : Ty) → Some a ≡ Some b → a ≡ b
 some_is a b e = cc
@@ -50,9 +50,9 @@ AreOf target n (more e es) = IsOf (target n) e × AreOf target (suc n) es
 one_of : (o : Option Ty) (e : Expr) → ((t : Ty) → o ≡ Some t → is_full t ≡ true) → argument_fits o e ≡ true → is_no_value e ≡ false → is_right e ≡ true → maybe_targeted o e ≡ true → IsOf o e × (is_past e ≡ false)
 one_of None e full fit valued right targeted = never fit
 one_of (Some t) e full fit valued right targeted =
-    let p = and_parts (not (is_past e)) (is_valueless (type_of e) || goes (type_of e) t) fit in
+    let p = and_parts (not (is_past e)) (is_no_object e || goes (type_of e) t) fit in
     let past = not_true (is_past e) p.0 in
-    let go : goes (type_of e) t ≡ true = either (is_valueless (type_of e)) (goes (type_of e) t) p.1 (λ v. never (sym (has_type e valued) ∙ v)) (λ x. x) in
+    let go : goes (type_of e) t ≡ true = either (is_no_object e) (goes (type_of e) t) p.1 (λ v. never (sym (no_object e valued) ∙ v)) (λ x. x) in
     let own = key_same (type_of e) t (full_is_known (type_of e) (full_type e right)) (full_is_known t (full t refl)) go (subst (λ u. not (widens u t && not (same u t)) ≡ true) (seen_is e past) targeted) in
     (turned (type_of e) t own, past)
 
@@ -67,7 +67,7 @@ arguments_of m asked target is full n (more e es) fit tests right targeted =
     let valued = and_false (is_no_value e) tests.0 in
     let first = one_of (target n) e (full n) (subst (λ o. argument_fits o e ≡ true) (is n) p.0) valued (at_first is_right e r.0) q.0 in
     let rest = arguments_of m asked target is full (suc n) es (subst (λ i. arguments_fit asked i es ≡ true) next p.1) tests.1 r.1 q.1 in
-    ((first.0, rest.0), ((first.1, has_type e valued), rest.1))
+    ((first.0, rest.0), ((first.1, no_regex_value e valued), rest.1))
 
 -- the same by a list of types
 abbrev pub types_are : List Ty → Exprs → Bool

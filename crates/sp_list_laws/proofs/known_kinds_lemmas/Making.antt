@@ -29,7 +29,7 @@ use Rattle.sp_typed.specs.Exprs.{Expr, leaf, one, two, three, many, exprs, liste
 use Rattle.sp_typed.specs.Nodes.{holds}
 use Rattle.sp_operands.specs.Operands.{unknown, is_integer, first_type, unary_type, result_type, sort_of, second_type}
 use Rattle.sp_operands.specs.Literals.{signed_literal, can_take, taken, seen}
-use Rattle.sp_operands.specs.Wholes.{row_type, map_type}
+use Rattle.sp_operands.specs.Wholes.{row_type, map_type, tuple_type}
 use Rattle.sp_typing.specs.declared.context.Member.{Member}
 use Rattle.sp_typing.specs.Contexts.{Around as Names}
 use Rattle.sp_typing.specs.Typing.{typed, name_of, cast_type, signed_type, unary_op, choice_type, one_at, to_target, in_turn, map_of, member_at, set_op, set_member_at, part_at, item_of, item_at, index_at, callee_op, call_by, call_at, started, new_by, to_maybe, each_to}
@@ -127,7 +127,7 @@ part_found (types.more u us) zero t e = subst (λ x. same u x ≡ true) (let z :
 part_found (types.more u us) (suc n) t e = part_found us n t e
 
 -- keys and values in turn
-turn_even : (s t : Option Ty) (ps : List (Expr × Expr)) → is_even (exprs (in_turn s t ps)) ≡ true
+turn_even : (s t : Ty) (ps : List (Expr × Expr)) → is_even (exprs (in_turn s t ps)) ≡ true
 turn_even s t [] = refl
 turn_even s t (q ∷ ps) = turn_even s t ps
 
@@ -193,10 +193,10 @@ module _ (around : Around) where
   row_found : (maker : Maker) (es : List Expr) → same (row_type maker es) (row_type maker (listed (exprs es))) ≡ true
   row_found maker es = subst (λ xs. same (row_type maker es) (row_type maker xs) ≡ true) (sym (listed_is es)) (same_itself (row_type maker es))
 
-  tuple_found : (es : List Expr) → same (made maker_is.Tuple (tys (map seen es))) (made maker_is.Tuple (tys (map seen (listed (exprs es))))) ≡ true
-  tuple_found es = subst (λ xs. same (made maker_is.Tuple (tys (map seen es))) (made maker_is.Tuple (tys (map seen xs))) ≡ true) (sym (listed_is es)) (same_itself (made maker_is.Tuple (tys (map seen es))))
+  tuple_found : (es : List Expr) → same (tuple_type (map seen es)) (tuple_type (map seen (listed (exprs es)))) ≡ true
+  tuple_found es = subst (λ xs. same (tuple_type (map seen es)) (tuple_type (map seen xs)) ≡ true) (sym (listed_is es)) (same_itself (tuple_type (map seen es)))
 
-  map_found : (s t : Option Ty) (ps : List (Expr × Expr)) → Made (map_of (record { from = 0; to = 0 }) (in_turn s t ps))
+  map_found : (s t : Ty) (ps : List (Expr × Expr)) → Made (map_of (record { from = 0; to = 0 }) (in_turn s t ps))
   map_found s t ps =
       let es = in_turn s t ps in
       and_from (same (map_type es) (map_type (listed (exprs es)))) (is_even (exprs es)) (subst (λ xs. same (map_type es) (map_type xs) ≡ true) (sym (listed_is es)) (same_itself (map_type es))) (turn_even s t ps)

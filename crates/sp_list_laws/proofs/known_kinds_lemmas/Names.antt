@@ -39,7 +39,7 @@ use Rattle.sp_names.specs.Declarations.{sort_at}
 use Rattle.sp_names.specs.Names.{path_means}
 use Rattle.sp_around.specs.Heads.{function_takes as takes_of, function_gives}
 use Rattle.sp_method_types.specs.Methods.{told, begins_with_order, by_order, bytes_methods, text_methods, vector_methods, are_two, get_method, map_methods, method_gives, method_takes, unit_methods, unit_method_gives, sink_methods, library_call, unit_call, sink_call, method_of, base_ten, utf8, replace, left_out_of}
-use Rattle.sp_around.specs.Arounds.{Facts, word_leaf, type_leaf, declared_at, meaning_at, left_out_by, member_of, target_of as takes_at, around as module_names}
+use Rattle.sp_around.specs.Arounds.{Facts, word_leaf, type_leaf, declared_at, meaning_at, slice_of, left_out_by, member_of, target_of as takes_at, around as module_names}
 use Rattle.sp_list_rules.specs.Told.{function_takes, target_of}
 use Rattle.sp_list_laws.proofs.whole_list_lemmas.Modules.{none_found, some_found}
 use Rattle.sp_list_laws.proofs.known_types_lemmas.Full.{never}
@@ -262,8 +262,8 @@ module _ (around : Around) where
 
       pub module_made : ((t : Ty) (name : List ℕ) (found : Member) → member_of list facts.stored t name ≡ Some found → member_made around found.op t found.ty ≡ true) → AreMade around (module_names list facts m)
       module_made members = record {
-        path = λ span path. meaning_made span path (path_means list facts.answers m path);
-        named = λ span path. meaning_made span path (path_means list facts.answers m path);
+        path = λ span path. meaning_made (slice_of list span path (path_means list facts.answers m path)) path (path_means list facts.answers m path);
+        named = λ span path. meaning_made (slice_of list span path (path_means list facts.answers m path)) path (path_means list facts.answers m path);
         itself = λ span. refl;
         current = λ span. refl;
         left_out = all_left_out;

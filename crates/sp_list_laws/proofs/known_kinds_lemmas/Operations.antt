@@ -27,12 +27,12 @@ use Rattle.sp_typed.specs.Nodes.{holds, all_hold, word_leaf, word_one}
 use Rattle.sp_operands.specs.declared.operators.OperatorSort.{OperatorSort}
 use Rattle.sp_operands.specs.Operands.{unknown, is_valueless, is_unsigned, is_integer, is_boolean, is_enum as is_enum_type, first_type, sort_of as operator_sort, stands_before, stands_behind, agree, unary_type, result_type, stands_alone, has_size}
 use Rattle.sp_operands.specs.Literals.{leaf_number, type_has, typed_leaf, is_past, seen}
-use Rattle.sp_operands.specs.Wholes.{may_hold, is_of, all_of, first_seen, second_seen, has_keys_alone, row_type, all_in_turn, are_entries, map_type}
+use Rattle.sp_operands.specs.Wholes.{may_hold, are_parts, is_of, all_of, first_seen, second_seen, has_keys_alone, row_type, all_in_turn, are_entries, map_type, tuple_type}
 use Rattle.sp_typing.specs.Typing.{choice_type}
 use Rattle.sp_method_types.specs.Methods.{number, method_gives, method_takes}
 use Rattle.sp_body_rules.specs.Known.{Known}
-use Rattle.sp_body_rules.specs.Values.{is_no_value, is_regex, knows, value_goes, written_tests}
-use Rattle.sp_body_rules.specs.ExprTests.{is_unmeant, negates, leaf_tests, one_op_tests, is_past_key, disagree, index_tests, two_op_tests, unlike, choice_tests, all_value_tests, element_tests, elements_tests, row_tests, entries_tests, map_tests, is_convertible, convert_tests, many_op_tests, argument_fits, arguments_fit, changes_leaf, changes_one, is_element, may_change, expr_tests}
+use Rattle.sp_body_rules.specs.Values.{is_no_value, is_no_object, is_regex, knows, value_goes, written_tests}
+use Rattle.sp_body_rules.specs.ExprTests.{is_unmeant, negates, leaf_tests, one_op_tests, is_past_key, disagree, index_tests, two_op_tests, unlike, choice_tests, all_value_tests, element_tests, elements_tests, row_tests, entries_tests, map_tests, is_convertible, convert_tests, many_op_tests, argument_fits, arguments_fit, changes_leaf, changes_one, is_element, is_place, expr_tests}
 use Rattle.sp_list_rules.specs.Told.{function_takes}
 use Rattle.sp_bodies.specs.Exprs.{offset_local, slot_local, is_self, is_item_place}
 use Rattle.sp_emit_expr.specs.declared.rows.Row.TheVariants as row_is
@@ -41,7 +41,7 @@ use Rattle.sp_emit_expr.specs.Literals.{number_behind}
 use Rattle.sp_list_laws.specs.known_types.Full.{is_full, is_right, is_unknown}
 use Rattle.sp_list_laws.specs.known_types.Clear.{is_clear, any_op}
 use Rattle.sp_list_laws.proofs.known_types_lemmas.Full.{never, full_is_known}
-use Rattle.sp_list_laws.proofs.known_types_lemmas.Tests.{Fine, fine_parts, both_false, not_so, at_first, tests_of}
+use Rattle.sp_list_laws.proofs.known_types_lemmas.Tests.{Fine, fine_parts, both_false, not_so, at_first, tests_of, no_object}
 use Rattle.sp_list_laws.specs.known_literals.Widened.{is_widen, widens_value}
 use Rattle.sp_list_laws.proofs.whole_list_lemmas.None.{holds_both, all_hold_both}
 use Rattle.sp_list_laws.specs.fit_expr.Around.{Around}
@@ -51,7 +51,7 @@ use Rattle.sp_list_laws.specs.fit_expr.Test.{is_sort, local_is, two_is_of, three
 use Rattle.sp_list_laws.specs.known_kinds.Made.{is_targeted, element_made, is_even, are_targeted, given_by, receiver_sort, method_made, unit_method_made, many_made, one_made, two_made, leaf_made, is_made, IsAsked, owner_kept, receiver_kept, keeps_owner, is_operator, has_place, is_row, is_built}
 use Rattle.sp_list_laws.specs.known_kinds.Kept.{offset_kept}
 use Rattle.sp_list_laws.proofs.known_kinds_lemmas.Types.{boolean_sort, unsigned_sort, signed_sort, bytes_sort, text_sort, sized_sort, either, operators_take}
-use Rattle.sp_list_laws.proofs.known_kinds_lemmas.Values.{sorted, number_in, minus_in, or_false, has_type, seen_is, full_type, is_asked, asked_so, not_unknown, cast_sorts, widen_sorts, widened_valued, turned, first_part, key_same, integer_sort, no_number, not_true, no_regex, and_false, Valued}
+use Rattle.sp_list_laws.proofs.known_kinds_lemmas.Values.{sorted, number_in, minus_in, or_false, has_type, seen_is, full_type, is_asked, asked_so, not_unknown, cast_sorts, widen_sorts, widened_valued, turned, first_part, key_same, integer_sort, no_number, not_true, no_regex, no_regex_value, no_regex_object, and_false, Valued}
 use Rattle.sp_list_laws.proofs.known_kinds_lemmas.Calls.{arguments_of, of_list, call_so, row_full, takes_full, method_so, change_so}
 
 module _ (around : Around) (k : Known) (m : ℕ) where
@@ -216,13 +216,13 @@ module _ (around : Around) (k : Known) (m : ℕ) where
   -- rows of parts: each is a value, and no literal past its type
   all_valued : (es : Exprs) → Fine (all_value_tests m es) → Valued es
   all_valued none f = tt
-  all_valued (more e es) f = ((f.1.0, has_type e f.0), all_valued es f.1.1)
+  all_valued (more e es) f = ((f.1.0, no_regex_value e f.0), all_valued es f.1.1)
 
   elements_valued : (keyed : Bool) (x : Expr) (es : Exprs) → Fine (elements_tests m keyed x es) → Valued es
   elements_valued keyed x none f = tt
   elements_valued keyed x (more e es) f =
       let p = fine_parts (element_tests m keyed x e) (elements_tests m keyed x es) f in
-      ((p.0.1.0, has_type e p.0.0), elements_valued keyed x es p.1)
+      ((p.0.1.0, no_regex_value e p.0.0), elements_valued keyed x es p.1)
 
   row_valued : (keyed : Bool) (span : Span) (es : Exprs) → Fine (row_tests m keyed span es) → Valued es
   row_valued keyed span none f = tt
@@ -232,7 +232,7 @@ module _ (around : Around) (k : Known) (m : ℕ) where
   entries_valued keyed key value none f = tt
   entries_valued keyed key value (more e es) f =
       let p = fine_parts (element_tests m keyed (if keyed then key else value) e) (entries_tests m (not keyed) key value es) f in
-      ((p.0.1.0, has_type e p.0.0), entries_valued (not keyed) key value es p.1)
+      ((p.0.1.0, no_regex_value e p.0.0), entries_valued (not keyed) key value es p.1)
 
   map_valued : (span : Span) (es : Exprs) → Fine (map_tests m span es) → Valued es
   map_valued span none f = tt
@@ -243,7 +243,7 @@ module _ (around : Around) (k : Known) (m : ℕ) where
   converted_valued span none f = tt
   converted_valued span (more e none) f =
       let c = and_parts (not (is_past e)) _ (not_so (is_convertible e) f.0) in
-      ((not_true (is_past e) c.0, has_type e (and_false (is_no_value e) f.1.0)), tt)
+      ((not_true (is_past e) c.0, no_regex_value e (and_false (is_no_value e) f.1.0)), tt)
   converted_valued span (more e (more x es)) f = never (not_so false f.0)
 
   abbrev is_container : ManyOp → Bool
@@ -315,18 +315,21 @@ module _ (around : Around) (k : Known) (m : ℕ) where
   converts_so n t span none given f r v = never (not_so false f.0)
   converts_so n t span (more e none) given f r v =
       let right = at_first is_right e (and_parts (holds is_right e) true r).0 in
-      let c = (and_parts (not (is_past e)) (not (is_known (type_of e)) || is_valueless (type_of e) || is_integer (type_of e)) (not_so (is_convertible e) f.0)).1 in
-      let integer : is_integer (type_of e) ≡ true = either (not (is_known (type_of e)) || is_valueless (type_of e)) (is_integer (type_of e)) c
-      (λ d. either (not (is_known (type_of e))) (is_valueless (type_of e)) d (λ u. never (sym (ap not (full_is_known (type_of e) (full_type e right))) ∙ u)) (λ u. never (sym v.0.1 ∙ u))) (λ i. i) in
+      let c = (and_parts (not (is_past e)) (not (is_known (type_of e)) || is_no_object e || is_integer (type_of e)) (not_so (is_convertible e) f.0)).1 in
+      let integer : is_integer (type_of e) ≡ true = either (not (is_known (type_of e)) || is_no_object e) (is_integer (type_of e)) c
+      (λ d. either (not (is_known (type_of e))) (is_no_object e) d (λ u. never (sym (ap not (full_is_known (type_of e) (full_type e right))) ∙ u)) (λ u. never (sym (no_object e (and_false (is_no_value e) f.1.0)) ∙ u))) (λ i. i) in
       and_from (is_integer_sort (sort_of (type_of e))) (is_enum n t) (integer_sort (type_of e) integer) given
   converts_so n t span (more e (more x es)) given f r v = never (not_so false f.0)
 
-  abbrev made_tuple : Exprs → Ty
-  made_tuple es = made maker_is.Tuple (tys (map seen (listed es)))
+  tuple_so : (t : Ty) (es : Exprs) → same t (tuple_type (map seen (listed es))) ≡ true → is_full t ≡ true → Valued es → tuple_of t es ≡ true
+  tuple_so t es given full v = by (are_parts (map seen (listed es))) (same_is t (tuple_type (map seen (listed es))) given)
+    where
+      by : (b : Bool) → t ≡ (if b then made maker_is.Tuple (tys (map seen (listed es))) else unknown) → tuple_of t es ≡ true
+      by true e = subst (λ u. tuple_of u es ≡ true) (sym e) (members_so es v)
+      by false e = never (not_unknown t full (ap is_unknown e))
 
   many_so : (op : ManyOp) (t : Ty) (span : Span) (es : Exprs) → is_container op ≡ true → many_made around op t es ≡ true → Fine (many_op_tests k m op span es) → is_full t ≡ true → all_hold is_right es ≡ true → Valued es → many_is_of around op es t ≡ true
-  many_so many_is.Tuple t span es row given f full r v =
-      subst (λ u. tuple_of u es ≡ true) (sym (same_is t (made_tuple es) given)) (members_so es v)
+  many_so many_is.Tuple t span es row given f full r v = tuple_so t es given full v
   many_so many_is.Vector t span es row given f full r v = (let w = row_whole maker_is.Vector t es given full in subst (λ u. vector_with u es ≡ true) (sym w.is) (elements_so w.of es w.all))
   many_so many_is.Set t span es row given f full r v = (let w = row_whole maker_is.Set t es given full in subst (λ u. set_with u es ≡ true) (sym w.is) (elements_so w.of es w.all))
   many_so many_is.Map t span es row given f full r v = (let p = and_parts (same t (map_type (listed es))) (is_even es) given in map_so t es p.0 p.1 full)
@@ -389,13 +392,11 @@ module _ (around : Around) (k : Known) (m : ℕ) where
   -- a place
   local_so : (op : LeafOp) (t : Ty) → changes_leaf k op ≡ true → leaf_made around op t ≡ true → not (word_leaf op) ≡ true → local_place around op t ≡ true
   local_so (leaf_is.Local l) t change given w = given
-  local_so (leaf_is.Nothing at) t change given w = never w
   local_so _ t change given w = never change
 
   member_so : (op : OneOp) (t : Ty) (a : Expr) → changes_one op ≡ true → one_made around op t a ≡ true → Fine (one_op_tests m t op a) → not (word_one op) ≡ true → member_place around op (type_of a) t ≡ true
   member_so (one_is.Field n) t a change given f w = subst (λ s. has_member around s n t ≡ true) (seen_is a f.1.0) given
   member_so (one_is.Variable n) t a change given f w = subst (λ s. has_member around s n t ≡ true) (seen_is a f.1.0) given
-  member_so (one_is.NoMember at) t a change given f w = never w
   member_so _ t a change given f w = never change
 
   element_so : (op : TwoOp) (s u t : Ty) → is_element op s ≡ true → two_is_of op s u t ≡ true → (is_index op && item_is s u t) ≡ true
@@ -406,7 +407,7 @@ module _ (around : Around) (k : Known) (m : ℕ) where
   -- the receiver of a method that changes it is a place
   abbrev ReceiverPasses : Exprs → Type 0
   ReceiverPasses none = Unit {0}
-  ReceiverPasses (more r es) = may_change k r ≡ true → (owner : Option ℕ) → owner_kept around owner r ≡ true → place_passes around owner r ≡ true
+  ReceiverPasses (more r es) = is_place k r ≡ true → (owner : Option ℕ) → owner_kept around owner r ≡ true → place_passes around owner r ≡ true
 
   -- a node of any number of parts passes
   abbrev kept_so : Ty → Exprs → ℕ → Bool
@@ -463,11 +464,11 @@ module _ (around : Around) (k : Known) (m : ℕ) where
         let fit = not_so (arguments_fit (k.target op (seen r)) 0 es) tests.1.1.1.0 in
         let a = arguments_of m (k.target op (seen r)) (slice_get takes) (λ i. asked.target op (seen r) i ∙ ap (λ u. slice_get (method_takes call u) i) own) (row_full takes (takes_full call s q.0 full)) 0 es fit tests.1.1.1.1 y.1 p.1 in
         let of_types = of_list takes es a.0 in
-        let valued : Valued all = ((past, has_type r tests.0), a.1) in
+        let valued : Valued all = ((past, no_regex_object r tests.0), a.1) in
         let each = parts valued in
         let change_so_far : changes call ≡ true → change_at t all call slot ≡ true =
         λ c.
-        (let may = not_so (may_change k r) (both_false (changes call) (not (may_change k r)) tests.1.1.0 c) in
+        (let may = not_so (is_place k r) (both_false (changes call) (not (is_place k r)) tests.1.1.0 c) in
         let kept = slot_local around.places slot in
         and_from (place_passes around kept r && exprs_pass around es) (change_is call (is_item_place r) s es t)
         (and_from (place_passes around kept r) (exprs_pass around es) (place may kept owner) (and_parts (expr_passes around r) (exprs_pass around es) each).1)
@@ -487,7 +488,7 @@ module _ (around : Around) (k : Known) (m : ℕ) where
         let past = tests.1.0 in
         let p = and_parts (is_sort (seen r) Units) (same t number) given in
         let own = same_is t number p.1 in
-        let each = parts ((past, has_type r tests.0), tt) in
+        let each = parts ((past, no_regex_object r tests.0), tt) in
         let receiver : is_sort (type_of r) Units ≡ true = subst (λ u. is_sort u Units ≡ true) (seen_is r past) p.0 in
         offset_row (offset_local around.places (is_self all)) (kept_so t all) (change_at t all) (exprs_pass around all && offset_is all t)
         (λ l e. and_from (exprs_pass around all) (local_is around l t) each (offset_found (is_self all) t l own e))
@@ -558,13 +559,13 @@ module _ (around : Around) (k : Known) (m : ℕ) where
       all_pass none n v = refl
       all_pass (more e es) n v =
           let p = and_parts (holds all_so e) (all_hold all_so es) n in
-          and_from (expr_passes around e) (exprs_pass around es) (passes e p.0 v.0.0 (no_regex (type_of e) v.0.1)) (all_pass es p.1 v.1)
+          and_from (expr_passes around e) (exprs_pass around es) (passes e p.0 v.0.0 v.0.1) (all_pass es p.1 v.1)
 
       receiver_passes : (es : Exprs) → all_hold all_so es ≡ true → ReceiverPasses es
       receiver_passes none n = tt
       receiver_passes (more r es) n = λ change owner kept. place_so r (and_parts (holds all_so r) (all_hold all_so es) n).0 change owner kept
 
-      pub place_so : (e : Expr) → holds all_so e ≡ true → may_change k e ≡ true → (owner : Option ℕ) → owner_kept around owner e ≡ true → place_passes around owner e ≡ true
+      pub place_so : (e : Expr) → holds all_so e ≡ true → is_place k e ≡ true → (owner : Option ℕ) → owner_kept around owner e ≡ true → place_passes around owner e ≡ true
       place_so (leaf h) n change owner kept = (let x = node_of (leaf h) n in local_so h.op h.ty change x.of_form (and_parts (not (word_leaf h.op)) (is_full h.ty) x.right).0)
       place_so (one h a) n change owner kept =
           let e = one h a in
@@ -576,7 +577,7 @@ module _ (around : Around) (k : Known) (m : ℕ) where
           (member_so h.op h.ty a change x.of_form x.tests (and_parts (not (word_one h.op)) (is_full h.ty) x.right).0)
       place_so (two h a b) n change owner kept =
           let e = two h a b in
-          let c = and_parts (is_element h.op (type_of a)) (may_change k a) change in
+          let c = and_parts (is_element h.op (type_of a)) (is_place k a) change in
           let p = and_parts (all_so e) (holds all_so a && holds all_so b) n in
           let q = and_parts (holds all_so a) (holds all_so b) p.1 in
           let x = node_of e p.0 in

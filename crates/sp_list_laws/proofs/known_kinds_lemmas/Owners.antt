@@ -19,7 +19,7 @@ use Rattle.sp_typed.specs.Exprs.{Expr, Exprs, leaf, one, two, three, many, none,
 use Rattle.sp_typed.specs.Nodes.{holds, all_hold}
 use Rattle.sp_operands.specs.Operands.{unknown, is_integer, is_boolean, first_type, sort_of, result_type, unary_type, second_type}
 use Rattle.sp_operands.specs.Literals.{is_over, is_past, seen}
-use Rattle.sp_operands.specs.Wholes.{may_hold, is_of, all_of, first_seen, second_seen, has_keys_alone, row_type, all_in_turn, map_type}
+use Rattle.sp_operands.specs.Wholes.{may_hold, is_of, all_of, first_seen, second_seen, has_keys_alone, row_type, all_in_turn, map_type, tuple_type}
 use Rattle.sp_typing_stmts.specs.Scopes.{Scope}
 use Rattle.sp_typing_stmts.specs.Owners.{is_at_hand, is_changeable, is_index, owner, owner_slot, with_owner, receiver_owner, changed_owner, with_slot_of, kept, all_kept}
 use Rattle.sp_method_types.specs.Methods.{method_gives, method_takes, unit_method_gives}
@@ -166,7 +166,7 @@ module _ (around : Around) where
       ap (λ s. same t (if same s (seen (plain b)) then s else unknown)) (seen_plain a) ∙ ap (λ s. same t (if same (seen a) s then seen a else unknown)) (seen_plain b)
 
   many_plain : (op : ManyOp) (t : Ty) (es : Exprs) → many_made around (with_slot_of op None) t (all_plain es) ≡ many_made around op t es
-  many_plain many_is.Tuple t es = ap (λ ss. same t (made maker_is.Tuple (tys ss))) (all_seen_plain es)
+  many_plain many_is.Tuple t es = ap (λ ss. same t (tuple_type ss)) (all_seen_plain es)
   many_plain many_is.Vector t es = ap (same t) (row_plain maker_is.Vector es)
   many_plain many_is.Set t es = ap (same t) (row_plain maker_is.Set es)
   many_plain many_is.Map t es = ap (λ u. same t u && is_even (all_plain es)) (map_plain es) ∙ ap (λ b. same t (map_type (listed es)) && b) (even_plain es)

@@ -12,7 +12,7 @@ use Rattle.sp_typed.specs.Exprs.{Expr, Exprs, none, more, leaf, one, two, three,
 use Rattle.sp_typed.specs.Nodes.{is_word}
 use Rattle.sp_operands.specs.Operands.{unknown, is_valueless, is_signed, is_integer, is_enum as is_enum_type, first_type}
 use Rattle.sp_operands.specs.Literals.{type_has, is_past, seen}
-use Rattle.sp_body_rules.specs.Values.{names_no_value, is_set_key, is_no_value, is_regex, knows}
+use Rattle.sp_body_rules.specs.Values.{is_sink, names_no_value, is_set_key, is_no_value, is_no_object, is_regex, knows}
 use Rattle.sp_list_laws.specs.known_types.Full.{is_full, is_right, is_unknown}
 use Rattle.sp_list_laws.proofs.known_types_lemmas.Full.{never, full_is_known}
 use Rattle.sp_list_laws.proofs.known_types_lemmas.Tests.{both_false, not_so}
@@ -147,7 +147,23 @@ pub and_false : (b : Bool) → (b && true) ≡ false → b ≡ false
 and_false true e = e
 and_false false e = e
 
--- several values, of which none is a literal past its type
+-- what has a value, and a sink, is no regular expression
+pub no_regex_value : (e : Expr) → is_no_value e ≡ false → is_regex (type_of e) ≡ false
+no_regex_value e n = no_regex (type_of e) (has_type e n)
+
+sink_is : (t : Ty) → is_sink t ≡ true → is_regex t ≡ false
+sink_is (word word_is.Sink) s = refl
+sink_is (word _) s = never s
+sink_is (made m ts) s = never s
+
+pub no_regex_object : (e : Expr) → is_no_object e ≡ false → is_regex (type_of e) ≡ false
+no_regex_object e n = by (is_sink (type_of e)) refl n
+  where
+    by : (b : Bool) → is_sink (type_of e) ≡ b → (is_no_value e && not b) ≡ false → is_regex (type_of e) ≡ false
+    by true s i = sink_is (type_of e) s
+    by false s i = no_regex_value e (and_false (is_no_value e) i)
+
+-- several values and sinks, of which none is a literal past its type
 abbrev pub Valued : Exprs → Type 0
 Valued none = Unit {0}
-Valued (more e es) = ((is_past e ≡ false) × (is_valueless (type_of e) ≡ false)) × Valued es
+Valued (more e es) = ((is_past e ≡ false) × (is_regex (type_of e) ≡ false)) × Valued es

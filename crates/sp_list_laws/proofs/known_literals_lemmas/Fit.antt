@@ -24,7 +24,7 @@ use Rattle.sp_operands.specs.Operands.{unknown}
 use Rattle.sp_operands.specs.Literals.{is_past, leaf_number, type_has, typed_leaf, seen}
 use Rattle.sp_body_rules.specs.Known.{Known}
 use Rattle.sp_body_rules.specs.Values.{written_tests}
-use Rattle.sp_body_rules.specs.ExprTests.{leaf_tests, one_op_tests, two_op_tests, all_value_tests, element_tests, elements_tests, row_tests, entries_tests, map_tests, argument_fits, arguments_fit, converts, call_tests, receiver_tests, method_tests, uncalled_tests, many_op_tests, changes_one, is_element, may_change, expr_tests}
+use Rattle.sp_body_rules.specs.ExprTests.{leaf_tests, one_op_tests, two_op_tests, all_value_tests, element_tests, elements_tests, row_tests, entries_tests, map_tests, argument_fits, arguments_fit, converts, call_tests, receiver_tests, method_tests, uncalled_tests, many_op_tests, changes_one, is_element, is_place, expr_tests}
 use Rattle.sp_emit_expr.specs.Literals.{NumberFits, LeafFits, number_behind, NegativeFits, OnlyIf, WhereItChanges, LiteralsFit, AllLiteralsFit, PlaceFits, ReceiverFits}
 use Rattle.sp_list_laws.specs.known_types.Clear.{none_hold}
 use Rattle.sp_list_laws.proofs.known_types_lemmas.Full.{never}
@@ -166,15 +166,15 @@ changed_part h (two i a b) c l = l
 changed_part h (three i x a b) c l = l
 changed_part h (many i es) c l = l
 
-pub place_fits : (k : Known) (e : Expr) → may_change k e ≡ true → LiteralsFit e → PlaceFits e
+pub place_fits : (k : Known) (e : Expr) → is_place k e ≡ true → LiteralsFit e → PlaceFits e
 place_fits k (leaf h) c l = tt
 place_fits k (one h a) c l = changed_part h a c l
-place_fits k (two h a b) c l = (place_fits k a (and_parts (is_element h.op (type_of a)) (may_change k a) c).1 l.0, l.1)
+place_fits k (two h a b) c l = (place_fits k a (and_parts (is_element h.op (type_of a)) (is_place k a) c).1 l.0, l.1)
 place_fits k (three h x a b) c l = tt
 place_fits k (many h es) c l = tt
 
-changed_fits : (k : Known) (b : Bool) (e : Expr) → (b && not (may_change k e)) ≡ false → LiteralsFit e → OnlyIf b (PlaceFits e)
-changed_fits k true e f l = place_fits k e (not_so (may_change k e) f) l
+changed_fits : (k : Known) (b : Bool) (e : Expr) → (b && not (is_place k e)) ≡ false → LiteralsFit e → OnlyIf b (PlaceFits e)
+changed_fits k true e f l = place_fits k e (not_so (is_place k e) f) l
 changed_fits k false e f l = tt
 
 receiver_fits : (k : Known) (m : ℕ) (op : ManyOp) (span : Span) (e : Expr) (es : Exprs) → Fine (many_op_tests k m op span (more e es)) → LiteralsFit e → WhereItChanges op (PlaceFits e)

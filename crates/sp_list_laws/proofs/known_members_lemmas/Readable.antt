@@ -39,7 +39,7 @@ use Rattle.sp_names.specs.Names.{path_names, path_means}
 use Rattle.sp_names.specs.Types.{or_unknown, meaning_type, type_in, mentions_in}
 use Rattle.sp_names.specs.Faults.{nothing_fault}
 use Rattle.sp_around.specs.Written.{is_type_sort}
-use Rattle.sp_around.specs.Arounds.{word_leaf, type_leaf, declared_at, meaning_at}
+use Rattle.sp_around.specs.Arounds.{word_leaf, type_leaf, declared_at, meaning_at, slice_of}
 use Rattle.sp_body_rules.specs.Known.{Known}
 use Rattle.sp_body_rules.specs.Values.{written_tests}
 use Rattle.sp_list_rules.specs.Fields.{spec_tests}
@@ -149,7 +149,7 @@ module _ (list : List Tree) (a : Answers list) (formed_list : list_all is_formed
 
   unknown_reads : (own : List Attribute) (at : Span) (t : Tree) → is_type list f m t ≡ true → type_in list f m t ≡ unknown → Reads own (unknown_read g worth at t)
   unknown_reads own at (node (form_is.Type type_is.Path) span (more path none)) is e h =
-      meaning_reads own at (trees.span_of path) path (path_means list f m path) (means_named list f m (path_names path)) is e h
+      meaning_reads own at (slice_of list (trees.span_of path) path (path_means list f m path)) path (path_means list f m path) (means_named list f m (path_names path)) is e h
   unknown_reads own at t is e h =
       let p = none_parts (written_tests m (g.written Whole t)) _ h.0 in
       no_unknown (type_in list f m t) (type_full list f m Whole t is (placed m (g.written Whole t).misplaced p.0) (each_has list f m has_type (mentions_in list m t))) e
@@ -211,7 +211,7 @@ module _ (list : List Tree) (a : Answers list) (formed_list : list_all is_formed
   base_reads (node (form_is.Base base_is.Unit) at (more path (more (row ts) none))) of h good =
       let w = path_means list f m path in
       let some = something m path w (none_parts (nothing_fault m path w) _ h.1).0 in
-      meaning_called good.own at (trees.span_of path) (trees.span_of path) path w _ (means_named list f m (path_names path)) some good.fine
+      meaning_called good.own at (trees.span_of path) (slice_of list (trees.span_of path) path w) path w _ (means_named list f m (path_names path)) some good.fine
   base_reads (node (form_is.Base base_is.Unit) at (more path (more absent z))) of h good = no_first (is_of group_is.Paths path) (are_formed (more path (more absent z))) h.0
   base_reads (node (form_is.Base base_is.Unit) at (more path (more (node form span y) z))) of h good = no_first (is_of group_is.Paths path) (are_formed (more path (more (node form span y) z))) h.0
   base_reads (node (form_is.Base base_is.Unit) at (more path (more (row ts) (more y z)))) of h good =

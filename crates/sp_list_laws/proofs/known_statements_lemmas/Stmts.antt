@@ -32,14 +32,14 @@ use Rattle.sp_operands.specs.Literals.{is_over, is_past, seen}
 use Rattle.sp_typing_stmts.specs.Statements.{element_type}
 use Rattle.sp_body_rules.specs.Known.{Known}
 use Rattle.sp_body_rules.specs.Values.{is_void, is_no_value, is_regex, knows, value_goes, target_tests, written_tests}
-use Rattle.sp_body_rules.specs.ExprTests.{index_tests, two_op_tests, changes_leaf, changes_one, may_change}
+use Rattle.sp_body_rules.specs.ExprTests.{index_tests, two_op_tests, changes_leaf, changes_one, is_place, may_change, may_change_in}
 use Rattle.sp_body_rules.specs.StmtTests.{is_sequence, differs, takes_target, assign_tests, has_changed_keys, key_change_tests, local_tests, return_tests, change_tests, bare_op_tests, valued_op_tests, print_tests, branches_tests, case_tests, cases_tests}
 use Rattle.sp_bodies.specs.Exprs.{slot_local}
 use Rattle.sp_list_laws.specs.known_types.Full.{is_full, is_right, is_bare, is_unknown}
 use Rattle.sp_list_laws.specs.known_types.Clear.{is_clear, any_op}
 use Rattle.sp_list_laws.specs.known_types.Stmts.{is_good, takes_key, each_holds, exprs_hold, all_exprs_hold, branch_exprs_hold, case_exprs_hold}
 use Rattle.sp_list_laws.proofs.known_types_lemmas.Full.{never, full_is_known}
-use Rattle.sp_list_laws.proofs.known_types_lemmas.Tests.{Fine, fine_parts, both_false, not_so, at_first, first_fine}
+use Rattle.sp_list_laws.proofs.known_types_lemmas.Tests.{Fine, fine_parts, both_false, not_so, at_first, first_fine, place_of, place_in}
 use Rattle.sp_list_laws.proofs.known_types_lemmas.Bodies.{Quiet, two_quiet, at_first as first_tests, behind}
 use Rattle.sp_list_laws.specs.known_literals.Widened.{widens_value}
 use Rattle.sp_list_laws.proofs.whole_list_lemmas.None.{holds_both}
@@ -60,16 +60,14 @@ use Rattle.sp_list_laws.specs.known_statements.Ready.{returns_so, local_ready, n
 -- a literal can't be changed
 leaf_within : (k : Known) (op : LeafOp) (over : Bool) → changes_leaf k op ≡ true → (number_leaf op && over) ≡ false
 leaf_within k (leaf_is.Local slot) over c = refl
-leaf_within k (leaf_is.Nothing span) over c = refl
 leaf_within k _ over c = never c
 
 one_within : (op : OneOp) (number over : Bool) → changes_one op ≡ true → (is_minus op && number && over) ≡ false
 one_within (one_is.Field n) number over c = refl
 one_within (one_is.Variable n) number over c = refl
-one_within (one_is.NoMember name) number over c = refl
 one_within _ number over c = never c
 
-changed_within : (k : Known) (e : Expr) → may_change k e ≡ true → is_past e ≡ false
+changed_within : (k : Known) (e : Expr) → is_place k e ≡ true → is_past e ≡ false
 changed_within k (leaf h) c = leaf_within k h.op (is_over (leaf h)) c
 changed_within k (one h a) c = one_within h.op (is_number a) (is_over (one h a)) c
 changed_within k (two h a b) c = refl
@@ -247,10 +245,10 @@ module _ (body : Body) (wanted : Option Ty) (k : Known) (m : ℕ) (asked : IsAsk
   container_so deletes (two_is.Binary op) span t a b given tests asks r s = never (sym asks.0)
 
   -- both of its parts are values
-  key_parts : (deletes : Bool) (op : TwoOp) (span : Span) (a b : Expr) → Fine (two_op_tests k m op a b) → Fine (key_change_tests k m deletes op span a) → (may_change k a ≡ true) × (is_no_value b ≡ false) × (is_past b ≡ false)
-  key_parts deletes two_is.Index span a b tests asks = (not_so (may_change k a) asks.1.0, tests.1.1.0, tests.1.1.1.0)
-  key_parts deletes (two_is.Item n) span a b tests asks = never (sym asks.0)
-  key_parts deletes (two_is.Binary op) span a b tests asks = never (sym asks.0)
+  key_parts : (deletes : Bool) (op : TwoOp) (span : Span) (a b : Expr) → Fine (two_op_tests k m op a b) → Fine (key_change_tests k m deletes op span a) → is_right a ≡ true → (is_place k a ≡ true) × (is_no_value b ≡ false) × (is_past b ≡ false)
+  key_parts deletes two_is.Index span a b tests asks r = (place_in k a r (not_so (may_change_in k a) asks.1.0), tests.1.1.0, tests.1.1.1.0)
+  key_parts deletes (two_is.Item n) span a b tests asks r = never (sym asks.0)
+  key_parts deletes (two_is.Binary op) span a b tests asks r = never (sym asks.0)
 
   key_so : (deletes : Bool) (owner : Option ℕ) (e : Expr) → holds ready e ≡ true → holds clear e ≡ true → is_good e ≡ true → owner_ready body wanted owner e ≡ true → Fine (change_tests k m deletes e) → key_passes body.around (not deletes) (slot_local body.around.places owner) e ≡ true
   key_so deletes owner (two h a b) i c g kept asks =
@@ -262,7 +260,7 @@ module _ (body : Body) (wanted : Option Ty) (k : Known) (m : ℕ) (asked : IsAsk
       let x = and_parts (holds clear a) (holds clear b) (and_parts (clear e) (holds clear a && holds clear b) c).1 in
       let y = and_parts (holds is_right a) (holds is_right b) (and_parts (holds is_right a && holds is_right b) (is_right e || is_bare e) g).0 in
       let tests = first_fine any_op k m e c in
-      let parts = key_parts deletes h.op h.span a b tests asks in
+      let parts = key_parts deletes h.op h.span a b tests asks (at_first is_right a y.0) in
       let found = container_so deletes h.op h.span h.ty a b made_here tests asks (at_first is_right a y.0) (at_first is_right b y.1) in
       let z = and_parts (is_index h.op) (is_key (not deletes) (type_of a) (type_of b)) found in
       and_from (place_passes body.around l a && pass b && is_index h.op) (is_key (not deletes) (type_of a) (type_of b))
@@ -323,9 +321,9 @@ module _ (body : Body) (wanted : Option Ty) (k : Known) (m : ℕ) (asked : IsAsk
       → (place_passes body.around (slot_local body.around.places owner) d && pass e && assigns op (type_of d) (type_of e)) ≡ true
   assign_so op owner d e i j targeted kept c x r s tests =
       let l = slot_local body.around.places owner in
-      let may = not_so (may_change k d) tests.1.1.0 in
-      let past = changed_within k d may in
       let first = at_first is_right d r in
+      let may = place_of k d first (not_so (may_change k d) tests.1.1.0) in
+      let past = changed_within k d may in
       let own = seen_is d past in
       let t = target_so (seen d) e (subst (λ u. is_full u ≡ true) (sym own) (full_type d first)) j x s targeted tests.1.1.1 in
       let takes = asked_so d (takes_target op (type_of d)) first past tests.1.0 in

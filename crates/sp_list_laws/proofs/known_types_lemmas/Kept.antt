@@ -13,7 +13,7 @@ use Rattle.sp_typed.specs.Exprs.{Expr, leaf, one, span_of, number_leaf, is_minus
 use Rattle.sp_typed.specs.Nodes.{holds, word_leaf, word_one}
 use Rattle.sp_operands.specs.Operands.{unknown}
 use Rattle.sp_operands.specs.Literals.{is_negative, can_take, taken, is_past, seen, literal_word}
-use Rattle.sp_typing.specs.Typing.{one_at, widened, to_target, to_maybe, each_to, alike, agreeing, lead, maybe_taken, led, in_turn}
+use Rattle.sp_typing.specs.Typing.{one_at, widened, to_target, to_maybe, each_to, alike, agreeing, leading, led, in_turn}
 use Rattle.sp_body_rules.specs.Known.{Known}
 use Rattle.sp_body_rules.specs.ExprTests.{leaf_tests, one_op_tests}
 use Rattle.sp_list_laws.specs.known_types.Full.{is_full, is_right, is_bare}
@@ -126,10 +126,6 @@ module _ (only : OneOp → Bool) (k : Known) (m : ℕ) where
   maybe_holds None e h = h
   maybe_holds (Some t) e h = target_holds t e h
 
-  maybe_taken_holds : (t : Option Ty) (e : Expr) → Holds only k m e → Holds only k m (maybe_taken t e)
-  maybe_taken_holds None e h = h
-  maybe_taken_holds (Some t) e h = taken_holds t e h
-
   -- two that agree
   literal_integer : (b : Bool) → IsInteger (literal_word b)
   literal_integer true = refl
@@ -158,16 +154,16 @@ module _ (only : OneOp → Bool) (k : Known) (m : ℕ) where
   each_holds target n [] h = tt
   each_holds target n (e ∷ es) h = (maybe_holds (target n) e h.0, each_holds target (suc n) es h.1)
 
-  all_taken : (t : Option Ty) (es : List Expr) → HoldsAll es → HoldsAll (map (maybe_taken t) es)
+  all_taken : (t : Ty) (es : List Expr) → HoldsAll es → HoldsAll (map (taken t) es)
   all_taken t [] h = tt
-  all_taken t (e ∷ es) h = (maybe_taken_holds t e h.0, all_taken t es h.1)
+  all_taken t (e ∷ es) h = (taken_holds t e h.0, all_taken t es h.1)
 
   pub led_holds : (es : List Expr) → HoldsAll es → HoldsAll (led es)
-  led_holds es h = all_taken (lead es) es h
+  led_holds es h = all_taken (leading es) es h
 
-  pub turn_holds : (s t : Option Ty) (ps : List (Expr × Expr)) → HoldsPairs ps → HoldsAll (in_turn s t ps)
+  pub turn_holds : (s t : Ty) (ps : List (Expr × Expr)) → HoldsPairs ps → HoldsAll (in_turn s t ps)
   turn_holds s t [] h = tt
-  turn_holds s t (p ∷ ps) h = (maybe_taken_holds s p.0 h.0.0, (maybe_taken_holds t p.1 h.0.1, turn_holds s t ps h.1))
+  turn_holds s t (p ∷ ps) h = (taken_holds s p.0 h.0.0, (taken_holds t p.1 h.0.1, turn_holds s t ps h.1))
 
   pub joined_holds : (es fs : List Expr) → HoldsAll es → HoldsAll fs → HoldsAll (es ++ fs)
   joined_holds [] fs h i = i

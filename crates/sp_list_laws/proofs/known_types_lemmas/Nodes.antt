@@ -31,7 +31,7 @@ use Rattle.sp_list_laws.specs.known_types.Full.{is_full, are_full, is_right}
 use Rattle.sp_list_laws.specs.known_types.Clear.{is_clear}
 use Rattle.sp_list_laws.specs.known_types.Given.{is_member_op, is_member, is_decided}
 use Rattle.sp_list_laws.proofs.known_types_lemmas.Full.{never, integer_full, result_full, vector_first, map_second}
-use Rattle.sp_list_laws.proofs.known_types_lemmas.Tests.{Fine, Good, Clear, Holds, Value, fine_parts, first_fine, first_stands, value_of, full_of, seen_is, seen_full, knows_it, whole_of, right_when, both_false, not_so, not_misplaced}
+use Rattle.sp_list_laws.proofs.known_types_lemmas.Tests.{Fine, Good, Clear, Holds, Value, fine_parts, first_fine, first_stands, object_of, value_of, full_of, seen_is, seen_full, knows_it, whole_of, right_when, both_false, not_so, not_misplaced}
 use Rattle.sp_list_laws.proofs.known_types_lemmas.Kept.{target_holds, agreeing_holds}
 
 -- a member of a tuple
@@ -182,7 +182,7 @@ module _ (only : OneOp → Bool) (k : Known) (m : ℕ) where
   pub no_member : {X : Type 0} (span : Span) (t : Ty) (name : Span) (e : Expr) → Holds only k m e → Clear only k m (one_at span t (one_is.NoMember name) e) → X
   no_member span t name e h c =
       let f = first_fine only k m (one_at span t (one_is.NoMember name) e) c in
-      let v = value_of only k m e h (inside_one span t (one_is.NoMember name) e c) f.0 f.1.0 in
+      let v = object_of only k m e h (inside_one span t (one_is.NoMember name) e c) f.0 f.1.0 in
       never (sym f.1.1.0 ∙ knows_it e v)
 
   found_holds : (span : Span) (t : Ty) (op : OneOp) (e : Expr) → Holds only k m e → is_member_op op ≡ true → is_full t ≡ true → Holds only k m (one_at span t op e)

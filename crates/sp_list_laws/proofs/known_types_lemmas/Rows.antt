@@ -20,11 +20,10 @@ use Rattle.sp_typed.specs.Exprs.{Expr, leaf, one, two, three, many, exprs, type_
 use Rattle.sp_typed.specs.Nodes.{holds, all_hold, word_many}
 use Rattle.sp_typing.specs.declared.context.Callable.{Callable}
 use Rattle.sp_typing.specs.Contexts.{Around}
-use Rattle.sp_operands.specs.Operands.{unknown}
-use Rattle.sp_operands.specs.Operands as typing
+use Rattle.sp_operands.specs.Operands.{unknown, is_valueless}
 use Rattle.sp_operands.specs.Literals.{seen, is_past}
-use Rattle.sp_operands.specs.Wholes.{may_hold, is_of, all_of, has_keys_alone, row_type, all_in_turn, are_entries, map_type}
-use Rattle.sp_typing.specs.Typing.{one_at, many_at, each_to, row_at, in_turn, lead_half, map_of, map_at, tuple_at, no_call, callee_op, call_by, call_at, method_of, started, new_by, new_at}
+use Rattle.sp_operands.specs.Wholes.{may_hold, are_parts, tuple_type, is_of, all_of, has_keys_alone, row_type, all_in_turn, are_entries, map_type}
+use Rattle.sp_typing.specs.Typing.{one_at, many_at, each_to, row_at, in_turn, leading_half, map_of, map_at, tuple_at, no_call, callee_op, call_by, call_at, method_of, started, new_by, new_at}
 use Rattle.sp_body_rules.specs.Known.{Known}
 use Rattle.sp_body_rules.specs.Values.{is_no_value, knows, is_new}
 use Rattle.sp_body_rules.specs.ExprTests.{unlike, all_value_tests, elements_tests, row_tests, entries_tests, map_tests, argument_tests, connects}
@@ -32,7 +31,7 @@ use Rattle.sp_list_laws.specs.known_types.Full.{is_full, are_full, is_right, is_
 use Rattle.sp_list_laws.specs.known_types.Clear.{is_clear}
 use Rattle.sp_list_laws.specs.known_types.Given.{is_method_op}
 use Rattle.sp_list_laws.proofs.known_types_lemmas.Full.{never, full_is_known}
-use Rattle.sp_list_laws.proofs.known_types_lemmas.Tests.{Fine, Good, Clear, Holds, Value, first_fine, value_of, bare_is_none, bare_is_unknown, valueless_same, full_of, seen_is, seen_full, knows_it, whole_of, right_when, both_false, not_so, is_whole, inside, at_first}
+use Rattle.sp_list_laws.proofs.known_types_lemmas.Tests.{Fine, Good, Clear, Holds, Value, first_fine, object_of, value_of, bare_is_none, bare_is_unknown, valued_by, full_of, seen_is, seen_full, knows_it, whole_of, right_when, both_false, not_so, is_whole, inside, at_first}
 use Rattle.sp_list_laws.proofs.known_types_lemmas.Kept.{HoldsAll, HoldsPairs, each_holds, turn_holds, joined_holds}
 use Rattle.sp_list_laws.proofs.known_types_lemmas.Nodes.{no_member, chosen_full}
 use Rattle.sp_list_laws.proofs.known_types_lemmas.Functions.{function_op, function_of}
@@ -72,11 +71,25 @@ module _ (only : OneOp → Bool) (k : Known) (m : ℕ) where
   seen_all [] v = refl
   seen_all (e ∷ es) v = and_from (is_full (seen e)) (are_full (tys (map seen es))) (seen_full e v.0) (seen_all es v.1)
 
+  -- a value is of a type that parts may have
+  may_of : (keyed : Bool) (e : Expr) → Value e → is_no_value e ≡ false → (not keyed || is_key (type_of e)) ≡ true → may_hold keyed (type_of e) ≡ true
+  may_of keyed e v n s =
+      let t = type_of e in
+      let suits = not keyed || is_key t in
+      and_from (is_known t) (not (is_valueless t) && suits) (full_is_known t (full_of e v)) (and_from (not (is_valueless t)) suits (ap not (valued_by e n)) s)
+
+  parts_may : (es : List Expr) → Values es → Fine (all_value_tests m (exprs es)) → are_parts (map seen es) ≡ true
+  parts_may [] v f = refl
+  parts_may (e ∷ es) v f =
+      and_from (may_hold false (seen e)) (are_parts (map seen es)) (ap (may_hold false) (seen_is e v.0.within) ∙ may_of false e v.0 f.0 refl) (parts_may es v.1 f.1.1)
+
   pub tuple_holds : (span : Span) (es : List Expr) → HoldsAll only k m es → Holds only k m (tuple_at span es)
   tuple_holds span es h c =
-      let t = made maker_is.Tuple (tys (map seen es)) in
-      let v = all_values es h (parts_of span t many_is.Tuple es c) (first_fine only k m (tuple_at span es) c) in
-      many_good span t many_is.Tuple es (whole_all es v) refl (seen_all es v)
+      let t = tuple_type (map seen es) in
+      let f = first_fine only k m (tuple_at span es) c in
+      let v = all_values es h (parts_of span t many_is.Tuple es c) f in
+      many_good span t many_is.Tuple es (whole_all es v) refl
+      (chosen_full (are_parts (map seen es)) (made maker_is.Tuple (tys (map seen es))) (parts_may es v f) (seen_all es v))
 
   -- vectors and sets
   elements_values : (keyed : Bool) (first : Expr) (es : List Expr) → HoldsAll only k m es → ClearAll es → Fine (elements_tests m keyed first (exprs es)) → Values es
@@ -90,12 +103,6 @@ module _ (only : OneOp → Bool) (k : Known) (m : ℕ) where
       let alike = same (type_of first) (type_of e) in
       and_from alike (not (is_past e)) (not_so alike (both_false (knows first && knows e) (not alike) u (and_from (knows first) (knows e) (knows_it first v) (knows_it e w)))) (ap not w.within)
 
-  may_of : (keyed : Bool) (e : Expr) → Value e → (knows e && not (not keyed || is_key (type_of e))) ≡ false → may_hold keyed (type_of e) ≡ true
-  may_of keyed e v w =
-      let t = type_of e in
-      let suits = not keyed || is_key t in
-      and_from (is_known t) (not (typing.is_valueless t) && suits) (full_is_known t (full_of e v)) (and_from (not (typing.is_valueless t)) suits (ap not (valueless_same t ∙ v.valued)) (right_when e suits v w))
-
   elements_of : (keyed : Bool) (first : Expr) (es : List Expr) → Value first → Values es → Fine (elements_tests m keyed first (exprs es)) → all_of (type_of first) es ≡ true
   elements_of keyed first [] v vs f = refl
   elements_of keyed first (e ∷ es) v vs f =
@@ -108,7 +115,7 @@ module _ (only : OneOp → Bool) (k : Known) (m : ℕ) where
       let row : Ty → Ty = λ t. if may_hold keyed t && all_of t all then made maker (types.more t types.none) else unknown in
       ap (λ t. is_full (row t)) (seen_is e v.0.within)
       ∙ chosen_full (may_hold keyed (type_of e) && all_of (type_of e) all) (made maker (types.more (type_of e) types.none))
-      (and_from (may_hold keyed (type_of e)) (all_of (type_of e) all) (may_of keyed e v.0 f.1.1.0) (elements_of keyed e all v.0 v f)) full
+      (and_from (may_hold keyed (type_of e)) (all_of (type_of e) all) (may_of keyed e v.0 f.0 (right_when e (not keyed || is_key (type_of e)) v.0 f.1.1.0)) (elements_of keyed e all v.0 v f)) full
 
   one_part : (t : Ty) → is_full t ≡ true → (is_full t && true) ≡ true
   one_part t f = and_from (is_full t) true f refl
@@ -155,7 +162,7 @@ module _ (only : OneOp → Bool) (k : Known) (m : ℕ) where
       ap (λ k. is_full (map_by k (seen d))) (seen_is e v.0.within)
       ∙ ap (λ v. is_full (map_by s v)) (seen_is d v.1.0.within)
       ∙ chosen_full (are_entries s t all) (made maker_is.Map (types.more s (types.more t types.none)))
-      (and_from (may_hold true s) (may_hold false t && all_in_turn true s t all) (may_of true e v.0 f.1.1.0) (and_from (may_hold false t) (all_in_turn true s t all) (may_of false d v.1.0 f.1.1.1.1.1.1.0) (entries_of true e d all v.0 v.1.0 v f)))
+      (and_from (may_hold true s) (may_hold false t && all_in_turn true s t all) (may_of true e v.0 f.0 (right_when e (is_key s) v.0 f.1.1.0)) (and_from (may_hold false t) (all_in_turn true s t all) (may_of false d v.1.0 f.1.1.1.1.0 refl) (entries_of true e d all v.0 v.1.0 v f)))
       (and_from (is_full s) (is_full t && true) (full_of e v.0) (one_part t (full_of d v.1.0)))
 
   map_values : (span : Span) (es : List Expr) → HoldsAll only k m es → ClearAll es → Fine (map_tests m span (exprs es)) → Values es × (is_full (map_type es) ≡ true)
@@ -172,7 +179,7 @@ module _ (only : OneOp → Bool) (k : Known) (m : ℕ) where
       many_good span t many_is.Map es (whole_all es v.0) refl v.1
 
   pub pairs_hold : (span : Span) (ps : List (Expr × Expr)) → HoldsPairs only k m ps → Holds only k m (map_at span ps)
-  pairs_hold span ps h = map_holds span (in_turn (lead_half false ps) (lead_half true ps) ps) (turn_holds only k m (lead_half false ps) (lead_half true ps) ps h)
+  pairs_hold span ps h = map_holds span (in_turn (leading_half false ps) (leading_half true ps) ps) (turn_holds only k m (leading_half false ps) (leading_half true ps) ps h)
 
   -- arguments: of those that are right without a value of their own there are none
   bare_argument : (starts : Bool) (e : Expr) → is_bare e ≡ true → (is_no_value e && not (starts && is_new (type_of e))) ≡ true
@@ -251,21 +258,21 @@ module _ (only : OneOp → Bool) (k : Known) (m : ℕ) where
       let op = many_is.Method method slot in
       let f = first_fine only k m (many_at span t op (object ∷ es)) c in
       let all = parts_of span t op (object ∷ es) c in
-      let v = value_of only k m object h (first_of object es all) f.0 f.1.0 in
+      let v = object_of only k m object h (first_of object es all) f.0 f.1.0 in
       let r = arguments_right false es hs (rest_of object es all) f.1.1.1.1 in
       many_good span t op (object ∷ es) (and_from (holds is_right object) (all_hold is_right (exprs es)) (whole_of object v) r) refl (full v)
   method_good span t (many_is.OfUnit method name) object es is full h hs c =
       let op = many_is.OfUnit method name in
       let f = first_fine only k m (many_at span t op (object ∷ es)) c in
       let all = parts_of span t op (object ∷ es) c in
-      let v = value_of only k m object h (first_of object es all) f.0 f.1.0 in
+      let v = object_of only k m object h (first_of object es all) f.0 f.1.0 in
       let r = arguments_right (connects op) es hs (rest_of object es all) f.1.1.1.1 in
       many_good span t op (object ∷ es) (and_from (holds is_right object) (all_hold is_right (exprs es)) (whole_of object v) r) refl (full v)
   method_good span t (many_is.OfSink method) object es is full h hs c =
       let op = many_is.OfSink method in
       let f = first_fine only k m (many_at span t op (object ∷ es)) c in
       let all = parts_of span t op (object ∷ es) c in
-      let v = value_of only k m object h (first_of object es all) f.0 f.1.0 in
+      let v = object_of only k m object h (first_of object es all) f.0 f.1.0 in
       let r = arguments_right (connects op) es hs (rest_of object es all) f.1.1.1 in
       many_good span t op (object ∷ es) (and_from (holds is_right object) (all_hold is_right (exprs es)) (whole_of object v) r) refl (full v)
   method_good span t _ object es is full h hs c = never is

@@ -10,11 +10,10 @@ use Rattle.sp_typed.specs.declared.words.OneOp.{OneOp}
 use Rattle.sp_typed.specs.Exprs.{Expr, leaf, one, two, three, many, type_of}
 use Rattle.sp_typed.specs.Nodes.{holds, all_hold, is_word}
 use Rattle.sp_operands.specs.Operands.{unknown, is_valueless}
-use Rattle.sp_operands.specs.Operands as typing
 use Rattle.sp_operands.specs.Literals.{seen, is_past}
 use Rattle.sp_body_rules.specs.Known.{Known}
-use Rattle.sp_body_rules.specs.Values.{names_no_value, is_no_value, knows, is_set_key, misplaced_at}
-use Rattle.sp_body_rules.specs.ExprTests.{expr_tests}
+use Rattle.sp_body_rules.specs.Values.{is_sink, names_no_value, is_no_value, is_no_object, knows, is_set_key, misplaced_at}
+use Rattle.sp_body_rules.specs.ExprTests.{is_fixed, is_place, may_change, may_change_in, expr_tests}
 use Rattle.sp_list_laws.specs.known_types.Full.{is_full, is_right, is_bare, is_unknown, holds_inside}
 use Rattle.sp_list_laws.specs.known_types.Clear.{none_hold, is_clear, names_something, may_stand}
 use Rattle.sp_list_laws.proofs.known_types_lemmas.Full.{never, full_is_known, unknown_is}
@@ -129,26 +128,18 @@ or_second : (a b : Bool) → (a || b) ≡ false → b ≡ false
 or_second true b e = never (sym e)
 or_second false b e = e
 
-pub valueless_same : (t : Ty) → typing.is_valueless t ≡ is_valueless t
-valueless_same (word word_is.Void) = refl
-valueless_same (word word_is.Regex) = refl
-valueless_same (word word_is.New) = refl
-valueless_same (word _) = refl
-valueless_same (made m ts) = refl
-
-valued_by : (e : Expr) → is_no_value e ≡ false → is_valueless (type_of e) ≡ false
+pub valued_by : (e : Expr) → is_no_value e ≡ false → is_valueless (type_of e) ≡ false
 valued_by (leaf h) n = or_second (names_no_value h.op) (is_valueless h.ty) n
 valued_by (one h a) n = n
 valued_by (two h a b) n = or_second (is_set_key h.op (type_of a)) (is_valueless h.ty) n
 valued_by (three h c a b) n = n
 valued_by (many h es) n = n
 
--- a value whose type is full, and that is no literal past it
+-- a value or a sink whose type is full, and that is no literal past it
 pub record Value (e : Expr) : Type 0 where
   pub right : is_right e ≡ true
   pub within : is_past e ≡ false
   pub inside : holds_inside is_right e ≡ true
-  pub valued : is_valueless (type_of e) ≡ false
 
 pub right_of : (e : Expr) → Good e → is_no_value e ≡ false → is_right e ≡ true
 right_of e g n = elim g.1 [
@@ -156,10 +147,23 @@ right_of e g n = elim g.1 [
   | inr b ↦ never (sym n ∙ bare_is_none e b)
 ]
 
-pub value_of : (only : OneOp → Bool) (k : Known) (m : ℕ) (e : Expr) → Holds only k m e → Clear only k m e → is_no_value e ≡ false → is_past e ≡ false → Value e
-value_of only k m e h c n p =
+pub no_object : (e : Expr) → is_no_value e ≡ false → is_no_object e ≡ false
+no_object e n = ap (λ b. b && not (is_sink (type_of e))) n
+
+bare_is_no_object : (e : Expr) → is_bare e ≡ true → is_no_object e ≡ true
+bare_is_no_object e b = and_from (is_no_value e) (not (is_sink (type_of e))) (bare_is_none e b) (ap (λ t. not (is_sink t)) (bare_is_unknown e b))
+
+pub object_of : (only : OneOp → Bool) (k : Known) (m : ℕ) (e : Expr) → Holds only k m e → Clear only k m e → is_no_object e ≡ false → is_past e ≡ false → Value e
+object_of only k m e h c n p =
     let g = h c in
-    record { right = right_of e g n; within = p; inside = g.0; valued = valued_by e n }
+    let r : is_right e ≡ true = elim g.1 [
+      | inl r ↦ r
+      | inr b ↦ never (sym n ∙ bare_is_no_object e b)
+    ] in
+    record { right = r; within = p; inside = g.0 }
+
+pub value_of : (only : OneOp → Bool) (k : Known) (m : ℕ) (e : Expr) → Holds only k m e → Clear only k m e → is_no_value e ≡ false → is_past e ≡ false → Value e
+value_of only k m e h c n p = object_of only k m e h c (no_object e n) p
 
 pub full_of : (e : Expr) → Value e → is_full (type_of e) ≡ true
 full_of e v = (and_parts (not (is_word e)) (is_full (type_of e)) v.right).1
@@ -179,3 +183,23 @@ whole_of e v = is_whole is_right e v.inside v.right
 -- what is asked of a value whose type is known
 pub right_when : (e : Expr) (b : Bool) → Value e → (knows e && not b) ≡ false → b ≡ true
 right_when e b v w = not_so b (both_false (knows e) (not b) w (knows_it e v))
+
+-- what may be changed is a place where its type is known, and so is what an element of may be changed
+placed : (p known fixed : Bool) → known ≡ true → (p || (not known && fixed)) ≡ true → p ≡ true
+placed true known fixed k c = refl
+placed false true fixed k c = never c
+placed false false fixed k c = never k
+
+placed_in : (p known : Bool) → known ≡ true → (p || not known) ≡ true → p ≡ true
+placed_in true known k c = refl
+placed_in false true k c = never c
+placed_in false false k c = never k
+
+known_type : (e : Expr) → is_right e ≡ true → is_known (type_of e) ≡ true
+known_type e r = full_is_known (type_of e) (and_parts (not (is_word e)) (is_full (type_of e)) r).1
+
+pub place_of : (k : Known) (e : Expr) → is_right e ≡ true → may_change k e ≡ true → is_place k e ≡ true
+place_of k e r c = placed (is_place k e) (is_known (type_of e)) (not (is_fixed e)) (known_type e r) c
+
+pub place_in : (k : Known) (e : Expr) → is_right e ≡ true → may_change_in k e ≡ true → is_place k e ≡ true
+place_in k e r c = placed_in (is_place k e) (is_known (type_of e)) (known_type e r) c

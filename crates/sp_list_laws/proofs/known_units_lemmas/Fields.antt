@@ -55,9 +55,10 @@ use Rattle.sp_solver.specs.Told.{told}
 use Rattle.sp_names.specs.Types.{or_unknown}
 use Rattle.sp_body_rules.specs.Known.{Known}
 use Rattle.sp_body_rules.specs.ExprTests.{arguments_fit, argument_tests, call_tests}
-use Rattle.sp_body_rules.specs.StmtTests.{is_sink}
+use Rattle.sp_body_rules.specs.Values.{arrow_tests}
 use Rattle.sp_list_rules.specs.Lists.{all_tests, option_tests}
 use Rattle.sp_list_rules.specs.Names.{expr_names, attribute_names, spec_names, field_names}
+use Rattle.sp_list_rules.specs.Bodies.{inside_tests}
 use Rattle.sp_list_rules.specs.Fields.{asked_tests, amount_tests, truth_tests, attribute_tests, exprs_inside, spec_tests, reads_void, is_bytes_field, sink_tests, field_tests}
 use Rattle.sp_around.specs.Sources.{questions}
 use Rattle.sp_hook_rows.specs.HookRows.{is_some_tree}
@@ -87,7 +88,7 @@ use Rattle.sp_list_laws.proofs.known_members_lemmas.Contexts.{FullMembers}
 use Rattle.sp_list_laws.proofs.known_members_lemmas.Fields.{AllFull, v, last, IsGood, element_good, is_conversion, base_full, behind_full}
 use Rattle.sp_list_laws.proofs.known_units_lemmas.Closed.{base_closed, conversion_closed}
 use Rattle.sp_list_laws.proofs.known_units_lemmas.ReadKinds.{is_row, counted_kinds, counted_elements, counted_rows}
-use Rattle.sp_list_laws.proofs.known_units_lemmas.Values.{value_known, asked_value, role_value, arguments_known, typed_here, meant_here, all_here}
+use Rattle.sp_list_laws.proofs.known_units_lemmas.Values.{value_known, arrow_known, asked_value, role_value, arguments_known, typed_here, meant_here, all_here}
 use Rattle.sp_stored_types.specs.inside.Kept.{none_else}
 
 not_not : (b : Bool) → not (not b) ≡ true → b ≡ true
@@ -206,7 +207,7 @@ module _ (list : List Tree) (a : Answers list) (formed_list : list_all is_formed
   sink_known (row ts) of h takes names tests = never of
   sink_known (node form span ts) of h takes names tests =
       let e = typed g (node form span ts) in
-      value_known k m e (here (node form span ts) of h) (asked_value k m (is_sink (type_of e)) e names (and_parts (not (not takes)) (none_hold (asked_tests k m (is_sink (type_of e)) e)) tests).1)
+      arrow_known k m e (here (node form span ts) of h) names (and_parts (not (not takes)) (none_hold (arrow_tests m e ++ inside_tests k m e)) tests).1
 
   -- attributes
   value_holds : (r : Role) (read stored : Ty) (e : Tree) → is_of group_is.Expressions e ≡ true → Fine e → is_placed r read stored ≡ true → Holds any_op k m (value_typed g r read stored e)

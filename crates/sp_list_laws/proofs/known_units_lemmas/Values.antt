@@ -23,7 +23,7 @@ use Rattle.sp_typing_units.specs.declared.roles.Role.TheVariants as role_is
 use Rattle.sp_surroundings.specs.Decorators.{meant}
 use Rattle.sp_solver.specs.Told.{told}
 use Rattle.sp_body_rules.specs.Known.{Known}
-use Rattle.sp_body_rules.specs.Values.{is_no_value, value_goes, value_tests, target_tests, value_span}
+use Rattle.sp_body_rules.specs.Values.{is_sink, is_no_value, is_no_object, value_goes, value_tests, wrong, arrow_tests, target_tests, value_span}
 use Rattle.sp_rules.specs.Faults.{at}
 use Rattle.sp_body_rules.specs.ExprTests.{expr_tests, is_not_constant, argument_fits, arguments_fit, argument_tests}
 use Rattle.sp_body_rules.specs.StmtTests.{differs, case_tests}
@@ -42,7 +42,7 @@ use Rattle.sp_list_laws.specs.known_types.Given.{IsKnown}
 use Rattle.sp_list_laws.proofs.known_types_lemmas.Full.{never}
 use Rattle.sp_list_laws.proofs.known_types_lemmas.Formed.{formed_expr}
 use Rattle.sp_list_laws.proofs.known_types_lemmas.Kept.{HoldsAll, taken_holds}
-use Rattle.sp_list_laws.proofs.known_types_lemmas.Tests.{Holds, value_of, whole_of}
+use Rattle.sp_list_laws.proofs.known_types_lemmas.Tests.{Holds, value_of, whole_of, object_of}
 use Rattle.sp_list_laws.proofs.known_types_lemmas.Typed.{typed_holds}
 use Rattle.sp_list_laws.specs.whole_list.Whole.{is_known as is_known_value}
 use Rattle.sp_list_laws.proofs.whole_list_lemmas.Heads.{parameters_full}
@@ -94,6 +94,16 @@ module _ (k : Known) (m : ℕ) where
   asked_value right e names h =
       let p = right_parts m right e (inside_tests k m e) h in
       record { names = names; valued = p.0; within = p.1; tests = p.2 }
+
+  -- an expression behind an arrow, which is a sink
+  pub arrow_known : (e : Expr) → Holds any_op k m e → none_hold (expr_names m e) ≡ true → none_hold (arrow_tests m e ++ inside_tests k m e) ≡ true → is_known_value e ≡ true
+  arrow_known e h names tests =
+      let wrong_one = wrong m (is_sink (type_of e)) e in
+      let p = and_parts (not (is_no_object e)) (not (is_past e) && (not wrong_one.0 && none_hold (inside_tests k m e))) tests in
+      let q = and_parts (not (is_past e)) (not wrong_one.0 && none_hold (inside_tests k m e)) p.1 in
+      let r = and_parts (not wrong_one.0) (none_hold (inside_tests k m e)) q.1 in
+      let clear = expr_clear k m e names (none_all (expr_tests k m) (nodes e) r.1) in
+      whole_of e (object_of any_op k m e h clear (not-true (is_no_object e) p.0) (not-true (is_past e) q.0))
 
   pub constant_value : (right : Bool) (e : Expr) → none_hold (expr_names m e) ≡ true → none_hold (constant_tests k m right e) ≡ true → IsAsked e
   constant_value right e names h =

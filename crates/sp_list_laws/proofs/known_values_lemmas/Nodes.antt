@@ -38,7 +38,7 @@ use Rattle.sp_constants.specs.Values.{number_in, value_of as constant_of}
 use Rattle.sp_list_laws.specs.known_types.Full.{is_full, is_right}
 use Rattle.sp_list_laws.specs.known_types.Clear.{is_clear}
 use Rattle.sp_list_laws.proofs.known_types_lemmas.Full.{never}
-use Rattle.sp_list_laws.proofs.known_types_lemmas.Tests.{Clear, Value, first_fine, fine_parts, value_of, at_first, inside, seen_is, right_when}
+use Rattle.sp_list_laws.proofs.known_types_lemmas.Tests.{Clear, Value, first_fine, fine_parts, valued_by, value_of, at_first, inside, seen_is, right_when}
 use Rattle.sp_list_laws.specs.known_values.Values.{is_of, is_regex, fits}
 use Rattle.sp_list_laws.proofs.known_values_lemmas.Shapes.{number_told}
 use Rattle.sp_list_laws.proofs.known_values_lemmas.Outcomes.{one_told}
@@ -185,7 +185,7 @@ module _ (only : OneOp → Bool) (k : Known) (m : ℕ) (v : Values) where
   pub part : (e : Expr) → Told e → Clear only k m e → holds is_right e ≡ true → is_no_value e ≡ false → is_past e ≡ false → Part e
   part e t c r n p =
       let is : Value e = value_of only k m e (λ d. (inside is_right e r, inl (at_first is_right e r))) c n p in
-      record { value = is; fit = t c r p; plain = valued_is_plain (type_of e) is.valued }
+      record { value = is; fit = t c r p; plain = valued_is_plain (type_of e) (valued_by e n) }
 
   one_clear : (span : Span) (t : Ty) (op : OneOp) (e : Expr) → Clear only k m (one_at span t op e) → Clear only k m e
   one_clear span t op e c = (and_parts (is_clear only k m (one_at span t op e)) (holds (is_clear only k m) e) c).1

@@ -28,10 +28,10 @@ use Rattle.sp_typing.specs.Contexts.{Around}
 use Rattle.sp_typing.specs.declared.context.Member.{Member}
 use Rattle.sp_typing.specs.declared.context.Callable.{Callable}
 use Rattle.sp_operands.specs.Operands.{unknown, boolean}
-use Rattle.sp_operands.specs.Literals.{seen, is_past}
-use Rattle.sp_operands.specs.Wholes.{may_hold, all_of as whole_of, all_in_turn, first_seen, second_seen, row_type, map_type, are_entries}
+use Rattle.sp_operands.specs.Literals.{taken, seen, is_past}
+use Rattle.sp_operands.specs.Wholes.{may_hold, are_parts, tuple_type, all_of as whole_of, all_in_turn, first_seen, second_seen, row_type, map_type, are_entries}
 use Rattle.sp_operands.specs.Wholes as wholes
-use Rattle.sp_typing.specs.Typing.{one_at, many_at, tuple_at, row_at, map_of, map_at, in_turn, lead_half, led, lead, maybe_taken, member_at, set_op, set_member_at, call_by, callee_op, call_at, each_to, method_of, new_by, new_at, started}
+use Rattle.sp_typing.specs.Typing.{one_at, many_at, tuple_at, row_at, map_of, map_at, in_turn, leading_half, led, leading, member_at, set_op, set_member_at, call_by, callee_op, call_at, each_to, method_of, new_by, new_at, started}
 use Rattle.sp_body_rules.specs.Known.{Known}
 use Rattle.sp_body_rules.specs.ExprTests.{all_value_tests, elements_tests, entries_tests, row_tests, map_tests}
 use Rattle.sp_constants.specs.Known.{Known as Values}
@@ -212,8 +212,12 @@ module _ (only : OneOp → Bool) (k : Known) (m : ℕ) (v : Values) where
   pub tuple_told : (span : Span) (es : List Expr) → ToldAll es → Told only k m v (tuple_at span es)
   tuple_told span es h c r p =
       let t = made maker_is.Tuple (tys (map seen es)) in
-      let right = right_parts span t many_is.Tuple es r in
-      members_told (map seen es) (all_values v (exprs es)) (members_fit es h (clear_parts span t many_is.Tuple es c) right.1 (first_fine only k m (tuple_at span es) c))
+      let u = tuple_type (map seen es) in
+      let os = all_values v (exprs es) in
+      let right = right_parts span u many_is.Tuple es r in
+      let whole = if_full (are_parts (map seen es)) t (and_parts true (is_full u) right.0).1 in
+      ap (λ b. fits (if b then t else unknown) (many_value many_is.Tuple os)) whole
+      ∙ members_told (map seen es) os (members_fit es h (clear_parts span u many_is.Tuple es c) right.1 (first_fine only k m (tuple_at span es) c))
 
   -- vectors and sets
   elements_fit : (keyed : Bool) (first : Expr) (t : Ty) (es : List Expr) → ToldAll es → ClearAll es → RightAll es → Fine (elements_tests m keyed first (exprs es)) → whole_of t es ≡ true → FitAll (map (λ (e : Expr). t) es) (all_values v (exprs es))
@@ -297,23 +301,20 @@ module _ (only : OneOp → Bool) (k : Known) (m : ℕ) (v : Values) where
       ap (λ b. fits (if b then made maker_is.Map (types.more s (types.more t types.none)) else unknown) (many_value many_is.Map os)) whole ∙ pairs_told s t es os all
 
   -- literals in rows take the type of the first that is none
-  maybe_taken_told : (t : Option Ty) (e : Expr) → Told only k m v e → Told only k m v (maybe_taken t e)
-  maybe_taken_told None e h = h
-  maybe_taken_told (Some t) e h = taken_told only k m v t e h
 
-  all_taken : (t : Option Ty) (es : List Expr) → ToldAll es → ToldAll (map (maybe_taken t) es)
+  all_taken : (t : Ty) (es : List Expr) → ToldAll es → ToldAll (map (taken t) es)
   all_taken t [] h = tt
-  all_taken t (e ∷ es) h = (maybe_taken_told t e h.0, all_taken t es h.1)
+  all_taken t (e ∷ es) h = (taken_told only k m v t e h.0, all_taken t es h.1)
 
   pub led_told : (es : List Expr) → ToldAll es → ToldAll (led es)
-  led_told es h = all_taken (lead es) es h
+  led_told es h = all_taken (leading es) es h
 
-  turn_told : (s t : Option Ty) (ps : List (Expr × Expr)) → ToldPairs ps → ToldAll (in_turn s t ps)
+  turn_told : (s t : Ty) (ps : List (Expr × Expr)) → ToldPairs ps → ToldAll (in_turn s t ps)
   turn_told s t [] h = tt
-  turn_told s t (p ∷ ps) h = (maybe_taken_told s p.0 h.0.0, (maybe_taken_told t p.1 h.0.1, turn_told s t ps h.1))
+  turn_told s t (p ∷ ps) h = (taken_told only k m v s p.0 h.0.0, (taken_told only k m v t p.1 h.0.1, turn_told s t ps h.1))
 
   pub map_told : (span : Span) (ps : List (Expr × Expr)) → ToldPairs ps → Told only k m v (map_at span ps)
-  map_told span ps h = map_told_of span (in_turn (lead_half false ps) (lead_half true ps) ps) (turn_told (lead_half false ps) (lead_half true ps) ps h)
+  map_told span ps h = map_told_of span (in_turn (leading_half false ps) (leading_half true ps) ps) (turn_told (leading_half false ps) (leading_half true ps) ps h)
 
   -- members
   pub member_told : (span name : Span) (o : Option Member) (e : Expr) → ((x : Member) → o ≡ Some x → only x.op ≡ true → is_member_op x.op ≡ true) → Told only k m v (member_at span name o e)

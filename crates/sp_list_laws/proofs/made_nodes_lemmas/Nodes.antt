@@ -30,12 +30,12 @@ use Rattle.sp_typed.specs.Exprs.{Expr, leaf, one, two, three, many, exprs, span_
 use Rattle.sp_typed.specs.Nodes.{holds, all_hold}
 use Rattle.sp_operands.specs.Operands.{unknown, boolean, key_of, first_type, sort_of, result_type, second_type}
 use Rattle.sp_operands.specs.Literals.{can_take, taken, is_negative, seen, literal_word}
-use Rattle.sp_operands.specs.Wholes.{row_type, map_type}
+use Rattle.sp_operands.specs.Wholes.{row_type, map_type, tuple_type}
 use Rattle.sp_typing.specs.declared.places.Place.TheVariants as place_is
 use Rattle.sp_typing.specs.declared.context.Member.{Member}
 use Rattle.sp_typing.specs.declared.context.Callable.{Callable}
 use Rattle.sp_typing.specs.Contexts.{Around}
-use Rattle.sp_typing.specs.Typing.{typed, typed_all, pairs_typed, name_of, number_in, one_at, size_type, cast_type, signed_type, unary_op, choice_type, empty_type, both_written, call_of, widened, to_target, to_maybe, each_to, alike, agreeing, lead, maybe_taken, led, lead_half, in_turn, unary_at, joined, is_membership, binary_at, choice_at, member_at, set_op, set_member_at, part_at, item_of, item_at, index_at, no_call, callee_op, call_by, call_at, method_of, started, new_by}
+use Rattle.sp_typing.specs.Typing.{typed, typed_all, pairs_typed, name_of, number_in, one_at, size_type, cast_type, signed_type, unary_op, choice_type, empty_type, both_written, call_of, widened, to_target, to_maybe, each_to, alike, agreeing, leading, led, leading_half, in_turn, unary_at, joined, is_membership, binary_at, choice_at, member_at, set_op, set_member_at, part_at, item_of, item_at, index_at, no_call, callee_op, call_by, call_at, method_of, started, new_by}
 use Rattle.sp_list_laws.specs.made_nodes.Makes.{Makes}
 
 module _ (g : Around) (p : Expr → Bool) (makes : Makes g p) where
@@ -88,10 +88,6 @@ module _ (g : Around) (p : Expr → Bool) (makes : Makes g p) where
   maybe_is None e i = i
   maybe_is (Some t) e i = target_is t e i
 
-  maybe_taken_is : (t : Option Ty) (e : Expr) → Is e → Is (maybe_taken t e)
-  maybe_taken_is None e i = i
-  maybe_taken_is (Some t) e i = taken_is t e i
-
   abbrev Both : Expr × Expr → Type 0
   Both q = Is q.0 × Is q.1
 
@@ -119,12 +115,12 @@ module _ (g : Around) (p : Expr → Bool) (makes : Makes g p) where
   each_is target n [] i = refl
   each_is target n (e ∷ es) i = more_are (to_maybe (target n) e) (each_to target (suc n) es) (maybe_is (target n) e (first_is e es i)) (each_is target (suc n) es (rest_are e es i))
 
-  all_taken : (t : Option Ty) (es : List Expr) → AllAre es → AllAre (map (maybe_taken t) es)
+  all_taken : (t : Ty) (es : List Expr) → AllAre es → AllAre (map (taken t) es)
   all_taken t [] i = refl
-  all_taken t (e ∷ es) i = more_are (maybe_taken t e) (map (maybe_taken t) es) (maybe_taken_is t e (first_is e es i)) (all_taken t es (rest_are e es i))
+  all_taken t (e ∷ es) i = more_are (taken t e) (map (taken t) es) (taken_is t e (first_is e es i)) (all_taken t es (rest_are e es i))
 
   led_are : (es : List Expr) → AllAre es → AllAre (led es)
-  led_are es i = all_taken (lead es) es i
+  led_are es i = all_taken (leading es) es i
 
   both_are : (es fs : List Expr) → AllAre es → AllAre fs → AllAre (es ++ fs)
   both_are [] fs i j = j
@@ -134,10 +130,10 @@ module _ (g : Around) (p : Expr → Bool) (makes : Makes g p) where
   PairsAre [] = Unit {0}
   PairsAre (q ∷ ps) = Both q × PairsAre ps
 
-  turn_are : (s t : Option Ty) (ps : List (Expr × Expr)) → PairsAre ps → AllAre (in_turn s t ps)
+  turn_are : (s t : Ty) (ps : List (Expr × Expr)) → PairsAre ps → AllAre (in_turn s t ps)
   turn_are s t [] i = refl
   turn_are s t (q ∷ ps) i =
-      more_are (maybe_taken s q.0) (maybe_taken t q.1 ∷ in_turn s t ps) (maybe_taken_is s q.0 i.0.0) (more_are (maybe_taken t q.1) (in_turn s t ps) (maybe_taken_is t q.1 i.0.1) (turn_are s t ps i.1))
+      more_are (taken s q.0) (taken t q.1 ∷ in_turn s t ps) (taken_is s q.0 i.0.0) (more_are (taken t q.1) (in_turn s t ps) (taken_is t q.1 i.0.1) (turn_are s t ps i.1))
 
   -- nodes
   unary_is_so : (span : Span) (op : UnaryOp) (e : Expr) → Is e → Is (unary_at span op e)
@@ -233,7 +229,7 @@ module _ (g : Around) (p : Expr → Bool) (makes : Makes g p) where
     typed_holds (node (form_is.Expr (expr_is.Regex text)) span none) = makes.regex span text
     typed_holds (node (form_is.Expr expr_is.Tuple) span ts) =
         let es = typed_all g ts in
-        many_is_so (record { span = span; ty = made maker_is.Tuple (tys (map seen es)); op = many_is.Tuple }) es (makes.tuple span es) (all_are ts)
+        many_is_so (record { span = span; ty = tuple_type (map seen es); op = many_is.Tuple }) es (makes.tuple span es) (all_are ts)
     typed_holds (node (form_is.Expr expr_is.Vector) span ts) =
         let es = led (typed_all g ts) in
         many_is_so (record { span = span; ty = row_type maker_is.Vector es; op = many_is.Vector }) es (makes.vector span es) (led_are (typed_all g ts) (all_are ts))
@@ -242,8 +238,8 @@ module _ (g : Around) (p : Expr → Bool) (makes : Makes g p) where
         many_is_so (record { span = span; ty = row_type maker_is.Set es; op = many_is.Set }) es (makes.set span es) (led_are (typed_all g ts) (all_are ts))
     typed_holds (node (form_is.Expr expr_is.Map) span ts) =
         let ps = pairs_typed g ts in
-        let es = in_turn (lead_half false ps) (lead_half true ps) ps in
-        many_is_so (record { span = span; ty = map_type es; op = many_is.Map }) es (makes.entries span (lead_half false ps) (lead_half true ps) ps) (turn_are (lead_half false ps) (lead_half true ps) ps (pairs_are ts))
+        let es = in_turn (leading_half false ps) (leading_half true ps) ps in
+        many_is_so (record { span = span; ty = map_type es; op = many_is.Map }) es (makes.entries span (leading_half false ps) (leading_half true ps) ps) (turn_are (leading_half false ps) (leading_half true ps) ps (pairs_are ts))
     typed_holds (node (form_is.Expr expr_is.EmptyVector) span (more t none)) = makes.empty span (empty_type maker_is.Vector (g.type_in place_is.Value t ∷ [])) (g.written place_is.Value t)
     typed_holds (node (form_is.Expr expr_is.EmptySet) span (more t none)) = makes.empty span (empty_type maker_is.Set (g.type_in place_is.Key t ∷ [])) (g.written place_is.Key t)
     typed_holds (node (form_is.Expr expr_is.EmptyMap) span (more s (more t none))) =

@@ -26,9 +26,9 @@ use Rattle.sp_typed.specs.Stmts.{Stmt, Stmts, Branches, Cases, bare, valued, ass
 use Rattle.sp_typed.specs.StmtNodes.{stmts_in, stmts_in_all, stmts_in_branches, stmts_in_cases, nodes_hold, stmts_hold, branches_hold, cases_hold}
 use Rattle.sp_typing_stmts.specs.Owners.{is_index}
 use Rattle.sp_body_rules.specs.Known.{Known}
-use Rattle.sp_body_rules.specs.Values.{is_new, is_void, is_no_value, written_tests}
+use Rattle.sp_body_rules.specs.Values.{is_new, is_void, is_sink, is_no_value, is_no_object, written_tests}
 use Rattle.sp_operands.specs.Operands.{is_valueless}
-use Rattle.sp_body_rules.specs.ExprTests.{one_op_tests, two_op_tests, all_value_tests, elements_tests, entries_tests, argument_tests, is_element, may_change, many_op_tests}
+use Rattle.sp_body_rules.specs.ExprTests.{one_op_tests, two_op_tests, all_value_tests, elements_tests, entries_tests, argument_tests, is_element, is_place, many_op_tests}
 use Rattle.sp_body_rules.specs.StmtTests.{local_tests, return_tests, change_tests, valued_op_tests, print_tests, branches_tests, case_tests, cases_tests}
 use Rattle.sp_bodies.specs.Exprs.{is_item_place}
 use Rattle.sp_list_laws.specs.known_types.Full.{is_full, is_right, is_bare, holds_inside}
@@ -50,6 +50,18 @@ valued_new (made m ts) h = refl
 
 no_new : (e : Expr) → is_no_value e ≡ false → is_new (type_of e) ≡ false
 no_new e h = valued_new (type_of e) (has_type e h)
+
+sink_new : (t : Ty) → is_sink t ≡ true → is_new t ≡ false
+sink_new (word word_is.Sink) h = refl
+sink_new (word _) h = never h
+sink_new (made m ts) h = never h
+
+object_new : (e : Expr) → is_no_object e ≡ false → is_new (type_of e) ≡ false
+object_new e h = by (is_sink (type_of e)) refl h
+  where
+    by : (b : Bool) → is_sink (type_of e) ≡ b → (is_no_value e && not b) ≡ false → is_new (type_of e) ≡ false
+    by true is i = sink_new (type_of e) is
+    by false is i = no_new e (and_false (is_no_value e) i)
 
 void_new : (t : Ty) → not (is_void t) ≡ false → is_new t ≡ false
 void_new (word word_is.Void) h = refl
@@ -121,9 +133,9 @@ module _ (k : Known) (m : ℕ) where
   parts_new (many_is.Convert n) t span es early f = arguments_new es f.1
   parts_new (many_is.New of path) t span es early f = arguments_new es f.1
   parts_new (many_is.Method method slot) t span none early f = tt
-  parts_new (many_is.Method method slot) t span (more e es) early f = (no_new e f.0, arguments_new es f.1.1.1.1)
+  parts_new (many_is.Method method slot) t span (more e es) early f = (object_new e f.0, arguments_new es f.1.1.1.1)
   parts_new (many_is.OfUnit method name) t span none early f = tt
-  parts_new (many_is.OfUnit unit_is.Offset name) t span (more e es) early f = (no_new e f.0, arguments_new es f.1.1.1.1)
+  parts_new (many_is.OfUnit unit_is.Offset name) t span (more e es) early f = (object_new e f.0, arguments_new es f.1.1.1.1)
   parts_new (many_is.OfUnit _ name) t span (more e es) early f = never early
   parts_new (many_is.OfSink method) t span es early f = never early
   parts_new many_is.NoCall t span none early f = tt
@@ -135,7 +147,7 @@ module _ (k : Known) (m : ℕ) where
   one_new one_is.Complement t a early f = no_new a f.0
   one_new one_is.Size t a early f = no_new a f.0
   one_new (one_is.Cast w) t a early f = no_new a (fine_parts (written_tests m w) _ f).1.1.0
-  one_new (one_is.NoMember name) t a early f = no_new a f.0
+  one_new (one_is.NoMember name) t a early f = object_new a f.0
   one_new one_is.Widen t a early f = not_true (is_new (type_of a)) early
   one_new (one_is.Field n) t a early f = no_new a f.0
   one_new (one_is.Variable n) t a early f = no_new a f.0
@@ -154,14 +166,14 @@ module _ (k : Known) (m : ℕ) where
   no_element (two_is.Binary op) t b early change = sym change
   no_element (two_is.Item n) t b early change = sym change
 
-  last_place : (r : Expr) → not (is_item r) ≡ true → not (may_change k r) ≡ false → not (is_item_place r) ≡ true
+  last_place : (r : Expr) → not (is_item r) ≡ true → not (is_place k r) ≡ false → not (is_item_place r) ≡ true
   last_place (leaf h) early change = refl
   last_place (one h a) early change = refl
-  last_place (two h a b) early change = no_element h.op (type_of a) (may_change k a) early change
+  last_place (two h a b) early change = no_element h.op (type_of a) (is_place k a) early change
   last_place (three h c a b) early change = refl
   last_place (many h es) early change = refl
 
-  keeps_place : (method : Method) (r : Expr) → not (drops_last method && is_item r) ≡ true → (changes method && not (may_change k r)) ≡ false → not (drops_last method && is_item_place r) ≡ true
+  keeps_place : (method : Method) (r : Expr) → not (drops_last method && is_item r) ≡ true → (changes method && not (is_place k r)) ≡ false → not (drops_last method && is_item_place r) ≡ true
   keeps_place method_is.PopBack r early change = last_place r early change
   keeps_place _ r early change = refl
 

@@ -30,7 +30,7 @@ use Rattle.sp_operands.specs.Literals.{can_take, taken, is_negative, seen, is_pa
 use Rattle.sp_typing.specs.declared.context.Member.{Member}
 use Rattle.sp_typing.specs.declared.context.Callable.{Callable}
 use Rattle.sp_typing.specs.Contexts.{Around}
-use Rattle.sp_typing.specs.Typing.{typed, typed_all, pairs_typed, name_of, one_at, widened, to_target, to_maybe, each_to, alike, agreeing, lead, maybe_taken, lead_half, in_turn, unary_at, joined, is_membership, binary_at, choice_at, member_at, set_op, set_member_at, part_at, item_of, item_at, index_at, no_call, callee_op, call_by, call_at, method_of, started, new_by, new_at}
+use Rattle.sp_typing.specs.Typing.{typed, typed_all, pairs_typed, name_of, one_at, widened, to_target, to_maybe, each_to, alike, agreeing, leading, leading_half, in_turn, unary_at, joined, is_membership, binary_at, choice_at, member_at, set_op, set_member_at, part_at, item_of, item_at, index_at, no_call, callee_op, call_by, call_at, method_of, started, new_by, new_at}
 use Rattle.sp_body_rules.specs.Values.{is_new}
 use Rattle.sp_unbuilt.specs.Constructs.{is_late_unit_method, is_sink_method, is_late_method, text_of, is_index, pops_inside, tests_at}
 use Rattle.sp_unbuilt.specs.Unbuilt.{tests_in, tests_among}
@@ -135,10 +135,6 @@ pub maybe_early : (t : Option Ty) (e : Expr) → Early e → Early (to_maybe t e
 maybe_early None e i = i
 maybe_early (Some t) e i = target_early t e i
 
-maybe_taken_early : (t : Option Ty) (e : Expr) → Early e → Early (maybe_taken t e)
-maybe_taken_early None e i = i
-maybe_taken_early (Some t) e i = taken_early t e i
-
 abbrev Both : Expr × Expr → Type 0
 Both q = Early q.0 × Early q.1
 
@@ -169,10 +165,6 @@ pub all_taken_early : (t : Ty) (es : List Expr) → AllEarly es → AllEarly (ma
 all_taken_early t [] i = refl
 all_taken_early t (e ∷ es) i = more_early (taken t e) (map (taken t) es) (taken_early t e (first_early e es i)) (all_taken_early t es (rest_early e es i))
 
-led_by : (t : Option Ty) (es : List Expr) → AllEarly es → AllEarly (map (maybe_taken t) es)
-led_by t [] i = refl
-led_by t (e ∷ es) i = more_early (maybe_taken t e) (map (maybe_taken t) es) (maybe_taken_early t e (first_early e es i)) (led_by t es (rest_early e es i))
-
 both_early : (es fs : List Expr) → AllEarly es → AllEarly fs → AllEarly (es ++ fs)
 both_early [] fs i j = j
 both_early (e ∷ es) fs i j = more_early e (es ++ fs) (first_early e es i) (both_early es fs (rest_early e es i) j)
@@ -181,10 +173,10 @@ abbrev PairsEarly : List (Expr × Expr) → Type 0
 PairsEarly [] = Unit {0}
 PairsEarly (q ∷ ps) = Both q × PairsEarly ps
 
-turn_early : (s t : Option Ty) (ps : List (Expr × Expr)) → PairsEarly ps → AllEarly (in_turn s t ps)
+turn_early : (s t : Ty) (ps : List (Expr × Expr)) → PairsEarly ps → AllEarly (in_turn s t ps)
 turn_early s t [] i = refl
 turn_early s t (q ∷ ps) i =
-    more_early (maybe_taken s q.0) (maybe_taken t q.1 ∷ in_turn s t ps) (maybe_taken_early s q.0 i.0.0) (more_early (maybe_taken t q.1) (in_turn s t ps) (maybe_taken_early t q.1 i.0.1) (turn_early s t ps i.1))
+    more_early (taken s q.0) (taken t q.1 ∷ in_turn s t ps) (taken_early s q.0 i.0.0) (more_early (taken t q.1) (in_turn s t ps) (taken_early t q.1 i.0.1) (turn_early s t ps i.1))
 
 -- nodes of two parts and of three
 two_early : (a b : Expr) → Early a → Early b → (holds is_early a && holds is_early b) ≡ true
@@ -409,11 +401,11 @@ module _ (g : Around) (early : AreEarly g) where
       typed_early (node (form_is.Expr (expr_is.Bytes x)) span none) h = refl
       typed_early (node (form_is.Expr (expr_is.Regex x)) span none) h = refl
       typed_early (node (form_is.Expr expr_is.Tuple) span ts) h = all_early ts (inside text m (form_is.Expr expr_is.Tuple) span ts h)
-      typed_early (node (form_is.Expr expr_is.Vector) span ts) h = led_by (lead (typed_all g ts)) (typed_all g ts) (all_early ts (inside text m (form_is.Expr expr_is.Vector) span ts h))
-      typed_early (node (form_is.Expr expr_is.Set) span ts) h = led_by (lead (typed_all g ts)) (typed_all g ts) (all_early ts (inside text m (form_is.Expr expr_is.Set) span ts h))
+      typed_early (node (form_is.Expr expr_is.Vector) span ts) h = all_taken_early (leading (typed_all g ts)) (typed_all g ts) (all_early ts (inside text m (form_is.Expr expr_is.Vector) span ts h))
+      typed_early (node (form_is.Expr expr_is.Set) span ts) h = all_taken_early (leading (typed_all g ts)) (typed_all g ts) (all_early ts (inside text m (form_is.Expr expr_is.Set) span ts h))
       typed_early (node (form_is.Expr expr_is.Map) span ts) h =
           let ps = pairs_typed g ts in
-          turn_early (lead_half false ps) (lead_half true ps) ps (pairs_early ts (inside text m (form_is.Expr expr_is.Map) span ts h))
+          turn_early (leading_half false ps) (leading_half true ps) ps (pairs_early ts (inside text m (form_is.Expr expr_is.Map) span ts h))
       typed_early (node (form_is.Expr expr_is.EmptyVector) span (more t none)) h = refl
       typed_early (node (form_is.Expr expr_is.EmptySet) span (more t none)) h = refl
       typed_early (node (form_is.Expr expr_is.EmptyMap) span (more s (more t none))) h = refl

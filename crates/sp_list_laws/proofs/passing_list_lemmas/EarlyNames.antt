@@ -43,7 +43,7 @@ use Rattle.sp_typing.specs.Names.{single_name}
 use Rattle.sp_surroundings.specs.Parameters.{numbered_maybe, parameter_at, parameter_leaf, or_outside, with_parameters}
 use Rattle.sp_around.specs.Members.{UnitMember, field_member, named_in, named_among, is_called, firsts, unit_items, members_of, unit_in, declared_unit, unit_declaration, unit_members, numbered, kinds_of, range_number, bitfield_width, bitfield_tree}
 use Rattle.sp_method_types.specs.Methods.{told, by_order, begins_with_order, bytes_methods, text_methods, vector_methods, are_two, get_method, map_methods, method_gives, unit_methods, unit_method_gives, sink_methods, library_call, unit_call, sink_call, method_of, base_ten, utf8, replace, left_out_of}
-use Rattle.sp_around.specs.Arounds.{Facts, kind_member, some_member, unit_member, width_type, bit_member, member_of, declared_at, meaning_at, left_out_by, around as module_names}
+use Rattle.sp_around.specs.Arounds.{Facts, kind_member, some_member, unit_member, width_type, bit_member, member_of, declared_at, meaning_at, slice_of, left_out_by, around as module_names}
 use Rattle.sp_unbuilt.specs.Constructs.{is_late_unit_method, is_sink_method}
 use Rattle.sp_list_laws.proofs.known_types_lemmas.Full.{never}
 use Rattle.sp_list_laws.proofs.whole_list_lemmas.Modules.{none_found, some_found}
@@ -345,8 +345,8 @@ module _ (list : List Tree) (built : AllOf (λ (d : Declaration). IsBuilt d.tree
 
     pub module_early : AreEarly (module_names list facts m)
     module_early = record {
-      path = λ span path. meaning_leaf span path (path_means list facts.answers m path);
-      named = λ span path. meaning_leaf span path (path_means list facts.answers m path);
+      path = λ span path. meaning_leaf (slice_of list span path (path_means list facts.answers m path)) path (path_means list facts.answers m path);
+      named = λ span path. meaning_leaf (slice_of list span path (path_means list facts.answers m path)) path (path_means list facts.answers m path);
       itself = λ span. refl;
       current = λ span. refl;
       left_out = all_left_out;

@@ -32,7 +32,7 @@ use Rattle.sp_typing.specs.Names.{single_name}
 use Rattle.sp_surroundings.specs.Parameters.{numbered_maybe, parameter_at, parameter_leaf, or_outside, with_parameters}
 use Rattle.std.specs.Prelude.{slice_get}
 use Rattle.sp_method_types.specs.Methods.{base_ten, utf8, replace, left_out_of}
-use Rattle.sp_around.specs.Arounds.{Facts, declared_at, meaning_at, left_out_by, around as module_names}
+use Rattle.sp_around.specs.Arounds.{Facts, declared_at, meaning_at, slice_of, left_out_by, around as module_names}
 use Rattle.sp_list_context.specs.Contexts.{facts, in_module}
 use Rattle.sp_checked_list.specs.Settled.{Answers}
 use Rattle.sp_checked_list.specs.Lists.{typed_of}
@@ -86,8 +86,8 @@ module _ (list : List Tree) (facts : Facts) (m : ℕ) where
 
   pub module_widens : AreWidened (module_names list facts m)
   module_widens = record {
-    path = λ span path. meaning_still span path (path_means list facts.answers m path);
-    named = λ span path. meaning_still span path (path_means list facts.answers m path);
+    path = λ span path. meaning_still (slice_of list span path (path_means list facts.answers m path)) path (path_means list facts.answers m path);
+    named = λ span path. meaning_still (slice_of list span path (path_means list facts.answers m path)) path (path_means list facts.answers m path);
     itself = λ span. refl;
     current = λ span. refl;
     member = λ t name found e. no_widen found.op (member_op list facts.stored t name found e);

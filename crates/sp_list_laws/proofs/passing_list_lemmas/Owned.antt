@@ -34,7 +34,7 @@ use Rattle.sp_surroundings.specs.Decorators.{with_self}
 use Rattle.sp_typing.specs.Names.{single_name}
 use Rattle.sp_surroundings.specs.Parameters.{numbered_maybe, parameter_at, parameter_leaf, or_outside, with_parameters}
 use Rattle.sp_method_types.specs.Methods.{base_ten, utf8, replace, left_out_of}
-use Rattle.sp_around.specs.Arounds.{Facts, declared_at, meaning_at, left_out_by, around as module_names}
+use Rattle.sp_around.specs.Arounds.{Facts, declared_at, meaning_at, slice_of, left_out_by, around as module_names}
 use Rattle.sp_list_laws.specs.made_nodes.Makes.{Makes}
 use Rattle.sp_list_laws.proofs.made_nodes_lemmas.Nodes.{typed_holds}
 use Rattle.sp_list_laws.specs.fit_expr.Around.{Around}
@@ -87,8 +87,8 @@ module _ (around : Around) where
 
     pub module_owned : AreOwned (module_names list facts m)
     module_owned = record {
-      path = λ span path. meaning_owned span path (path_means list facts.answers m path);
-      named = λ span path. meaning_owned span path (path_means list facts.answers m path);
+      path = λ span path. meaning_owned (slice_of list span path (path_means list facts.answers m path)) path (path_means list facts.answers m path);
+      named = λ span path. meaning_owned (slice_of list span path (path_means list facts.answers m path)) path (path_means list facts.answers m path);
       itself = λ span. refl;
       current = λ span. refl;
       left_out = all_owned;

@@ -24,7 +24,7 @@ use Rattle.sp_names.specs.declared.sort.Meaning.{Meaning}
 use Rattle.sp_names.specs.declared.sort.Meaning.TheVariants as meaning_is
 use Rattle.sp_names.specs.Declarations.{rows, sort_at}
 use Rattle.sp_names.specs.Names.{path_means}
-use Rattle.sp_around.specs.Arounds.{stored_by, declared_at, meaning_at}
+use Rattle.sp_around.specs.Arounds.{stored_by, declared_at, meaning_at, slice_of}
 use Rattle.sp_operands.specs.Literals.{is_past}
 use Rattle.sp_body_rules.specs.Known.{Known}
 use Rattle.sp_rules.specs.declared.rule.Rule.TheVariants as rule_is
@@ -105,7 +105,7 @@ module _ (list : List Tree) (a : Answers list) (formed : list_all is_formed list
       let valued = and_parts (not (is_no_value e)) (not (is_past e) && (not w.0 && true)) p.0 in
       let within = and_parts (not (is_past e)) (not w.0 && true) valued.1 in
       let inside = (and_parts (not constant_.0) (none_hold (inside_tests k m e)) p.1).1 in
-      let clear = all_clear constant_op k m e (expr_named m e names) (meaning_stands list f (constant_type list f known) (span_of path) path (path_means list f m path)) inside in
+      let clear = all_clear constant_op k m e (expr_named m e names) (meaning_stands list f (constant_type list f known) (slice_of list (span_of path) path (path_means list f m path)) path (path_means list f m path)) inside in
       let tree = node (form_is.Expr expr_is.Path) (span_of path) (more path none) in
       let holding = typed_holds (home m) constant_op k m (is_type list f m) (is_told list f known m) (paths_are_known m) tree (tree_told list f known (typed_of list a) (are_unbroken list a formed unbroken) m path) in
       whole_of e (value_of constant_op k m e holding clear (not-true (is_no_value e) valued.0) (not-true (is_past e) within.0))

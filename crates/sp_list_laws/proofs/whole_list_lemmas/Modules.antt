@@ -36,7 +36,7 @@ use Rattle.sp_typing.specs.declared.places.Place.TheVariants as place_is
 use Rattle.sp_around.specs.Heads.{function_gives}
 use Rattle.sp_around.specs.Members.{UnitMember, unit_members, numbered, kinds_of, range_number, bitfield_width, bitfield_tree}
 use Rattle.sp_method_types.specs.Methods.{told, begins_with_order, by_order, bytes_methods, text_methods, vector_methods, are_two, get_method, map_methods, method_gives, unit_methods, unit_method_gives, sink_methods, library_call, unit_call, sink_call, method_of, base_ten, utf8, replace, left_out_of}
-use Rattle.sp_around.specs.Arounds.{Facts, word_leaf, type_leaf, declared_at, meaning_at, kind_member, some_member, unit_member, width_type, bit_member, member_of, left_out_by, path_at, around}
+use Rattle.sp_around.specs.Arounds.{Facts, word_leaf, type_leaf, declared_at, meaning_at, slice_of, kind_member, some_member, unit_member, width_type, bit_member, member_of, left_out_by, path_at, around}
 use Rattle.sp_body_rules.specs.Known.{Known}
 use Rattle.sp_list_laws.specs.known_types.Full.{is_full, is_right}
 use Rattle.sp_list_laws.specs.known_types.Given.{is_named, is_member_op, is_method_op, IsKnown}
@@ -226,4 +226,4 @@ module _ (list : List Tree) (facts : Facts) where
     -- the same where all paths are known
     pub module_known : (k : Known) (m rules : ℕ) (is_path : Tree → Bool) → Decides (around list facts m) only k rules (is_type list facts.answers m) is_path → IsKnown (around list facts m) only k rules (is_type list facts.answers m) is_path
     module_known k m rules is_path decides =
-        paths_known only k m rules is_path known.types known.members (λ span path is. meaning_named span path (path_means list facts.answers m path)) decides
+        paths_known only k m rules is_path known.types known.members (λ span path is. meaning_named (slice_of list span path (path_means list facts.answers m path)) path (path_means list facts.answers m path)) decides

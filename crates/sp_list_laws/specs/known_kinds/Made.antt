@@ -22,7 +22,7 @@ use Rattle.sp_typed.specs.Nodes.{holds, all_hold}
 use Rattle.sp_typed_units.specs.declared.declarations.Function.{Function}
 use Rattle.sp_operands.specs.Operands.{unknown, is_unsigned, is_integer, is_boolean, is_bytes, is_text, first_type, sort_of, result_type, unary_type, second_type}
 use Rattle.sp_operands.specs.Literals.{seen}
-use Rattle.sp_operands.specs.Wholes.{row_type, map_type}
+use Rattle.sp_operands.specs.Wholes.{row_type, map_type, tuple_type}
 use Rattle.sp_typing.specs.declared.context.Member.{Member}
 use Rattle.sp_typing.specs.declared.context.Callable.{Callable}
 use Rattle.sp_typing.specs.Contexts.{Around as Names}
@@ -155,7 +155,7 @@ module _ (around : Around) where
   one_made op t a = true
 
   abbrev pub many_made : ManyOp → Ty → Exprs → Bool
-  many_made many_is.Tuple t es = same t (made maker_is.Tuple (tys (map seen (listed es))))
+  many_made many_is.Tuple t es = same t (tuple_type (map seen (listed es)))
   many_made many_is.Vector t es = same t (row_type maker_is.Vector (listed es))
   many_made many_is.Set t es = same t (row_type maker_is.Set (listed es))
   many_made many_is.Map t es = same t (map_type (listed es)) && is_even es

@@ -51,7 +51,7 @@ pub record Makes (g : Around) (p : Expr → Bool) : Type 0 where
   pub tuple : (span : Span) (es : List Expr) → IsTrue (p (tuple_at span es))
   pub vector : (span : Span) (es : List Expr) → IsTrue (p (row_at span maker_is.Vector many_is.Vector es))
   pub set : (span : Span) (es : List Expr) → IsTrue (p (row_at span maker_is.Set many_is.Set es))
-  pub entries : (span : Span) (key value : Option Ty) (ps : List (Expr × Expr)) → IsTrue (p (map_of span (in_turn key value ps)))
+  pub entries : (span : Span) (key value : Ty) (ps : List (Expr × Expr)) → IsTrue (p (map_of span (in_turn key value ps)))
   pub member : (span : Span) (name : Tree) (e : Expr) → IsTrue (p (member_of g span name e))
   pub set_member : (span : Span) (name : Tree) (e : Expr) → IsTrue (p (set_member_of g span name e))
   pub no_member : (span name : Span) (e : Expr) → IsTrue (p (one_at span unknown (one_is.NoMember name) e))

@@ -24,7 +24,7 @@ use Rattle.sp_typing.specs.declared.context.Callable.{Callable}
 use Rattle.sp_typing.specs.Contexts.{Around}
 use Rattle.sp_operands.specs.Operands.{unknown, sort_of, key_of, first_type}
 use Rattle.sp_operands.specs.Literals.{taken, seen, is_negative, can_take, literal_word}
-use Rattle.sp_typing.specs.Typing.{one_at, widened, to_target, to_maybe, each_to, alike, agreeing, lead, maybe_taken, led, row_at, lead_half, in_turn, map_at, tuple_at, unary_op, signed_type, unary_at, joined, is_membership, binary_at, choice_at, item_of, item_at, part_at, index_at, indexed, no_call, call_of, callee_op, call_by, call_at, method_of, started_op, new_by, new_at}
+use Rattle.sp_typing.specs.Typing.{one_at, widened, to_target, to_maybe, each_to, alike, agreeing, leading, led, row_at, leading_half, in_turn, map_at, tuple_at, unary_op, signed_type, unary_at, joined, is_membership, binary_at, choice_at, item_of, item_at, part_at, index_at, indexed, no_call, call_of, callee_op, call_by, call_at, method_of, started_op, new_by, new_at}
 use Rattle.sp_stored_types.specs.Opens.{or_else, open_in, open_among}
 use Rattle.sp_stored_types.specs.inside.Kept.{or_none, or_assoc, open_all, ComesFirst}
 
@@ -90,24 +90,20 @@ module _ (list : List Tree) (count : ℕ) where
   maybe_target_open h None e = refl
   maybe_target_open h (Some t) e = target_open h t e
 
-  maybe_taken_open : (h : ℕ → Option Ty) (o : Option Ty) (e : Expr) → opens h (maybe_taken o e) ≡ opens h e
-  maybe_taken_open h None e = refl
-  maybe_taken_open h (Some t) e = taken_open h t e
-
   each_open : (h : ℕ → Option Ty) (target : ℕ → Option Ty) (k : ℕ) (es : List Expr) → open_all list count h (each_to target k es) ≡ open_all list count h es
   each_open h target k [] = refl
   each_open h target k (e ∷ es) = or_same (opens h (to_maybe (target k) e)) (opens h e) (open_all list count h (each_to target (suc k) es)) (open_all list count h es) (maybe_target_open h (target k) e) (each_open h target (suc k) es)
 
-  map_taken_open : (h : ℕ → Option Ty) (o : Option Ty) (es : List Expr) → open_all list count h (map (maybe_taken o) es) ≡ open_all list count h es
-  map_taken_open h o [] = refl
-  map_taken_open h o (e ∷ es) = or_same (opens h (maybe_taken o e)) (opens h e) (open_all list count h (map (maybe_taken o) es)) (open_all list count h es) (maybe_taken_open h o e) (map_taken_open h o es)
+  map_taken_open : (h : ℕ → Option Ty) (t : Ty) (es : List Expr) → open_all list count h (map (taken t) es) ≡ open_all list count h es
+  map_taken_open h t [] = refl
+  map_taken_open h t (e ∷ es) = or_same (opens h (taken t e)) (opens h e) (open_all list count h (map (taken t) es)) (open_all list count h es) (taken_open h t e) (map_taken_open h t es)
 
-  turn_open : (h : ℕ → Option Ty) (key value : Option Ty) (ps : List (Expr × Expr)) → open_all list count h (in_turn key value ps) ≡ open_pairs h ps
+  turn_open : (h : ℕ → Option Ty) (key value : Ty) (ps : List (Expr × Expr)) → open_all list count h (in_turn key value ps) ≡ open_pairs h ps
   turn_open h key value [] = refl
   turn_open h key value (p ∷ ps) =
-      or_same (opens h (maybe_taken key p.0)) (opens h p.0) (or_else (opens h (maybe_taken value p.1)) (open_all list count h (in_turn key value ps))) (or_else (opens h p.1) (open_pairs h ps))
-      (maybe_taken_open h key p.0)
-      (or_same (opens h (maybe_taken value p.1)) (opens h p.1) (open_all list count h (in_turn key value ps)) (open_pairs h ps) (maybe_taken_open h value p.1) (turn_open h key value ps))
+      or_same (opens h (taken key p.0)) (opens h p.0) (or_else (opens h (taken value p.1)) (open_all list count h (in_turn key value ps))) (or_else (opens h p.1) (open_pairs h ps))
+      (taken_open h key p.0)
+      (or_same (opens h (taken value p.1)) (opens h p.1) (open_all list count h (in_turn key value ps)) (open_pairs h ps) (taken_open h value p.1) (turn_open h key value ps))
       ∙ sym (or_assoc (opens h p.0) (opens h p.1) (open_pairs h ps))
 
   exprs_open : (h : ℕ → Option Ty) (es : List Expr) → open_among list count h (exprs es) ≡ open_all list count h es
@@ -130,11 +126,11 @@ module _ (list : List Tree) (count : ℕ) where
   tuple_first span es h j e = exprs_open h es ∙ e
 
   pub row_first : (span : Span) (maker : Maker) (op : ManyOp) (es : List Expr) → ComesFirst list count (open_all list count) (λ x. row_at span maker op (led x)) es
-  row_first span maker op es h j e = exprs_open h (led es) ∙ map_taken_open h (lead es) es ∙ e
+  row_first span maker op es h j e = exprs_open h (led es) ∙ map_taken_open h (leading es) es ∙ e
 
   pub map_first : (span : Span) (ps : List (Expr × Expr)) → ComesFirst list count open_pairs (map_at span) ps
   map_first span ps h j e =
-      exprs_open h (in_turn (lead_half false ps) (lead_half true ps) ps) ∙ turn_open h (lead_half false ps) (lead_half true ps) ps ∙ e
+      exprs_open h (in_turn (leading_half false ps) (leading_half true ps) ps) ∙ turn_open h (leading_half false ps) (leading_half true ps) ps ∙ e
 
   -- a node round one part that is no member
   pub one_first : (span : Span) (make : Expr → Ty) (op : OneOp) → ((h : ℕ → Option Ty) (a : Expr) → opens h (one_at span (make a) op a) ≡ or_else (opens h a) None)
