@@ -99,7 +99,8 @@ abbrev pub operand_tests : ℕ → OperatorSort → Expr → Expr → List (Bool
 operand_tests m sort a b =
     right_tests m (stands_before sort (type_of a)) a ++ (right_tests m (stands_behind sort (type_of b)) b ++ ((disagree sort a b, at m rule_is.TypeMismatch (value_span (disagreeing sort a b))) ∷ []))
 
--- an index of a tuple that is no constant, or is past its members
+-- An index of a tuple that is past its members, or of a wrong type; and one that is no constant, by its form and values, whatever its
+-- type is and whatever is wrong inside it.
 abbrev pub is_constant : Constancy → Bool
 is_constant constancy_is.Constant = true
 is_constant _ = false
@@ -110,7 +111,7 @@ is_not_constant _ = false
 
 abbrev pub item_tests : ℕ → Constancy → Expr → List (Bool × Fault)
 item_tests m c i =
-    (knows i && (not (is_unsigned (type_of i)) || is_constant c), at m rule_is.TypeMismatch (value_span i)) ∷ ((knows i && is_not_constant c, at m rule_is.NotConstant (span_of i)) ∷ [])
+    (knows i && (not (is_unsigned (type_of i)) || is_constant c), at m rule_is.TypeMismatch (value_span i)) ∷ ((is_not_constant c, at m rule_is.NotConstant (span_of i)) ∷ [])
 
 -- the first type of the keys of what is indexed
 abbrev pub key_tests : ℕ → Ty → Expr → List (Bool × Fault)

@@ -356,6 +356,13 @@ index_past_tuple = refl
 index_not_constant : at_node (two_at 1 nothing two_is.Index (local 1 pair) (local 2 uint64)) ≡ ((rule_is.NotConstant, 2) ∷ [])
 index_not_constant = refl
 
+-- also where it has no type, since another rule is broken inside it, and where its type is wrong
+index_of_unknown : at_node (two_at 1 nothing two_is.Index (local 1 pair) (local 2 nothing)) ≡ ((rule_is.NotConstant, 2) ∷ [])
+index_of_unknown = refl
+
+index_of_text : at_node (two_at 1 nothing two_is.Index (local 1 pair) (local 2 text)) ≡ ((rule_is.TypeMismatch, 2) ∷ (rule_is.NotConstant, 2) ∷ [])
+index_of_text = refl
+
 index_of_tuple : at_node (two_at 1 text (two_is.Item 1) (local 1 pair) (number 2 uint64 1)) ≡ []
 index_of_tuple = refl
 

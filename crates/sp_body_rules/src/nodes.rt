@@ -162,10 +162,9 @@ pub fn is_not_constant(constancy: Constancy) -> bool
 fn note_item(owner: u32, constancy: Constancy, index: &Expr, least: &mut Option<Fault>)
     ensures { least.new ≡ checked least.old (item_tests owner constancy index.now) }
 {
-    let known = knows(index);
-    let past = known && (!is_unsigned(index.ty()) || is_constant(constancy));
+    let past = knows(index) && (!is_unsigned(index.ty()) || is_constant(constancy));
     note_at(past, owner, Rule::TypeMismatch, value_span(index), least);
-    let open = known && is_not_constant(constancy);
+    let open = is_not_constant(constancy);
     note_at(open, owner, Rule::NotConstant, index.span(), least);
 }
 

@@ -19,7 +19,7 @@ use Rattle.sp_hook_rows.specs.HookRows.{hook_rows, keys_of}
 use Rattle.sp_unit_calls.specs.HookCalling.{hooks_call}
 use Rattle.sp_list_rows.specs.Aliases.{aliases}
 use Rattle.sp_list_rows.specs.Bitfields.{typed_bitfields}
-use Rattle.sp_stored_types.specs.Endless.{endless}
+use Rattle.sp_list_rows.specs.Conversions.{endless}
 use Rattle.sp_unit_rows.specs.declared.calls.UnitCalls.{UnitCalls}
 use Rattle.sp_unit_rows.specs.UnitRows.{unit_row}
 use Rattle.sp_typing_hooks.specs.Fields.{seen_of}
@@ -57,7 +57,7 @@ module _ (list : List Tree) (f : ℕ → Option Ty) (known : ℕ → Option Answ
     enums = typed_enums list f known;
     bitfields = typed_bitfields list;
     aliases = aliases list f;
-    conversions = endless list (seeing_parameters list f known (told [])) (values list f known) stored;
+    conversions = endless list (seeing_parameters list f known (told [])) (values list f known) stored ss;
     orders = orders list f known (told stored);
   }
 

@@ -42,7 +42,7 @@ integer_type _ = plain_is.Void
 abbrev pub cast_to : Ty → Val → Outcome
 cast_to t a = if is_cast a (integer_type t) then answered (cast a (integer_type t)) else Unknown
 
--- a literal has the type of its place; one past it breaks another rule
+-- A literal has the type of its place, or the one that is written before it. One past its type breaks another rule, and has no value.
 abbrev pub if_within : {A : Type 0} → (A → Val) → Result A PKind → Outcome
 if_within make (Ok n) = Value (make n)
 if_within make (Err error) = Unknown
@@ -51,14 +51,6 @@ abbrev pub literal : Ty → ℕ → Outcome
 literal (word (word_is.Uint w)) n = if_within (uint w) (unsigned_or CastRange w (pos n))
 literal (word (word_is.Int w)) n = if_within (int w) (signed_or CastRange w (pos n))
 literal _ n = Unknown
-
--- a number whose type is written before it is an error past that type
-abbrev pub or_error_past : Outcome → Outcome
-or_error_past Unknown = Error
-or_error_past o = o
-
-abbrev pub typed_number : Ty → ℕ → Outcome
-typed_number t n = or_error_past (literal t n)
 
 -- and a literal with a minus sign; an unsigned type has none of these but a zero
 abbrev pub negative_literal : Ty → ℕ → Outcome

@@ -1,5 +1,6 @@
 -- What an expression is as a constant, by what its parts are. What has a part that is not constant is not constant; else
--- what needs a part of which nothing is known is not known; else what needs a part whose value is an error is an error.
+-- what needs a part whose value is an error is an error, also where nothing is known of another part; else what needs a part of
+-- which nothing is known is not known.
 use Rattle.std.specs.Prelude.{Bool, true, false, not, List, [], ◌∷◌, ◌++◌, Result, Ok, Err, if◌then◌else◌}
 use Rattle.sp_base.specs.declared.kinds.PKind.{PKind}
 use Rattle.sp_value.specs.Val.{Val, bool}
@@ -26,10 +27,10 @@ lacking lack_is.Constant = NotConstant
 -- the worse of two
 abbrev pub worse : Lack → Lack → Lack
 worse lack_is.Nothing b = b
-worse lack_is.Value lack_is.Nothing = lack_is.Value
-worse lack_is.Value b = b
-worse lack_is.Known lack_is.Constant = lack_is.Constant
-worse lack_is.Known b = lack_is.Known
+worse lack_is.Known lack_is.Nothing = lack_is.Known
+worse lack_is.Known b = b
+worse lack_is.Value lack_is.Constant = lack_is.Constant
+worse lack_is.Value b = lack_is.Value
 worse lack_is.Constant b = lack_is.Constant
 
 -- the worst of all

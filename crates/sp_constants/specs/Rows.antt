@@ -72,7 +72,13 @@ yes_leaf = leaf_of truth leaf_is.True
 abbrev no_leaf : Expr
 no_leaf = leaf_of truth leaf_is.False
 
--- `1 / 0 == 1`, `f()` and `self`
+-- `1 / 0`, `"x" + 1`, `1 / 0 == 1`, `f()` and `self`
+abbrev by_nothing : Expr
+by_nothing = binary op_is.Divide (number 1) (number 0)
+
+abbrev mixed : Expr
+mixed = binary op_is.Add (leaf_of (word word_is.String) (leaf_is.Text [])) (number 1)
+
 abbrev failing : Expr
 failing = binary op_is.Equal (binary op_is.Divide (number 1) (number 0)) (number 1)
 
@@ -114,6 +120,31 @@ before_others = refl
 no_operand : value_of known (binary op_is.Add (number 1) yes_leaf) ≡ Unknown
 no_operand = refl
 
+-- and so does a part whose value is an error, on either side of one that breaks another rule: `(1 / 0) + ("x" + 1)`,
+-- `("x" + 1) + (1 / 0)`, `[D, "x" + 1]` where D has no value
+broken_behind : value_of known (binary op_is.Add by_nothing mixed) ≡ Error
+broken_behind = refl
+
+broken_before : value_of known (binary op_is.Add mixed by_nothing) ≡ Error
+broken_before = refl
+
+broken_beside : value_of known (row many_is.Vector (leaf_of long (leaf_is.Constant 2) ∷ mixed ∷ [])) ≡ Error
+broken_beside = refl
+
+-- but not one that isn't needed: `True || D`
+spared : value_of known (binary op_is.Or yes_leaf (leaf_of truth (leaf_is.Constant 2))) ≡ Value (bool true)
+spared = refl
+
+-- names that are no constants and no labels, whatever stands beside them: `1 + f`, `1 + U`, `1 + M`
+names_function : value_of known (binary op_is.Add (number 1) (leaf_of (word word_is.Unknown) (leaf_is.Function 0))) ≡ NotConstant
+names_function = refl
+
+names_type : value_of known (binary op_is.Add (number 1) (leaf_of (word word_is.Unknown) (leaf_is.TypeName (word_is.Unit 0)))) ≡ NotConstant
+names_type = refl
+
+names_module : value_of known (binary op_is.Add (number 1) (leaf_of (word word_is.Unknown) leaf_is.Module)) ≡ NotConstant
+names_module = refl
+
 -- uses of constants
 used_three : value_of known (leaf_of long (leaf_is.Constant 0)) ≡ Value (uint W64 3)
 used_three = refl
@@ -131,8 +162,16 @@ past_least = refl
 past_byte : value_of known (leaf_of byte (leaf_is.Number 256)) ≡ Unknown
 past_byte = refl
 
-typed_past_byte : value_of known (small 256) ≡ Error
+-- a number past the type that is written before it has no value, and nor has what it is part of: `uint8(256)`, `uint8(1) + uint8(256)`,
+-- `~uint8(256)`
+typed_past_byte : value_of known (small 256) ≡ Unknown
 typed_past_byte = refl
+
+beside_past_byte : value_of known (binary op_is.Add (small 1) (small 256)) ≡ Unknown
+beside_past_byte = refl
+
+round_past_byte : value_of known (one (record { span = here; ty = byte; op = one_is.Complement }) (small 256)) ≡ Unknown
+round_past_byte = refl
 
 signed_zero : value_of known (minus byte 0) ≡ Value (uint W8 0)
 signed_zero = refl

@@ -1,5 +1,6 @@
 -- The value of a constant expression: literals, constants, labels, the operators with casts, sizes, indexes and choices,
--- tuples, vectors, sets and maps. Calls, members of units, `self`, `$$`, locals and parameters are not constant.
+-- tuples, vectors, sets and maps. All else is not constant by its form: calls, members of units, `self`, `$$`, locals, parameters,
+-- and names of functions, types and modules. What types its parts have is not asked.
 use Rattle.std.specs.Prelude.{ℕ, Bool, true, false, ◌&&◌, if◌then◌else◌, List, [], ◌∷◌}
 use Rattle.sp_value.specs.Val.{bool, bytes, str}
 use Rattle.sp_words.specs.declared.operators.BinaryOp.{BinaryOp}
@@ -18,25 +19,22 @@ use Rattle.sp_constants.specs.declared.outcome.Outcome.{Outcome}
 use Rattle.sp_constants.specs.declared.outcome.Outcome.TheVariants.{Value, Regex, NotConstant, Error, Unknown}
 use Rattle.sp_constants.specs.Known.{Known}
 use Rattle.sp_constants.specs.Outcomes.{of_one, of_two, of_all, both_hold, either_holds, chosen, if_constant, used}
-use Rattle.sp_constants.specs.Operations.{operated, operated_on, sized, cast_to, literal, typed_number, negative_literal, empty, indexed, member, makes_row, row_of}
+use Rattle.sp_constants.specs.Operations.{operated, operated_on, sized, cast_to, literal, negative_literal, empty, indexed, member, makes_row, row_of}
 
--- what has no parts
+-- what has no parts; a name of nothing breaks another rule
 abbrev pub leaf_value : Known → Ty → LeafOp → Outcome
 leaf_value k t leaf_is.True = Value (bool true)
 leaf_value k t leaf_is.False = Value (bool false)
 leaf_value k t (leaf_is.Number n) = literal t n
-leaf_value k t (leaf_is.TypedNumber n) = typed_number t n
+leaf_value k t (leaf_is.TypedNumber n) = literal t n
 leaf_value k t (leaf_is.Text text) = Value (str text)
 leaf_value k t (leaf_is.Bytes b) = Value (bytes b)
 leaf_value k t (leaf_is.Regex text) = Regex text
 leaf_value k t (leaf_is.Empty written) = empty t
 leaf_value k t (leaf_is.Constant n) = used (k.constant n)
 leaf_value k t (leaf_is.Label owner label) = used (k.label owner label)
-leaf_value k t (leaf_is.Itself standing) = NotConstant
-leaf_value k t (leaf_is.Current standing) = NotConstant
-leaf_value k t (leaf_is.Local slot) = NotConstant
-leaf_value k t (leaf_is.Parameter n standing) = NotConstant
-leaf_value k t _ = Unknown
+leaf_value k t (leaf_is.Nothing name) = Unknown
+leaf_value k t _ = NotConstant
 
 -- what has one part
 abbrev pub one_value : Ty → OneOp → Outcome → Outcome

@@ -9,10 +9,10 @@ use sp_value::Level;
 #[derive(Clone, Copy)]
 pub(crate) enum Lack {
     Nothing,
-    /// Its value is an error.
-    Value,
     /// Nothing is known of it.
     Known,
+    /// Its value is an error.
+    Value,
     /// It is no constant expression.
     Constant,
 }
@@ -24,10 +24,10 @@ impl Lack {
     {
         match (self, other) {
             (Lack::Nothing, other) => other,
-            (Lack::Value, Lack::Nothing) => Lack::Value,
-            (Lack::Value, other) => other,
-            (Lack::Known, Lack::Constant) => Lack::Constant,
-            (Lack::Known, _) => Lack::Known,
+            (Lack::Known, Lack::Nothing) => Lack::Known,
+            (Lack::Known, other) => other,
+            (Lack::Value, Lack::Constant) => Lack::Constant,
+            (Lack::Value, _) => Lack::Value,
             (Lack::Constant, _) => Lack::Constant,
         }
     }

@@ -5,7 +5,7 @@ ghost use Rattle.sp_value.specs.Val.{uint, int, str, bytes};
 ghost use Rattle.sp_constants.specs.declared.outcome.Outcome.TheVariants as outcome_is;
 ghost use Rattle.sp_numbers.specs.Numbers.{fits_signed, unsigned_or, signed_or};
 ghost use Rattle.sp_constants.specs.Outcomes.{used};
-ghost use Rattle.sp_constants.specs.Operations.{if_within, literal, typed_number, negative_literal, empty};
+ghost use Rattle.sp_constants.specs.Operations.{if_within, literal, negative_literal, empty};
 ghost use Rattle.sp_constants.specs.Values.{leaf_value};
 
 use crate::constants::Constants;
@@ -37,7 +37,7 @@ fn signed_literal(width: Width, n: u64) -> Outcome
     }
 }
 
-/// A literal, which has the type of its place.
+/// A literal, which has the type of its place or the one that is written before it.
 fn literal(ty: &Type, n: u64) -> Outcome
     ensures { result ≡ literal ty.now n }
 {
@@ -45,16 +45,6 @@ fn literal(ty: &Type, n: u64) -> Outcome
         Level::Word(Word::Uint(width)) => unsigned_literal(width, n),
         Level::Word(Word::Int(width)) => signed_literal(width, n),
         _ => Outcome::Unknown,
-    }
-}
-
-/// A number whose type is written before it: an error past that type.
-fn typed_number(ty: &Type, n: u64) -> Outcome
-    ensures { result ≡ typed_number ty.now n }
-{
-    match literal(ty, n) {
-        Outcome::Unknown => Outcome::Error,
-        found => found,
     }
 }
 
@@ -141,17 +131,14 @@ pub(crate) fn leaf_value<C: Constants>(
     match op {
         LeafOp::True => Ok(Measured::small(Outcome::Value(Value::bool(true)))),
         LeafOp::False => Ok(Measured::small(Outcome::Value(Value::bool(false)))),
-        LeafOp::Number(n) => Ok(Measured::small(literal(ty, *n))),
-        LeafOp::TypedNumber(n) => Ok(Measured::small(typed_number(ty, *n))),
+        LeafOp::Number(n) | LeafOp::TypedNumber(n) => Ok(Measured::small(literal(ty, *n))),
         LeafOp::Text(text) => text_value(text),
         LeafOp::Bytes(list) => bytes_value(list),
         LeafOp::Regex(text) => Ok(Measured::small(Outcome::Regex(text.copy()?))),
         LeafOp::Empty(_) => Ok(Measured::small(empty(alloc, ty)?)),
         LeafOp::Constant(n) => Ok(used(constants.constant(*n)?)),
         LeafOp::Label(owner, label) => Ok(used(constants.label(*owner, *label)?)),
-        LeafOp::Itself(_) | LeafOp::Current(_) | LeafOp::Local(_) | LeafOp::Parameter(_, _) => {
-            Ok(Measured::small(Outcome::NotConstant))
-        }
-        _ => Ok(unknown()),
+        LeafOp::Nothing(_) => Ok(unknown()),
+        _ => Ok(Measured::small(Outcome::NotConstant)),
     }
 }

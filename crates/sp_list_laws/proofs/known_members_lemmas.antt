@@ -8,6 +8,7 @@ pub mod Units
 pub mod Answered
 pub mod Every
 pub mod CanRead
+pub mod Told
 pub mod Rounds
 pub mod Named
 pub mod Readable

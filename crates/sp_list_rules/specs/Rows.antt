@@ -2,13 +2,16 @@
 use Rattle.std.specs.Prelude.{ℕ, ◌≡◌, Bool, true, false, List, [], ◌∷◌, map, Option, Some, None, refl}
 use Rattle.sp_base.specs.declared.places.Span.{Span}
 use Rattle.sp_words.specs.declared.operators.AssignOp.TheVariants as assign_is
+use Rattle.sp_words.specs.declared.operators.BinaryOp.TheVariants as op_is
 use Rattle.sp_words.specs.declared.words.HookName.TheVariants as event_is
 use Rattle.sp_numbers.specs.declared.width.Width.TheVariants.{W8, W64}
 use Rattle.sp_rules.specs.declared.rule.Rule.{Rule}
 use Rattle.sp_rules.specs.declared.rule.Rule.TheVariants as rule_is
 use Rattle.sp_rules.specs.declared.fault.Fault.{Fault}
 use Rattle.sp_rules.specs.Least.{broken}
-use Rattle.sp_types.specs.Types.{Ty, word}
+use Rattle.sp_types.specs.Types.{Ty, word, made}
+use Rattle.sp_types.specs.Types as types
+use Rattle.sp_types.specs.declared.words.Maker.TheVariants as maker_is
 use Rattle.sp_types.specs.declared.words.Word.TheVariants as word_is
 use Rattle.sp_typed.specs.declared.words.LeafOp.{LeafOp}
 use Rattle.sp_typed.specs.declared.words.LeafOp.TheVariants as leaf_is
@@ -19,7 +22,10 @@ use Rattle.sp_typed.specs.declared.stmt_words.BareOp.{BareOp}
 use Rattle.sp_typed.specs.declared.stmt_words.BareOp.TheVariants as bare_is
 use Rattle.sp_typed.specs.declared.stmt_words.ValuedOp.{ValuedOp}
 use Rattle.sp_typed.specs.declared.stmt_words.ValuedOp.TheVariants as valued_is
-use Rattle.sp_typed.specs.Exprs.{Expr, leaf, one, many, exprs}
+use Rattle.sp_typed.specs.declared.words.TwoOp.TheVariants as two_is
+use Rattle.sp_typed.specs.declared.words.NewOf.TheVariants as new_is
+use Rattle.sp_typed.specs.declared.words.Standing.TheVariants as standing_is
+use Rattle.sp_typed.specs.Exprs.{Expr, leaf, one, two, many, exprs}
 use Rattle.sp_typed.specs.Stmts.{Stmt, bare, valued, assign, block, for_loop, stmts}
 use Rattle.sp_words.specs.declared.words.AttributeName.{AttributeName}
 use Rattle.sp_words.specs.declared.words.AttributeName.TheVariants as name_is
@@ -27,7 +33,7 @@ use Rattle.sp_typed_units.specs.declared.attributes.Attribute.{Attribute}
 use Rattle.sp_typed_units.specs.declared.readings.ReadOp.{ReadOp}
 use Rattle.sp_typed_units.specs.declared.readings.ReadOp.TheVariants as read_is
 use Rattle.sp_typed_units.specs.declared.readings.TokenOp.TheVariants as token_is
-use Rattle.sp_typed_units.specs.Specs.{Spec, read, unit_read, list_read}
+use Rattle.sp_typed_units.specs.Specs.{Spec, read, unit_read, list_read, group_read}
 use Rattle.sp_typed_units.specs.Parts.{Part, field}
 use Rattle.sp_typed_units.specs.declared.declarations.Parameter.{Parameter}
 use Rattle.sp_typed_units.specs.declared.declarations.Function.{Function}
@@ -303,3 +309,27 @@ default_goes = refl
 -- `&until` can't stand on an integer: nothing is asked of the type of its value
 misused_has_no_type : bodies (of_parts (field_with integers uint8 (has name_is.Until (number 31 uint8 1) ∷ []) None None ∷ [])) ≡ []
 misused_has_no_type = refl
+
+-- the decoder of the library takes no arguments, which are kept as those of a `new` of it
+abbrev called_decoder : List Expr → Part
+called_decoder es = plain_field (group_read (on 20) (reads 20 (word word_is.Decoder) (read_is.Broken (written 20))) (has name_is.Try (many (record { span = on 21; ty = unknown; op = many_is.New new_is.Decoder (on 21) }) (exprs es)) ∷ []))
+
+decoder_takes_none : bodies (of_parts (called_decoder [] ∷ called_decoder (number 22 uint8 7 ∷ []) ∷ [])) ≡ (rule_is.WrongArguments, 21) ∷ []
+decoder_takes_none = refl
+
+-- an index of a tuple that is no constant, also one of no type, in a function: `(1, 2)[self.a / 0]`
+abbrev pair : Expr
+pair = many (record { span = on 30; ty = made maker_is.Tuple (types.more uint8 (types.more uint8 types.none)); op = many_is.Tuple }) (exprs (number 30 uint8 1 ∷ number 30 uint8 2 ∷ []))
+
+abbrev no_member : Expr
+no_member = one (record { span = on 31; ty = unknown; op = one_is.NoMember (on 33) }) (leaf_at 31 unknown (leaf_is.Itself standing_is.Unmeant))
+
+abbrev index_of : Expr → Expr
+index_of i = two (record { span = on 30; ty = unknown; op = two_is.Index }) pair i
+
+index_in_function : bodies (of_functions (procedure (valued_at 30 valued_is.Expr (index_of (two (record { span = on 31; ty = unknown; op = two_is.Binary op_is.Divide }) no_member (number 32 uint8 0))) ∷ []) ∷ [])) ≡ (rule_is.NotConstant, 31) ∷ (rule_is.SelfOutside, 31) ∷ []
+index_in_function = refl
+
+-- and one whose value is an error, beside a part that breaks another rule: `(1, 2)[1 / 0 + ("" + 1)]`
+index_is_an_error : bodies (of_functions (procedure (valued_at 30 valued_is.Expr (index_of (two (record { span = on 31; ty = unknown; op = two_is.Binary op_is.Add }) (two (record { span = on 31; ty = uint8; op = two_is.Binary op_is.Divide }) (number 31 uint8 1) (number 32 uint8 0)) (two (record { span = on 33; ty = unknown; op = two_is.Binary op_is.Add }) (leaf_at 33 text (leaf_is.Text [])) (number 34 uint8 1)))) ∷ []) ∷ [])) ≡ (rule_is.NotConstant, 31) ∷ (rule_is.TypeMismatch, 34) ∷ []
+index_is_an_error = refl

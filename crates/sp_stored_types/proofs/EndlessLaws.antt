@@ -1,4 +1,4 @@
--- A member without a type has a conversion that hangs on one without a type.
+-- A member without a type is a field with a conversion that hangs on a member without a type.
 use Rattle.std.proofs.Common.{ℕ, ◌≡◌, refl, sym, ap, ◌∙◌, List, length, Option, Some, None, slice_get}
 use Rattle.std.specs.Prelude.{true, false, is_some}
 use Rattle.sp_base.specs.declared.places.Span.{Span}
@@ -10,6 +10,7 @@ use Rattle.sp_typing.specs.Contexts.{Around}
 use Rattle.sp_typing.specs.Typing.{or_else as first_of}
 use Rattle.sp_typing_units.specs.Values.{Values}
 use Rattle.sp_typing_units.specs.Attributes.{conversion}
+use Rattle.sp_typing_units.specs.Fields.{field_type}
 use Rattle.sp_typing_units.specs.Readings.{counted_read}
 use Rattle.sp_solver.specs.declared.attempt.Attempt.TheVariants.{Done, Waits}
 use Rattle.sp_solver.specs.Told.{told}
@@ -19,7 +20,7 @@ use Rattle.sp_around.specs.declared.sources.Question.{Question}
 use Rattle.sp_around.specs.Sources.{questions}
 use Rattle.sp_stored_types.specs.Opens.{or_else, conversion_open, base_open, field_open}
 use Rattle.sp_stored_types.specs.Tries.{in_unit, source_type, source_open, when_open, try_unit, try_asked, AreStored}
-use Rattle.sp_stored_types.specs.Endless.{span_if, conversion_place, base_place, field_place, source_place, unit_place, place_of}
+use Rattle.sp_stored_types.specs.Endless.{span_if, conversion_place, base_place, field_place, unit_place, place_of}
 
 -- where there is an open member there is a place, and the other way round
 span_there : (o : Option ℕ) (at : Span) → is_some (span_if o at) ≡ is_some o
@@ -43,33 +44,36 @@ module _ (list : List Tree) (count : ℕ) (f : ℕ → Option Ty) (g : Around) (
       either (base_place list count f g v inner) (conversion_place list count f g read (conversion ts)) (base_open list count f g v inner) (conversion_open list count f g read (conversion ts)) (base_there inner) (conversion_there read (conversion ts))
   base_there _ = refl
 
-  field_there : (t : Tree) → is_some (field_place list count f g v t) ≡ is_some (field_open list count f g v t)
+  pub field_there : (t : Tree) → is_some (field_place list count f g v t) ≡ is_some (field_open list count f g v t)
   field_there (node form_is.Field span (more name (more base (more (row counts) (more (row ts) rest))))) =
       let read = (counted_read g v base counts).ty in
       either (base_place list count f g v base) (conversion_place list count f g read (conversion ts)) (base_open list count f g v base) (conversion_open list count f g read (conversion ts)) (base_there base) (conversion_there read (conversion ts))
   field_there _ = refl
 
-  source_there : (s : Source) → is_some (source_place list count f g v s) ≡ is_some (source_open list count f g v s)
-  source_there (source_is.Field t) = field_there t
-  source_there _ = refl
-
-there : {A : Type 0} (o : Option A) → is_some o ≡ true → (a : A) × (o ≡ Some a)
+pub there : {A : Type 0} (o : Option A) → is_some o ≡ true → (a : A) × (o ≡ Some a)
 there (Some a) e = (a, refl)
 there None e = absurd (let z : false ≡ true = e in cc)
 
--- what waits is open
+-- what waits is open, and it is a field
 open_there : (t : Ty) (o : Option ℕ) (j : ℕ) → when_open t o ≡ Waits j → is_some o ≡ true
 open_there t (Some i) j e = refl
 open_there t None j e = absurd (let z : Done t ≡ Waits j = e in cc)
 
-unit_there : (list : List Tree) (count : ℕ) (f : ℕ → Option Ty) (v : Values) (q : Question) (o : Option Around) (j : ℕ) → try_unit list count f v q o ≡ Waits j → (at : Span) × (unit_place list count f v q o ≡ Some at)
-unit_there list count f v q (Some g) j e =
-    let inside = in_unit list f q.unit g in
-    there (source_place list count f inside v q.source) (source_there list count f inside v q.source ∙ open_there (source_type inside v q.source) (source_open list count f inside v q.source) j e)
+source_there : (list : List Tree) (count : ℕ) (f : ℕ → Option Ty) (g : Around) (v : Values) (s : Source) (j : ℕ) → when_open (source_type g v s) (source_open list count f g v s) ≡ Waits j
+    → (t : Tree) × (s ≡ source_is.Field t) × (at : Span) × (field_place list count f g v t ≡ Some at)
+source_there list count f g v (source_is.Field t) j e =
+    let h = there (field_place list count f g v t) (field_there list count f g v t ∙ open_there (field_type g v t) (field_open list count f g v t) j e) in
+    (t, refl, h.0, h.1)
+source_there list count f g v (source_is.Variable t) j e = absurd (let z : Done _ ≡ Waits j = e in cc)
+source_there list count f g v source_is.Sink j e = absurd (let z : Done _ ≡ Waits j = e in cc)
+
+unit_there : (list : List Tree) (count : ℕ) (f : ℕ → Option Ty) (v : Values) (q : Question) (o : Option Around) (j : ℕ) → try_unit list count f v q o ≡ Waits j
+    → (t : Tree) × (q.source ≡ source_is.Field t) × (at : Span) × (unit_place list count f v q.unit t o ≡ Some at)
+unit_there list count f v q (Some g) j e = source_there list count f (in_unit list f q.unit g) v q.source j e
 unit_there list count f v q None j e = absurd (let z : Done _ ≡ Waits j = e in cc)
 
 pub has_place : (list : List Tree) (contexts : List Around) (v : Values) (types : List (Option Ty)) (i : ℕ) (q : Question) → AreStored list contexts v types → slice_get (questions list) i ≡ Some q → told types i ≡ None
-    → (at : Span) × (place_of list contexts v types q ≡ Some at)
+    → (t : Tree) × (q.source ≡ source_is.Field t) × (at : Span) × (place_of list contexts v types q.unit t ≡ Some at)
 has_place list contexts v types i q stored at unknown =
     let count = length (questions list) in
     let waits = stored.settled.stuck i unknown in

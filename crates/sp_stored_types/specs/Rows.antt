@@ -19,7 +19,6 @@ use Rattle.sp_ast.specs.declared.forms.BaseForm.TheVariants as base_is
 use Rattle.sp_ast.specs.declared.forms.ExprForm.TheVariants as expr_is
 use Rattle.sp_types.specs.Types.{Ty, word}
 use Rattle.sp_types.specs.declared.words.Word.TheVariants as word_is
-use Rattle.sp_typed_units.specs.declared.declarations.EndlessConversion.{EndlessConversion}
 use Rattle.sp_typing.specs.Contexts.{Around}
 use Rattle.sp_operands.specs.Operands.{unknown, boolean}
 use Rattle.sp_typing_units.specs.Values.{Values}
@@ -28,7 +27,7 @@ use Rattle.sp_around.specs.Arounds.{Facts, around}
 use Rattle.sp_around.specs.Sources.{questions}
 use Rattle.sp_typing_units.specs.Fields.{field_type}
 use Rattle.sp_stored_types.specs.Tries.{tries}
-use Rattle.sp_stored_types.specs.Endless.{endless as endless_conversions}
+use Rattle.sp_stored_types.specs.Endless.{place_of}
 use Rattle.sp_around.specs.Taken.{taken_places}
 
 abbrev span : ℕ → Span
@@ -63,8 +62,14 @@ reads w = of (form_is.Base base_is.Type) (integer w ∷ [])
 abbrev grouped : Tree → Tree
 grouped e = of (form_is.Base base_is.Group) (reads int.Uint8 ∷ in_row [] ∷ in_row (convert e ∷ []) ∷ [])
 
+abbrev field_tree : Tree → Tree → List Tree → Tree
+field_tree x base ts = of form_is.Field (x ∷ base ∷ in_row [] ∷ in_row ts ∷ absent ∷ absent ∷ in_row [] ∷ [])
+
+abbrev part_tree : Tree → Tree
+part_tree t = of (form_is.Part part_is.Field) (t ∷ [])
+
 abbrev field : Tree → Tree → List Tree → Tree
-field x base ts = of (form_is.Part part_is.Field) (of form_is.Field (x ∷ base ∷ in_row [] ∷ in_row ts ∷ absent ∷ absent ∷ in_row [] ∷ []) ∷ [])
+field x base ts = part_tree (field_tree x base ts)
 
 abbrev item : Tree → Tree
 item part = of (form_is.Item item_is.Part) (part ∷ [])
@@ -171,24 +176,32 @@ behind = refl
 abbrev own_at : ℕ → List ℕ → Tree
 own_at n x = tree (form_is.Expr expr_is.Member) (span n) (of (form_is.Expr expr_is.Itself) [] ∷ name x ∷ [])
 
--- module N; and type U = unit {
---   a: uint8 &convert=self.b; b: (uint8 &convert=self.a) &convert=self.b; c: uint8 &convert=self.c; d: (uint8) &convert=self.c;
---   e: uint8; f: (uint8 &convert=self.e) &convert=self.a;
--- };
-abbrev endless_unit : Tree
-endless_unit =
-    unit [] (
-    item (field (name (codes "a")) (reads int.Uint8) (convert (own_at 1 (codes "b")) ∷ []))
-    ∷ item (field (name (codes "b")) (grouped (own_at 2 (codes "a"))) (convert (own_at 3 (codes "b")) ∷ []))
-    ∷ item (field (name (codes "c")) (reads int.Uint8) (convert (own_at 4 (codes "c")) ∷ []))
-    ∷ item (field (name (codes "d")) (reads int.Uint8) (convert (own_at 5 (codes "c")) ∷ []))
-    ∷ item (field (name (codes "e")) (reads int.Uint8) [])
-    ∷ item (field (name (codes "f")) (grouped (own_at 6 (codes "e"))) (convert (own_at 7 (codes "a")) ∷ []))
-    ∷ [])
+-- a: uint8 &convert=self.b; b: (uint8 &convert=self.a) &convert=self.b; c: uint8 &convert=self.c; d: (uint8) &convert=self.c;
+-- e: uint8; f: (uint8 &convert=self.e) &convert=self.a; : uint8 &convert=self.a; : uint8 &convert=self.e;
+abbrev outer_fields : List Tree
+outer_fields =
+    field_tree (name (codes "a")) (reads int.Uint8) (convert (own_at 1 (codes "b")) ∷ [])
+    ∷ field_tree (name (codes "b")) (grouped (own_at 2 (codes "a"))) (convert (own_at 3 (codes "b")) ∷ [])
+    ∷ field_tree (name (codes "c")) (reads int.Uint8) (convert (own_at 4 (codes "c")) ∷ [])
+    ∷ field_tree (name (codes "d")) (reads int.Uint8) (convert (own_at 5 (codes "c")) ∷ [])
+    ∷ field_tree (name (codes "e")) (reads int.Uint8) []
+    ∷ field_tree (name (codes "f")) (grouped (own_at 6 (codes "e"))) (convert (own_at 7 (codes "a")) ∷ [])
+    ∷ field_tree absent (reads int.Uint8) (convert (own_at 8 (codes "a")) ∷ [])
+    ∷ field_tree absent (reads int.Uint8) (convert (own_at 9 (codes "e")) ∷ [])
+    ∷ []
 
+-- e: uint8 &convert=self.c;
+abbrev arm_field : Tree
+arm_field = field_tree (name (codes "e")) (reads int.Uint8) (convert (own_at 10 (codes "c")) ∷ [])
+
+abbrev items_of : List Tree → List Tree
+items_of [] = item (switch (arm (part_tree arm_field) ∷ [])) ∷ []
+items_of (t ∷ ts) = item (part_tree t) ∷ items_of ts
+
+-- module N; and type U = unit { .. switch { -> e: uint8 &convert=self.c; } };
 abbrev two_modules : List Tree
 two_modules =
-    of form_is.Module (name (codes "N") ∷ in_row [] ∷ []) ∷ of form_is.Module (name (codes "M") ∷ in_row (type (codes "U") endless_unit ∷ []) ∷ []) ∷ []
+    of form_is.Module (name (codes "N") ∷ in_row [] ∷ []) ∷ of form_is.Module (name (codes "M") ∷ in_row (type (codes "U") (unit [] (items_of outer_fields)) ∷ []) ∷ []) ∷ []
 
 abbrev contexts : List Around
 contexts = around two_modules facts 1 ∷ []
@@ -199,8 +212,16 @@ settled i = round (tries two_modules contexts values) 3 i
 abbrev types : List (Option Ty)
 types = settled 0 ∷ (settled 1 ∷ (settled 2 ∷ (settled 3 ∷ (settled 4 ∷ (settled 5 ∷ [])))))
 
-abbrev told : EndlessConversion → ℕ × ℕ
-told c = (c.«module», c.span.from)
+abbrev begins : Option Span → Option ℕ
+begins None = None
+begins (Some at) = Some at.from
 
-made_of_themselves : map told (endless_conversions two_modules contexts values types) ≡ (1, 1) ∷ ((1, 2) ∷ ((1, 4) ∷ ((1, 5) ∷ ((1, 7) ∷ []))))
+abbrev told : Tree → Option ℕ
+told t = begins (place_of two_modules contexts values types 0 t)
+
+-- of each field the first, whether it has a name or none, and also where its name came before
+made_of_themselves : map told outer_fields ≡ Some 1 ∷ (Some 2 ∷ (Some 4 ∷ (Some 5 ∷ (None ∷ (Some 7 ∷ (Some 8 ∷ (None ∷ [])))))))
 made_of_themselves = refl
+
+later_of_a_name : told arm_field ≡ Some 10
+later_of_a_name = refl

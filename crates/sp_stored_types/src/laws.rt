@@ -9,6 +9,7 @@ ghost use Rattle.sp_solver.specs.declared.attempt.Attempt.TheVariants.{Waits};
 ghost use Rattle.sp_solver.specs.Rounds.{IsFair};
 ghost use Rattle.sp_around.specs.Sources.{questions};
 ghost use Rattle.sp_solver.specs.Told.{told};
+ghost use Rattle.sp_around.specs.declared.sources.Source.TheVariants.{Field};
 ghost use Rattle.sp_around.specs.declared.sources.Question.{Question};
 ghost use Rattle.sp_stored_types.specs.Tries.{tries, AreStored};
 ghost use Rattle.sp_stored_types.specs.Endless.{place_of};
@@ -23,11 +24,12 @@ pub fn tries_are_fair()
         → j < length (questions list) }
 {}
 
-/// Where these are the types of the members of all units, each member without one has a conversion that hangs on a member
-/// without a type: so none is passed over.
+/// Where these are the types of the members of all units, each member without one is a field with a conversion that hangs on a
+/// member without a type: so none is passed over.
 pub fn none_is_passed_over()
     ensures { (list : List Tree) (contexts : List Around) (v : Values) (types : List (Option Ty))
         (i : ℕ) (q : Question) → AreStored list contexts v types
         → slice_get (questions list) i ≡ Some q → told types i ≡ None
-        → (at : Span) × (place_of list contexts v types q ≡ Some at) }
+        → (t : Tree) × (q.source ≡ Field t) × (at : Span)
+        × (place_of list contexts v types q.unit t ≡ Some at) }
 {}

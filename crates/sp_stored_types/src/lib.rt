@@ -11,7 +11,7 @@ mod rows;
 mod tables;
 
 pub use answers::stored_types;
-pub use endless::endless_conversions;
+pub use endless::endless_place;
 pub use fields::source_try;
 pub use laws::{none_is_passed_over, tries_are_fair};
 pub use members::WithMembers;

@@ -2,9 +2,8 @@
 ghost use Rattle.std.specs.Prelude.{◌≡◌, ◌++◌, List, Option, Some, length, option_copied, slice_get, IfOk, OnOk};
 ghost use Rattle.sp_names.specs.declared.sort.DeclSort.TheVariants as sort_is;
 ghost use Rattle.sp_names.specs.Declarations.{type_tree_of};
-ghost use Rattle.sp_around.specs.Members.{unit_in, unit_declaration};
+ghost use Rattle.sp_around.specs.Members.{unit_in};
 ghost use Rattle.sp_around.specs.Sources.{unit_sources, asked, questions_of, questions, units, firsts_before};
-ghost use Rattle.sp_stored_types.specs.Endless.{module_of};
 ghost use Rattle.sp_stored_types.specs.inside.Tables.{AreRows};
 
 use crate::tables::{SourceTable, source_table};
@@ -128,22 +127,5 @@ impl<'a> MemberRows<'a> {
         ensures { option_copied result ≡ slice_get (questions self.now) number }
     {
         self.questions.get(number)
-    }
-
-    /// All members.
-    pub(crate) fn questions(&self) -> &[Question<'a>]
-        ensures { result.now ≡ questions self.now }
-    {
-        &self.questions
-    }
-
-    /// The module of a unit.
-    pub(crate) fn owner(&self, unit: u32) -> u32
-        ensures { result ≡ module_of (unit_declaration self.now unit) }
-    {
-        match declaration_at(self.names, self.names.units(), unit as usize) {
-            Some(declaration) => declaration.module,
-            None => 0,
-        }
     }
 }

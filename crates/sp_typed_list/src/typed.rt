@@ -248,7 +248,7 @@ pub fn typed_list(
         hooks, units, functions, constants, enums, bitfields
     );
     let conversions = or_drop!(
-        conversions(alloc, known, stored);
+        conversions(alloc, known, stored, sites);
         hooks, units, functions, constants, enums, bitfields, aliases
     );
     let orders = or_drop!(

@@ -1,5 +1,5 @@
 -- Attributes: in what their values are typed, and to what these go.
-use Rattle.std.specs.Prelude.{ℕ, List, [], ◌∷◌, Option, Some, None}
+use Rattle.std.specs.Prelude.{ℕ, Bool, true, false, List, [], ◌∷◌, Option, Some, None}
 use Rattle.sp_base.specs.declared.places.Span.{Span}
 use Rattle.sp_words.specs.declared.words.AttributeName.{AttributeName}
 use Rattle.sp_words.specs.declared.words.AttributeName.TheVariants as name_is
@@ -31,20 +31,25 @@ abbrev pub element_of : Ty → Ty
 element_of (made maker_is.Vector ts) = first_type ts
 element_of _ = unknown
 
--- The value of an attribute. `$$` is what is read, in a conversion; what it becomes, in a requirement; an element, in a test of
--- elements; it is of unknown type where no value is asked for, and is not meant elsewhere. A default goes to the type of its field.
-abbrev pub value_typed : Around → Role → Ty → Ty → Tree → Expr
-value_typed g role_is.Conversion read stored e = typed (meant read g) e
-value_typed g role_is.Requirement read stored e = typed (meant stored g) e
-value_typed g role_is.Test read stored e = typed (meant (element_of read) g) e
-value_typed g role_is.Unasked read stored e = typed (meant unknown g) e
-value_typed g role_is.Alone read stored e = typed (meant unknown g) e
-value_typed g role_is.Default read stored e = to_target stored (typed g e)
-value_typed g _ read stored e = typed g e
+-- a default goes to the type of its field; behind a group, which is no field, it goes nowhere
+abbrev pub default_typed : Bool → Ty → Expr → Expr
+default_typed true stored e = to_target stored e
+default_typed false stored e = e
 
-abbrev pub maybe_value : Around → Role → Ty → Ty → Option Tree → Option Expr
-maybe_value g r read stored None = None
-maybe_value g r read stored (Some e) = Some (value_typed g r read stored e)
+-- The value of an attribute. `$$` is what is read, in a conversion; what it becomes, in a requirement; an element, in a test of
+-- elements; it is of unknown type where no value is asked for, and is not meant elsewhere.
+abbrev pub value_typed : Around → Role → Site → Tree → Expr
+value_typed g role_is.Conversion s e = typed (meant s.read g) e
+value_typed g role_is.Requirement s e = typed (meant s.stored g) e
+value_typed g role_is.Test s e = typed (meant (element_of s.read) g) e
+value_typed g role_is.Unasked s e = typed (meant unknown g) e
+value_typed g role_is.Alone s e = typed (meant unknown g) e
+value_typed g role_is.Default s e = default_typed s.of_field s.stored (typed g e)
+value_typed g _ s e = typed g e
+
+abbrev pub maybe_value : Around → Role → Site → Option Tree → Option Expr
+maybe_value g r s None = None
+maybe_value g r s (Some e) = Some (value_typed g r s e)
 
 -- the number of an order, and the bytes of a delimiter
 abbrev pub order_number : Values → Role → Option Expr → Option ℕ
@@ -60,7 +65,7 @@ attribute_with v r span name value =
     record { span = span; name = name; value = value; number = order_number v r value; bytes = delimiter_bytes v r value }
 
 abbrev pub attribute_by : Around → Values → Site → Role → Span → AttributeName → Option Tree → Attribute
-attribute_by g v s r span name value = attribute_with v r span name (maybe_value g r s.read s.stored value)
+attribute_by g v s r span name value = attribute_with v r span name (maybe_value g r s value)
 
 -- the attributes behind what is read, in the order of the text
 abbrev pub attributes : Around → Values → Site → Trees → List Attribute

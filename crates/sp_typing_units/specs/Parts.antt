@@ -51,7 +51,7 @@ field_with g v f span name r stored ts condition sink = record {
   taken = is_taken f name;
   ty = stored;
   spec = r.spec;
-  attributes = attributes g v (record { kind = r.kind; read = r.ty; stored = stored }) ts;
+  attributes = attributes g v (record { kind = r.kind; read = r.ty; stored = stored; of_field = true }) ts;
   condition = maybe_typed g condition;
   sink = maybe_typed g sink;
   hooks = f.hooks (field_place span name);
@@ -66,10 +66,13 @@ abbrev pub settled_to : Option Expr → List Expr → List Expr
 settled_to None es = es
 settled_to (Some e) es = map (taken (seen e)) es
 
+-- An arm stands at its values, at its `*`, or at its `->` where it is chosen by look-ahead: there the guard is what stands on `->`.
 abbrev pub arm_of : Around → Option Expr → Tree → Arm
 arm_of g subject (node (form_is.Guard guard_is.Otherwise) span ts) = record { span = span; values = []; otherwise = true }
 arm_of g subject (node (form_is.Guard guard_is.Values) span ts) =
     record { span = span; values = settled_to subject (typed_all g ts); otherwise = false }
+arm_of g subject (node (form_is.Guard guard_is.LookAhead) span ts) =
+    record { span = span; values = []; otherwise = false }
 arm_of g subject t = record { span = read.span_of t; values = []; otherwise = false }
 
 -- a field

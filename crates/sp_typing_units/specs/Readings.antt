@@ -1,5 +1,5 @@
 -- How fields, elements and groups are read.
-use Rattle.std.specs.Prelude.{ℕ, List, [], ◌∷◌, Option, Some, None, map}
+use Rattle.std.specs.Prelude.{ℕ, ◌==◌, false, if◌then◌else◌, List, [], ◌∷◌, length, Option, Some, None, map}
 use Rattle.sp_base.specs.declared.places.Span.{Span}
 use Rattle.sp_words.specs.declared.words.AttributeName.TheVariants as name_is
 use Rattle.sp_ast.specs.Trees.{Tree, Trees, absent, row, node, none, more}
@@ -27,7 +27,7 @@ use Rattle.sp_typed_units.specs.Specs as spec_is
 use Rattle.sp_operands.specs.Operands.{unknown}
 use Rattle.sp_typing.specs.declared.places.Place.TheVariants.{Whole}
 use Rattle.sp_typing.specs.Contexts.{Around}
-use Rattle.sp_typing.specs.Typing.{typed_all, each_to, number_in, made_of}
+use Rattle.sp_typing.specs.Typing.{typed_all, each_to, many_at, number_in, made_of}
 use Rattle.sp_types.specs.Integers.{int_word}
 use Rattle.sp_typing_units.specs.declared.readings.Read.{Read}
 use Rattle.sp_typing_units.specs.declared.roles.Kind.{Kind}
@@ -131,15 +131,22 @@ in_vain e = record { span = span_of e; name = name_is.Try; value = Some e; numbe
 abbrev pub with_arguments : Span → List Expr → Read → Read
 with_arguments at es r = record { spec = group_read at r.spec (map in_vain es); ty = r.ty; kind = r.kind }
 
+-- The decoder of the library takes no arguments. Those that are written are kept in one: they are those of a `new` of it, at its path.
+abbrev pub started_decoder : Span → List Expr → List Expr
+started_decoder path es = if length es == 0 then [] else many_at path unknown (many_is.New new_is.Decoder path) es ∷ []
+
+abbrev pub decoder_called : Span → Span → List Expr → Read
+decoder_called at path es = with_arguments at (started_decoder path es) (decoder at)
+
 abbrev pub called_word : Around → Span → Span → Word → List Expr → Read
 called_word g at path (word_is.Unit n) es = unit_spec at n (arguments g n path es)
 called_word g at path word_is.Unknown es = with_arguments at es (broken at (fine at))
-called_word g at path word_is.Decoder es = with_arguments at es (decoder at)
+called_word g at path word_is.Decoder es = decoder_called at path es
 called_word g at path _ es = with_arguments at es (broken at (misplaced at path))
 
 abbrev pub called_op : Around → Span → Span → LeafOp → List Expr → Read
 called_op g at path (leaf_is.TypeName w) es = called_word g at path w es
-called_op g at path leaf_is.Decoder es = with_arguments at es (decoder at)
+called_op g at path leaf_is.Decoder es = decoder_called at path es
 called_op g at path (leaf_is.Nothing name) es = with_arguments at es (broken at (unnamed at name))
 called_op g at path _ es = with_arguments at es (broken at (misplaced at path))
 
@@ -170,7 +177,7 @@ contained g at (more t ts) r = contained g at ts r
 -- what stands in parentheses
 abbrev pub group_with : Around → Values → Span → Trees → Ty → Read → Read
 group_with g v at ts stored r = record {
-  spec = group_read at r.spec (attributes g v (record { kind = r.kind; read = r.ty; stored = stored }) ts);
+  spec = group_read at r.spec (attributes g v (record { kind = r.kind; read = r.ty; stored = stored; of_field = false }) ts);
   ty = stored;
   kind = grouped r.kind;
 }

@@ -1,5 +1,5 @@
 -- Rows on which the typing of fields is run: what attributes mean on them, constants in place of types, switches, parameters.
-use Rattle.std.specs.Prelude.{ℕ, ◌≡◌, if◌then◌else◌, true, false, List, [], ◌∷◌, Option, Some, None, codes, refl}
+use Rattle.std.specs.Prelude.{ℕ, ◌+◌, ◌≡◌, if◌then◌else◌, true, false, List, [], ◌∷◌, Option, Some, None, codes, refl}
 use Rattle.std.specs.Str.{bytes_eq}
 use Rattle.sp_base.specs.declared.places.Span.{Span}
 use Rattle.sp_words.specs.declared.words.AttributeName.{AttributeName}
@@ -15,6 +15,7 @@ use Rattle.sp_ast.specs.declared.forms.TypeForm.TheVariants as type_is
 use Rattle.sp_ast.specs.declared.forms.BaseForm.{BaseForm}
 use Rattle.sp_ast.specs.declared.forms.BaseForm.TheVariants as base_is
 use Rattle.sp_ast.specs.declared.forms.PartForm.TheVariants as part_is
+use Rattle.sp_ast.specs.declared.forms.GuardForm.{GuardForm}
 use Rattle.sp_ast.specs.declared.forms.GuardForm.TheVariants as guard_is
 use Rattle.sp_ast.specs.declared.forms.BodyForm.TheVariants as body_is
 use Rattle.sp_types.specs.Types.{Ty, word, made}
@@ -24,19 +25,22 @@ use Rattle.sp_types.specs.declared.words.Maker.TheVariants as maker_is
 use Rattle.sp_typed.specs.declared.words.LeafOp.{LeafOp}
 use Rattle.sp_typed.specs.declared.words.LeafOp.TheVariants as leaf_is
 use Rattle.sp_typed.specs.declared.words.Standing.TheVariants as standing_is
-use Rattle.sp_typed.specs.Exprs.{Expr, leaf, exprs}
+use Rattle.sp_typed.specs.declared.words.ManyOp.TheVariants as many_is
+use Rattle.sp_typed.specs.declared.words.NewOf.TheVariants as new_is
+use Rattle.sp_typed.specs.Exprs.{Expr, leaf, many, exprs}
 use Rattle.sp_typed_units.specs.declared.attributes.Attribute.{Attribute}
 use Rattle.sp_typed_units.specs.declared.readings.ReadOp.TheVariants as read_is
 use Rattle.sp_typed_units.specs.declared.readings.TokenOp.TheVariants as token_is
-use Rattle.sp_typed_units.specs.Specs.{unit_read, group_read}
-use Rattle.sp_typed_units.specs.Parts.{Part, field, choice, no_parts, no_arms, more_arms}
+use Rattle.sp_typed_units.specs.Specs.{Spec, unit_read, group_read}
+use Rattle.sp_typed_units.specs.declared.items.Arm.{Arm}
+use Rattle.sp_typed_units.specs.Parts.{Part, Arms, field, choice, no_parts, no_arms, more_arms}
 use Rattle.sp_typing.specs.Contexts.{Around}
 use Rattle.sp_operands.specs.Operands.{unknown, boolean}
 use Rattle.sp_typing.specs.Typing.{typed, leaf_at, name_of}
 use Rattle.sp_typing_units.specs.declared.roles.Kind.TheVariants as kind_is
 use Rattle.sp_typing_units.specs.Values.{Values}
 use Rattle.sp_surroundings.specs.Decorators.{with_current, with_self}
-use Rattle.sp_typing_units.specs.Readings.{counted_read, word_read, simple, broken, literal, fine, unnamed, misplaced, in_vain}
+use Rattle.sp_typing_units.specs.Readings.{counted_read, word_read, called_word, simple, broken, literal, fine, unnamed, misplaced, in_vain}
 use Rattle.sp_typing_units.specs.Parts.{Fields, part_of}
 
 abbrev here : Span
@@ -183,6 +187,14 @@ unit = refl
 no_unit : (counted_read around values (base base_is.Unit (named (codes "N") ∷ in_row (number 1 ∷ []) ∷ [])) none).spec ≡ group_read here (broken here (misplaced here here)).spec (in_vain (typed around (number 1)) ∷ [])
 no_unit = refl
 
+-- `f: D(1)`, where D is the decoder of the library, keeps it as `new D(1)` has it
+called_decoder : (called_word around here here word_is.Decoder (typed around (number 1) ∷ [])).spec ≡ group_read here (word_read here word_is.Decoder).spec (in_vain (many (record { span = here; ty = unknown; op = many_is.New new_is.Decoder here }) (exprs (typed around (number 1) ∷ []))) ∷ [])
+called_decoder = refl
+
+-- and `f: D()` has nothing to keep
+bare_decoder : (called_word around here here word_is.Decoder []).spec ≡ group_read here (word_read here word_is.Decoder).spec []
+bare_decoder = refl
+
 -- `f: uint8[2][]` is a vector of vectors, as far as the input tells
 counts : (counted_read around values (of_type (type_is.Int int.Uint8)) (trees (count (number 2) ∷ count absent ∷ []))).ty ≡ made maker_is.Vector (types.more (made maker_is.Vector (types.more byte types.none)) types.none)
 counts = refl
@@ -216,6 +228,14 @@ default = refl
 anonymous : part_types (typed_part (field_tree absent (of_type (type_is.Int int.Uint16)) [] (attribute name_is.Default (number 1) ∷ []))) ≡ short ∷ (short ∷ [])
 anonymous = refl
 
+-- `(uint16 &default=1)`: it goes to no field there, so it is the literal that it is by itself
+abbrev spec_types : Spec → List Ty
+spec_types (group_read at s l) = value_types l
+spec_types _ = []
+
+in_group : spec_types (counted_read around values (base base_is.Group (of_type (type_is.Int int.Uint16) ∷ in_row [] ∷ in_row (attribute name_is.Default (number 1) ∷ []) ∷ [])) none).spec ≡ long ∷ []
+in_group = refl
+
 -- `(uint8 &convert=C)[]` is a vector of bytes
 group : (counted_read around values (base base_is.Group (of_type (type_is.Int int.Uint8) ∷ in_row [] ∷ in_row (attribute name_is.Convert (path (codes "C")) ∷ []) ∷ [])) (trees (count absent ∷ []))).ty ≡ made maker_is.Vector (types.more (word word_is.Bytes) types.none)
 group = refl
@@ -235,12 +255,26 @@ delimiter = refl
 order : part_told (typed_part (field_tree name (of_type (type_is.Int int.Uint8)) [] (attribute name_is.ByteOrder (path (codes "C")) ∷ attribute name_is.BitOrder (path (codes "C")) ∷ []))) ≡ (None, Some 1) ∷ ((None, Some 1) ∷ [])
 order = refl
 
--- `switch (N) { 1 -> ; * -> ; }`: the value takes the type of N
+-- `switch (N) { 1 -> ; * -> ; }`: the value takes the type of N, and the arms stand at `1` and `*`
+abbrev guard_at : ℕ → GuardForm → List Tree → Tree
+guard_at n form parts = tree (form_is.Guard form) (record { from = n; to = n + 1 }) parts
+
 abbrev arm : Tree → Tree
 arm guard = tree form_is.Arm here (guard ∷ tree (form_is.Body body_is.Nothing) here [] ∷ [])
 
-switch : typed_part (tree (form_is.Part part_is.Switch) here (path (codes "N") ∷ in_row (arm (tree (form_is.Guard guard_is.Values) here (number 1 ∷ [])) ∷ arm (tree (form_is.Guard guard_is.Otherwise) here []) ∷ []) ∷ [])) ≡ choice here (Some (leaf_at here byte (leaf_is.Constant 5))) (more_arms (record { span = here; values = leaf_at here byte (leaf_is.Number 1) ∷ []; otherwise = false }) no_parts (more_arms (record { span = here; values = []; otherwise = true }) no_parts no_arms))
+abbrev switch_on : Tree → List Tree → Part
+switch_on subject arms = typed_part (tree (form_is.Part part_is.Switch) here (subject ∷ in_row arms ∷ []))
+
+abbrev empty_arms : List Arm → Arms
+empty_arms [] = no_arms
+empty_arms (a ∷ rest) = more_arms a no_parts (empty_arms rest)
+
+switch : switch_on (path (codes "N")) (arm (guard_at 20 guard_is.Values (number 1 ∷ [])) ∷ arm (guard_at 30 guard_is.Otherwise []) ∷ []) ≡ choice here (Some (leaf_at here byte (leaf_is.Constant 5))) (empty_arms ((record { span = record { from = 20; to = 21 }; values = leaf_at here byte (leaf_is.Number 1) ∷ []; otherwise = false }) ∷ (record { span = record { from = 30; to = 31 }; values = []; otherwise = true }) ∷ []))
 switch = refl
+
+-- `switch { -> ; -> ; }`: plain arms stand at their `->`, which is what the trees of their guards stand on
+plain_switch : switch_on absent (arm (guard_at 20 guard_is.LookAhead []) ∷ arm (guard_at 30 guard_is.LookAhead []) ∷ []) ≡ choice here None (empty_arms ((record { span = record { from = 20; to = 21 }; values = []; otherwise = false }) ∷ (record { span = record { from = 30; to = 31 }; values = []; otherwise = false }) ∷ []))
+plain_switch = refl
 
 -- `self`, beside `$$`
 itself : typed (with_self (word (word_is.Unit 2)) standing_is.Meant (with_current byte standing_is.Meant around)) (expr expr_is.Itself []) ≡ leaf_at here (word (word_is.Unit 2)) (leaf_is.Itself standing_is.Meant)

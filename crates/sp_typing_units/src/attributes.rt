@@ -5,7 +5,7 @@ ghost use Rattle.sp_ast.specs.Views.{optional_tree};
 ghost use Rattle.sp_typing.specs.Typing.{typed};
 ghost use Rattle.sp_surroundings.specs.Decorators.{meant};
 ghost use Rattle.sp_typing_units.specs.Roles.{role_of};
-ghost use Rattle.sp_typing_units.specs.Attributes.{element_of, value_typed, maybe_value, order_number, delimiter_bytes, attribute_with, attribute_by, attributes, if_convert, conversion_of, or_next, conversion, converted};
+ghost use Rattle.sp_typing_units.specs.Attributes.{element_of, default_typed, value_typed, maybe_value, order_number, delimiter_bytes, attribute_with, attribute_by, attributes, if_convert, conversion_of, or_next, conversion, converted};
 
 use crate::constants::Constants;
 use crate::roles::{Kind, Role, role_of};
@@ -27,6 +27,8 @@ pub struct Site {
     pub kind: Kind,
     pub read: Type,
     pub stored: Type,
+    /// Whether it is a field, and not what stands in parentheses.
+    pub of_field: bool,
 }
 
 /// The type of the elements of a container.
@@ -52,6 +54,17 @@ fn typed_with<C: Context>(
     typed(alloc, &inside, tree)
 }
 
+/// A default, which goes to the type of its field, if it has one.
+fn default_typed(alloc: Global, of_field: bool, stored: &Type, e: Expr) -> Result<Expr, NoMemory>
+    ensures { IfOk result (λ r. r ≡ default_typed of_field stored.now e) }
+{
+    if of_field {
+        to_target(alloc, stored, e)
+    } else {
+        Ok(e)
+    }
+}
+
 /// The value of an attribute.
 fn value_typed<C: Context>(
     alloc: Global,
@@ -60,8 +73,7 @@ fn value_typed<C: Context>(
     site: &Site,
     tree: &Ref<'_, ExprKind>,
 ) -> Result<Expr, NoMemory>
-    ensures { IfOk result (λ e. e ≡ value_typed (C.around context.now) role site.now.read
-        site.now.stored tree.now) }
+    ensures { IfOk result (λ e. e ≡ value_typed (C.around context.now) role site.now tree.now) }
 {
     match role {
         Role::Conversion => typed_with(alloc, context, &site.read, tree),
@@ -78,7 +90,10 @@ fn value_typed<C: Context>(
             drop(unknown);
             value
         }
-        Role::Default => to_target(alloc, &site.stored, typed(alloc, context, tree)?),
+        Role::Default => {
+            let value = typed(alloc, context, tree)?;
+            default_typed(alloc, site.of_field, &site.stored, value)
+        }
         Role::Amount | Role::Delimiter | Role::Order | Role::Source | Role::Place => {
             typed(alloc, context, tree)
         }
@@ -92,8 +107,7 @@ fn maybe_value<C: Context>(
     site: &Site,
     value: &Option<Ref<'_, ExprKind>>,
 ) -> Result<Option<Expr>, NoMemory>
-    ensures { IfOk result (λ e. e ≡ maybe_value (C.around context.now) role site.now.read
-        site.now.stored value.now) }
+    ensures { IfOk result (λ e. e ≡ maybe_value (C.around context.now) role site.now value.now) }
 {
     match value {
         Some(tree) => Ok(Some(value_typed(alloc, context, role, site, tree)?)),
@@ -257,21 +271,29 @@ pub(crate) fn stored_by<C: Context, V: Constants>(
     constants: &V,
     kind: Kind,
     read: Type,
+    of_field: bool,
     list: &Members<'_, AttributeKind>,
 ) -> Result<Stored, NoMemory>
     ensures ty { IfOk result (λ s. s.ty ≡ converted (C.around context.now) read
         (conversion (trees list.now))) }
     ensures attributes { IfOk result (λ s. s.attributes.items ≡ attributes (C.around context.now)
-        (V.values constants.now) (record { kind = kind; read = read; stored = s.ty })
+        (V.values constants.now)
+        (record { kind = kind; read = read; stored = s.ty; of_field = of_field })
         (trees list.now)) }
 {
     let stored = or_drop!(converted(alloc, context, &read, list); read);
-    let site = Site { kind, read, stored };
+    let site = Site {
+        kind,
+        read,
+        stored,
+        of_field,
+    };
     let attributes = or_drop!(attributes_of(alloc, context, constants, &site, list); site);
     let Site {
         kind: _,
         read,
         stored,
+        of_field: _,
     } = site;
     drop(read);
     Ok(Stored {

@@ -118,7 +118,7 @@ fn field_of<C: Context, V: Constants, F: FieldTable>(
     let guards = or_drop!(guards_of(alloc, context, table, place, view); read);
     let Read { spec, ty, kind } = read;
     let stored = or_drop!(
-        stored_by(alloc, context, constants, kind, ty, &view.attributes);
+        stored_by(alloc, context, constants, kind, ty, true, &view.attributes);
         guards, spec
     );
     Ok(Field {

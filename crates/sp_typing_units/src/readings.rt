@@ -8,7 +8,7 @@ ghost use Rattle.sp_types.specs.Integers.{int_word};
 ghost use Rattle.sp_typed_units.specs.declared.readings.TokenOp.TheVariants as token_is;
 ghost use Rattle.sp_typed_units.specs.Specs.{list_read, group_read};
 ghost use Rattle.sp_typing.specs.declared.places.Place.TheVariants.{Whole};
-ghost use Rattle.sp_typing_units.specs.Readings.{fine, unnamed, misplaced, simple, broken, decoder, literal, or_empty, constant_read, constant_of_type, named_read, unit_spec, word_read, unknown_read, type_read, arguments, in_vain, with_arguments, called_word, called, vector_of, counting, container, contained, group_of, base_read, counted_read};
+ghost use Rattle.sp_typing_units.specs.Readings.{fine, unnamed, misplaced, simple, broken, decoder, literal, or_empty, constant_read, constant_of_type, named_read, unit_spec, word_read, unknown_read, type_read, arguments, in_vain, with_arguments, started_decoder, decoder_called, called_word, called, vector_of, counting, container, contained, group_of, base_read, counted_read};
 
 use crate::attributes::{Stored, stored_by};
 use crate::constants::Constants;
@@ -19,7 +19,7 @@ use sp_ast::{
     TypeView, is_present,
 };
 use sp_base::{ByteList, NoMemory, Span, Text, or_drop};
-use sp_typed::{Expr, ExprLevel, LeafOp, ManyOp, NewOf, Written};
+use sp_typed::{Expr, ExprLevel, LeafOp, Many, ManyOp, NewOf, Written};
 use sp_typed_units::{Attribute, ReadOp, Reading, Spec, SpecNode, TokenOp, UnitOf};
 use sp_types::{Level, Maker, Type, Word, int_word};
 use sp_typing::{Context, Place};
@@ -343,10 +343,29 @@ fn broken_called(alloc: Global, at: Span, wrong: Written, list: Vec<Expr>) -> Re
     with_arguments(alloc, at, list, read)
 }
 
-/// The decoder of the library, with arguments.
-fn decoder_called(alloc: Global, at: Span, list: Vec<Expr>) -> Result<Read, NoMemory>
-    ensures { IfOk result (λ r. r ≡ with_arguments at list.items (decoder at)) }
+/// The arguments of the decoder of the library, if there are any, in one: as those of a `new` of it.
+fn started_decoder(alloc: Global, path: Span, list: Vec<Expr>) -> Result<Vec<Expr>, NoMemory>
+    ensures { IfOk result (λ r. r.items ≡ started_decoder path list.items) }
 {
+    if list.is_empty() {
+        return Ok(list);
+    }
+    let mut all = or_drop!(Vec::with_capacity(alloc, 1); list);
+    let head = Many {
+        span: path,
+        ty: Type::word(Word::Unknown),
+        op: ManyOp::New(NewOf::Decoder, path),
+    };
+    let started = or_drop!(Expr::many(head, list); all);
+    or_drop!(all.push(started); all);
+    Ok(all)
+}
+
+/// The decoder of the library, with arguments.
+fn decoder_called(alloc: Global, at: Span, path: Span, list: Vec<Expr>) -> Result<Read, NoMemory>
+    ensures { IfOk result (λ r. r ≡ decoder_called at path list.items) }
+{
+    let list = started_decoder(alloc, path, list)?;
     let read = or_drop!(decoder(at); list);
     with_arguments(alloc, at, list, read)
 }
@@ -380,7 +399,7 @@ fn called_word<C: Context>(
     match word {
         Word::Unit(n) => unit_called(alloc, context, at, path, n, list),
         Word::Unknown => broken_called(alloc, at, fine(at), list),
-        Word::Decoder => decoder_called(alloc, at, list),
+        Word::Decoder => decoder_called(alloc, at, path, list),
         _ => broken_called(alloc, at, misplaced(at, path), list),
     }
 }
@@ -399,7 +418,7 @@ fn called<C: Context>(
     match callee.level() {
         ExprLevel::Leaf(head) => match &head.op {
             LeafOp::TypeName(word) => called_word(alloc, context, at, path, *word, list),
-            LeafOp::Decoder => decoder_called(alloc, at, list),
+            LeafOp::Decoder => decoder_called(alloc, at, path, list),
             LeafOp::Nothing(name) => broken_called(alloc, at, unnamed(at, *name), list),
             _ => broken_called(alloc, at, misplaced(at, path), list),
         },
@@ -495,7 +514,10 @@ fn group_of<C: Context, V: Constants>(
         (trees list.now) inner) }
 {
     let Read { spec, ty, kind } = inner;
-    let stored = or_drop!(stored_by(alloc, context, constants, kind, ty, list); spec);
+    let stored = or_drop!(
+        stored_by(alloc, context, constants, kind, ty, false, list);
+        spec
+    );
     let Stored { ty, attributes } = stored;
     let spec = or_drop!(group_spec(alloc, at, spec, attributes); ty);
     Ok(Read {

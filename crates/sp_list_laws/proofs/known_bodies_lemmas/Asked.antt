@@ -125,7 +125,7 @@ operands_plain m sort a b =
 
 abbrev item_by : ℕ → Constancy → Shown → List (Bool × Fault)
 item_by m c s =
-    (knows_by s && (not (is_unsigned s.ty) || is_constant c), at m rule_is.TypeMismatch s.span) ∷ ((knows_by s && is_not_constant c, at m rule_is.NotConstant s.first) ∷ [])
+    (knows_by s && (not (is_unsigned s.ty) || is_constant c), at m rule_is.TypeMismatch s.span) ∷ ((is_not_constant c, at m rule_is.NotConstant s.first) ∷ [])
 
 abbrev choice_by : ℕ → Shown → Shown → Shown → List (Bool × Fault)
 choice_by m c s t =

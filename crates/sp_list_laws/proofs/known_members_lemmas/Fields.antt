@@ -233,7 +233,7 @@ module _ (list : List Tree) (a : Answers list) (formed_list : list_all is_formed
           let fine_inner = first list f m inner (more (row counts) (more (row ts) none)) fine in
           let fine_ts = first list f m (row ts) none (rest list f m (row counts) (more (row ts) none) (rest list f m inner (more (row counts) (more (row ts) none)) fine)) in
           let read = counted_read last v inner counts in
-          let site : Site = record { kind = read.kind; read = read.ty; stored = converted last read.ty (conversion ts) } in
+          let site : Site = record { kind = read.kind; read = read.ty; stored = converted last read.ty (conversion ts); of_field = false } in
           let tests = none_parts (spec_tests k m read.spec) (all_tests (attribute_tests k m (kind_of read.spec) unknown) (attributes last v site ts)) good.0 in
           let names = none_parts (spec_names m read.spec) (all_tests (attribute_names m) (attributes last v site ts)) good.1 in
           let opens = else_none (base_open list count r (here r) v inner) (conversion_open list count r (here r) (counted_read (here r) v inner counts).ty (conversion ts)) open_ in
@@ -252,7 +252,7 @@ module _ (list : List Tree) (a : Answers list) (formed_list : list_all is_formed
         let ends = stands_as optional condition && (stands_as optional sink && (stands_as (stands.Rows group_is.HookBodies) hooks && true)) in
         let whole = field_of last v fields span (present name) (counted_read last v base counts) ts (present condition) (present sink) in
         let read = counted_read last v base counts in
-        let site : Site = record { kind = read.kind; read = read.ty; stored = converted last read.ty (conversion ts) } in
+        let site : Site = record { kind = read.kind; read = read.ty; stored = converted last read.ty (conversion ts); of_field = true } in
         let at_name = and_parts (stands_as (stands.Optional group_is.Names) name) (is_of group_is.Bases base && (are_of group_is.Counts counts && (are_of group_is.Attributes ts && ends))) (formed list f m form_is.Field span (field_parts name base counts ts condition sink hooks) h) in
         let at_base = and_parts (is_of group_is.Bases base) (are_of group_is.Counts counts && (are_of group_is.Attributes ts && ends)) at_name.1 in
         let at_counts = and_parts (are_of group_is.Counts counts) (are_of group_is.Attributes ts && ends) at_base.1 in

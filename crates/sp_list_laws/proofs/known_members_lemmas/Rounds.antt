@@ -1,13 +1,12 @@
 -- By rounds: what is stored in each member has a full type, and each member has one.
-use Rattle.std.specs.Prelude.{is_some, false, true}
+use Rattle.std.specs.Prelude.{false, true}
 use Rattle.std.specs.List.{list_all}
-use Rattle.std.proofs.Common.{ℕ, ◌≡◌, ◌<◌, ◌+◌, zero, suc, refl, sym, ap, subst, ◌∙◌, arith, List, [], ◌∷◌, ◌++◌, length, Option, Some, None, slice_get}
+use Rattle.std.proofs.Common.{ℕ, ◌≡◌, ◌<◌, zero, suc, refl, sym, ap, subst, ◌∙◌, List, length, Option, Some, None, slice_get}
 use Rattle.sp_base.specs.declared.places.Span.{Span}
 use Rattle.sp_ast.specs.Trees.{Tree}
 use Rattle.sp_ast.specs.Slots.{is_formed}
 use Rattle.sp_rules.specs.declared.fault.Fault.{Fault}
 use Rattle.sp_types.specs.Types.{Ty}
-use Rattle.sp_typed_units.specs.declared.declarations.EndlessConversion.{EndlessConversion}
 use Rattle.sp_typing.specs.Contexts.{Around}
 use Rattle.sp_typing_units.specs.Values.{Values}
 use Rattle.sp_solver.specs.declared.attempt.Attempt.{Attempt}
@@ -16,22 +15,18 @@ use Rattle.sp_solver.specs.Rounds.{got, round, Within}
 use Rattle.sp_solver.specs.Told.{told}
 use Rattle.sp_solver.proofs.Rounds.{round_within}
 use Rattle.sp_names.specs.Types.{or_unknown}
-use Rattle.sp_around.specs.Members.{unit_declaration}
-use Rattle.sp_list_rules.specs.Lists.{all_tests}
-use Rattle.sp_list_rules.specs.Bodies.{conversion_tests}
+use Rattle.sp_around.specs.declared.sources.Source.TheVariants as source_is
 use Rattle.sp_around.specs.declared.sources.Question.{Question}
 use Rattle.sp_around.specs.Sources.{questions}
 use Rattle.sp_stored_types.specs.Tries.{in_unit, source_type, source_open, when_open, nowhere, try_unit, try_asked, tries, AreStored}
-use Rattle.sp_stored_types.specs.Endless.{module_of, endless_row, unless_known, place_of, endless_of, endless_from}
+use Rattle.sp_stored_types.specs.Endless.{place_of}
 use Rattle.sp_stored_types.specs.inside.Aligned.{are_in_row}
 use Rattle.sp_stored_types.specs.inside.Laws.{is_fair}
 use Rattle.sp_checked_list.specs.Settled.{Answers}
 use Rattle.sp_checked_list.specs.Lists.{typed_of}
 use Rattle.sp_checked_list.specs.Rules.{Breaks}
 use Rattle.sp_list_laws.specs.known_types.Full.{is_full}
-use Rattle.sp_list_laws.specs.known_types.Clear.{none_hold}
 use Rattle.sp_list_laws.proofs.known_types_lemmas.Full.{never}
-use Rattle.sp_list_laws.proofs.whole_list_lemmas.None.{none_parts}
 use Rattle.sp_list_laws.proofs.whole_list_lemmas.Modules.{none_found, some_found}
 use Rattle.sp_list_laws.proofs.known_constants_lemmas.Declarations.{at_all}
 use Rattle.sp_list_laws.proofs.known_constants_lemmas.Rounds.{one_there, by_some}
@@ -41,6 +36,7 @@ use Rattle.sp_list_laws.proofs.known_members_lemmas.Contexts.{FullMembers}
 use Rattle.sp_list_laws.proofs.known_members_lemmas.Ranges.{full_members}
 use Rattle.sp_list_laws.proofs.known_members_lemmas.Units.{v, contexts}
 use Rattle.sp_list_laws.proofs.known_members_lemmas.Answered.{IsAnswered, all_answered}
+use Rattle.sp_list_laws.proofs.known_members_lemmas.Told.{SourceUntold, QuestionUntold, members_untold}
 
 got_done : (x : Attempt Ty) (u : Ty) → got x ≡ Some u → x ≡ Done u
 got_done (Done b) u e = ap Done (some_found b u e)
@@ -54,15 +50,11 @@ done_there : (o : Option Ty) (i : ℕ) (u : Ty) → nowhere o i ≡ Done u → o
 done_there None i u e = absurd (let z : ⊥ = cc in z)
 done_there (Some b) i u e = ap Some (let z : b ≡ u = cc in z)
 
-rows_behind : (xs ys : List EndlessConversion) → none_hold (all_tests conversion_tests (xs ++ ys)) ≡ true → none_hold (all_tests conversion_tests ys) ≡ true
-rows_behind [] ys h = h
-rows_behind (x ∷ xs) ys h = rows_behind xs ys (none_parts (conversion_tests x) (all_tests conversion_tests (xs ++ ys)) h).1
-
--- Each member without a type has a conversion that hangs on one without a type.
+-- Each member without a type is a field with a conversion that hangs on one without a type.
 abbrev pub NoneIsPassed : Type 0
 NoneIsPassed =
     (list : List Tree) (contexts : List Around) (v : Values) (types : List (Option Ty)) (i : ℕ) (q : Question) → AreStored list contexts v types → slice_get (questions list) i ≡ Some q → told types i ≡ None
-    → (at : Span) × (place_of list contexts v types q ≡ Some at)
+    → (t : Tree) × (q.source ≡ source_is.Field t) × (at : Span) × (place_of list contexts v types q.unit t ≡ Some at)
 
 module _ (list : List Tree) (a : Answers list) (formed_list : list_all is_formed list ≡ true) (unbroken : (x : Fault) → Breaks list x → ⊥) (reads : list_all unit_reads (typed_of list a).units ≡ true) (passed : NoneIsPassed) where
   abbrev worth : Values
@@ -105,29 +97,19 @@ module _ (list : List Tree) (a : Answers list) (formed_list : list_all is_formed
       ))
 
   -- a member without a type breaks a rule
-  endless_at : (h : ℕ) (qs : List Question) (j : ℕ) (q : Question) (at : Span) → slice_get qs j ≡ Some q → told a.stored (h + j) ≡ None → place_of list round_units worth a.stored q ≡ Some at
-      → none_hold (all_tests conversion_tests (endless_from list round_units worth a.stored h qs)) ≡ true → false ≡ true
-  endless_at h [] j q at e n place tests = none_found q e
-  endless_at h (x ∷ qs) zero q at e n place tests =
-      let s : h + 0 ≡ h = omega arith in
-      let open_ : is_some (told a.stored h) ≡ false = ap (λ i. is_some (told a.stored i)) (sym s) ∙ ap is_some n in
-      let same = ap (place_of list round_units worth a.stored) (some_found x q e) ∙ place in
-      let p = subst (λ b. none_hold (all_tests conversion_tests (unless_known b (endless_of list round_units worth a.stored x) ++ endless_from list round_units worth a.stored (suc h) qs)) ≡ true) open_ tests in
-      subst (λ o. none_hold (all_tests conversion_tests (endless_row (module_of (unit_declaration list x.unit)) o ++ endless_from list round_units worth a.stored (suc h) qs)) ≡ true) same p
-  endless_at h (x ∷ qs) (suc j) q at e n place tests =
-      let s : h + suc j ≡ suc h + j = omega arith in
-      endless_at (suc h) qs j q at e (ap (told a.stored) (sym s) ∙ n) place (rows_behind (unless_known (is_some (told a.stored h)) (endless_of list round_units worth a.stored x)) (endless_from list round_units worth a.stored (suc h) qs) tests)
+  untold : (i : ℕ) (q : Question) → slice_get (questions list) i ≡ Some q → told a.stored i ≡ None → false ≡ true
+  untold i q e n =
+      let place = passed list round_units worth a.stored i q a.kept e n in
+      let none_told = at_all (QuestionUntold list round_units worth a.stored) (questions list) i q (members_untold list round_units worth a.stored (are_asked list a unbroken).conversions) e in
+      let none_there = subst (SourceUntold list round_units worth a.stored q.unit) place.1 none_told in
+      none_found place.2 (sym none_there ∙ place.3)
 
   pub stored_full : (i : ℕ) → i < count → is_full (or_unknown (told a.stored i)) ≡ true
   stored_full i lt = by (told a.stored i) refl
     where
       by : (o : Option Ty) → told a.stored i ≡ o → is_full (or_unknown o) ≡ true
       by None n =
-          never (by_some (slice_get (questions list) i) (λ e. one_there (questions list) i lt e) (λ q e. (
-          let s : 0 + i ≡ i = omega arith in
-          let place = passed list round_units worth a.stored i q a.kept e n in
-          endless_at 0 (questions list) i q place.0 e (ap (told a.stored) s ∙ n) place.1 (are_asked list a unbroken).conversions
-          )))
+          never (by_some (slice_get (questions list) i) (λ e. one_there (questions list) i lt e) (λ q e. untold i q e n))
       by (Some u) e = (let k = a.kept.settled.found i u e in rounds_full k.0 i u k.1)
 
   -- All members that can be found have full types.

@@ -251,10 +251,9 @@ module _ (only : OneOp → Bool) (k : Known) (m : ℕ) where
       let f = subst (λ t. Fine (index_tests k m t a i)) of v.1 in
       let know = knows_it i v.0.index in
       let past = both_false (knows i) (not (is_unsigned (type_of i)) || is_constant (k.constancy i)) f.0 know in
-      let open_ = both_false (knows i) (is_not_constant (k.constancy i)) f.1.0 know in
       let parts = or_parts (not (is_unsigned (type_of i))) (is_constant (k.constancy i)) past in
       let decided = settled inner (whole_of i v.0.index) v.0.index.within (not_so (is_unsigned (type_of i)) parts.0) in
-      never (sym (or_from (is_constant (k.constancy i)) (is_not_constant (k.constancy i)) parts.1 open_) ∙ decided)
+      never (sym (or_from (is_constant (k.constancy i)) (is_not_constant (k.constancy i)) parts.1 f.1.0) ∙ decided)
 
   item_holds : (span : Span) (ts : types.Tys) (o : Option Ty) (n : ℕ) (a i : Expr) → Decided i → seen a ≡ made maker_is.Tuple ts → part_at ts n ≡ o → Holds only k m a → Holds only k m i → Holds only k m (item_of span o n a i)
   item_holds span ts None n a i settled is at ga hi c = no_item span ts a i settled is ga hi c

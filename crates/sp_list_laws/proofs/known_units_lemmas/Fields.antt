@@ -47,7 +47,7 @@ use Rattle.sp_typing_units.specs.declared.roles.Role.{Role}
 use Rattle.sp_typing_units.specs.declared.roles.Role.TheVariants as role_is
 use Rattle.sp_typing_units.specs.Roles.{may_stand, role_of, delimiting, grouped}
 use Rattle.sp_typing_units.specs.Values.{Values}
-use Rattle.sp_typing_units.specs.Attributes.{maybe_typed, element_of, value_typed, attribute_by, attributes, conversion, converted}
+use Rattle.sp_typing_units.specs.Attributes.{maybe_typed, element_of, default_typed, value_typed, attribute_by, attributes, conversion, converted}
 use Rattle.sp_ast.specs.Views.{present}
 use Rattle.sp_typing_units.specs.Readings.{constant_read, constant_of_type, named_op, named_read, word_read, unknown_read, type_read, arguments, called_word, called_op, called, container, contained, base_read, counted_read}
 use Rattle.sp_typing_units.specs.Parts.{Fields, field_of}
@@ -210,14 +210,18 @@ module _ (list : List Tree) (a : Answers list) (formed_list : list_all is_formed
       arrow_known k m e (here (node form span ts) of h) names (and_parts (not (not takes)) (none_hold (arrow_tests m e ++ inside_tests k m e)) tests).1
 
   -- attributes
-  value_holds : (r : Role) (read stored : Ty) (e : Tree) → is_of group_is.Expressions e ≡ true → Fine e → is_placed r read stored ≡ true → Holds any_op k m (value_typed g r read stored e)
-  value_holds role_is.Conversion read stored e of h placed = meant_here list a formed_list unbroken n m ps full members read placed e of h
-  value_holds role_is.Requirement read stored e of h placed = meant_here list a formed_list unbroken n m ps full members stored placed e of h
-  value_holds role_is.Test read stored e of h placed = meant_here list a formed_list unbroken n m ps full members (element_of read) placed e of h
-  value_holds role_is.Unasked read stored e of h placed = never placed
-  value_holds role_is.Alone read stored e of h placed = never placed
-  value_holds role_is.Default read stored e of h placed = target_holds any_op k m stored (typed g e) (here e of h)
-  value_holds _ read stored e of h placed = here e of h
+  default_holds : (of_field : Bool) (stored : Ty) (x : Expr) → Holds any_op k m x → Holds any_op k m (default_typed of_field stored x)
+  default_holds true stored x h = target_holds any_op k m stored x h
+  default_holds false stored x h = h
+
+  value_holds : (r : Role) (s : Site) (e : Tree) → is_of group_is.Expressions e ≡ true → Fine e → is_placed r s.read s.stored ≡ true → Holds any_op k m (value_typed g r s e)
+  value_holds role_is.Conversion s e of h placed = meant_here list a formed_list unbroken n m ps full members s.read placed e of h
+  value_holds role_is.Requirement s e of h placed = meant_here list a formed_list unbroken n m ps full members s.stored placed e of h
+  value_holds role_is.Test s e of h placed = meant_here list a formed_list unbroken n m ps full members (element_of s.read) placed e of h
+  value_holds role_is.Unasked s e of h placed = never placed
+  value_holds role_is.Alone s e of h placed = never placed
+  value_holds role_is.Default s e of h placed = default_holds s.of_field s.stored (typed g e) (here e of h)
+  value_holds _ s e of h placed = here e of h
 
   -- where attributes stand: what is read has a full type, and so has what is stored
   record IsPlace (s : Site) : Type 0 where
@@ -235,8 +239,8 @@ module _ (list : List Tree) (a : Answers list) (formed_list : list_all is_formed
   one_known s place h kind t span name (node form at ts) of fine may valued tests names =
       let e = node form at ts in
       let r = role_of s.kind name in
-      let x = value_typed g r s.read s.stored e in
-      value_known k m x (value_holds r s.read s.stored e of fine (attribute_placed h s.kind name s.read s.stored place.read place.stored place.rows place.whole may valued)) (role_value k m t name (role_of kind name) x names tests)
+      let x = value_typed g r s e in
+      value_known k m x (value_holds r s e of fine (attribute_placed h s.kind name s.read s.stored place.read place.stored place.rows place.whole may valued)) (role_value k m t name (role_of kind name) x names tests)
 
   attributes_known : (s : Site) → IsPlace s → (h : Holder) (kind kind_rules : Kind) → kind_rules ≡ s.kind → (t : Ty) (earlier : List Attribute) (ts : Trees) → are_of group_is.Attributes ts ≡ true → AreFine list f m ts
       → none_hold (all_tests (attribute_tests k m kind t) (attributes g worth s ts)) ≡ true → none_hold (all_tests (attribute_names m) (attributes g worth s ts)) ≡ true
@@ -372,20 +376,20 @@ module _ (list : List Tree) (a : Answers list) (formed_list : list_all is_formed
   counted_typed x counts of h good =
       contained_full g worth (trees.span_of x) counts (base_read g worth x) (base_typed x of h (element_good list a formed_list unbroken n m ps (trees.span_of x) counts (base_read g worth x) good))
 
-  converted_typed : (x : Tree) (counts ts : Trees) → is_of group_is.Bases x ≡ true → Fine x → Good (counted_read g worth x counts).spec → (kind : Kind) (t : Ty) → are_of group_is.Attributes ts ≡ true → AreFine list f m ts
-      → none_hold (all_tests (attribute_tests k m kind t) (attributes g worth (record { kind = (counted_read g worth x counts).kind; read = (counted_read g worth x counts).ty; stored = converted g (counted_read g worth x counts).ty (conversion ts) }) ts)) ≡ true
-      → none_hold (all_tests (attribute_names m) (attributes g worth (record { kind = (counted_read g worth x counts).kind; read = (counted_read g worth x counts).ty; stored = converted g (counted_read g worth x counts).ty (conversion ts) }) ts)) ≡ true
+  converted_typed : (of_field : Bool) (x : Tree) (counts ts : Trees) → is_of group_is.Bases x ≡ true → Fine x → Good (counted_read g worth x counts).spec → (kind : Kind) (t : Ty) → are_of group_is.Attributes ts ≡ true → AreFine list f m ts
+      → none_hold (all_tests (attribute_tests k m kind t) (attributes g worth (record { kind = (counted_read g worth x counts).kind; read = (counted_read g worth x counts).ty; stored = converted g (counted_read g worth x counts).ty (conversion ts); of_field = of_field }) ts)) ≡ true
+      → none_hold (all_tests (attribute_names m) (attributes g worth (record { kind = (counted_read g worth x counts).kind; read = (counted_read g worth x counts).ty; stored = converted g (counted_read g worth x counts).ty (conversion ts); of_field = of_field }) ts)) ≡ true
       → is_full (converted g (counted_read g worth x counts).ty (conversion ts)) ≡ true
-  converted_typed x counts ts of h good kind t of_ts fine tests names =
+  converted_typed of_field x counts ts of h good kind t of_ts fine tests names =
       let r = counted_read g worth x counts in
-      let site : Site = record { kind = r.kind; read = r.ty; stored = converted g r.ty (conversion ts) } in
+      let site : Site = record { kind = r.kind; read = r.ty; stored = converted g r.ty (conversion ts); of_field = of_field } in
       behind_full list a formed_list unbroken n m ps full any_members (told a.stored) (λ i u e. e) answers x counts ts (counted_typed x counts of h good)
       (none_else _ _ (base_closed list count (told a.stored) stored_full g worth x) (conversion_closed list count (told a.stored) stored_full g worth r.ty (conversion ts)))
       (is_conversion list a formed_list unbroken n m ps site kind t ts of_ts fine tests names)
 
-  site_placed : (x : Tree) (counts ts : Trees) → is_of group_is.Bases x ≡ true → Fine x → Good (counted_read g worth x counts).spec → is_full (converted g (counted_read g worth x counts).ty (conversion ts)) ≡ true
-      → IsPlace (record { kind = (counted_read g worth x counts).kind; read = (counted_read g worth x counts).ty; stored = converted g (counted_read g worth x counts).ty (conversion ts) })
-  site_placed x counts ts of h good stored =
+  site_placed : (of_field : Bool) (x : Tree) (counts ts : Trees) → is_of group_is.Bases x ≡ true → Fine x → Good (counted_read g worth x counts).spec → is_full (converted g (counted_read g worth x counts).ty (conversion ts)) ≡ true
+      → IsPlace (record { kind = (counted_read g worth x counts).kind; read = (counted_read g worth x counts).ty; stored = converted g (counted_read g worth x counts).ty (conversion ts); of_field = of_field })
+  site_placed of_field x counts ts of h good stored =
       let r = counted_read g worth x counts in
       record {
         read = counted_typed x counts of h good;
@@ -419,7 +423,7 @@ module _ (list : List Tree) (a : Answers list) (formed_list : list_all is_formed
       let fine_counts = first list f m (row counts) (more (row ts) none) behind in
       let fine_ts = first list f m (row ts) none (rest list f m (row counts) (more (row ts) none) behind) in
       let r = counted_read g worth x counts in
-      let site : Site = record { kind = r.kind; read = r.ty; stored = converted g r.ty (conversion ts) } in
+      let site : Site = record { kind = r.kind; read = r.ty; stored = converted g r.ty (conversion ts); of_field = false } in
       let l = attributes g worth site ts in
       let tests = none_parts (spec_tests k m r.spec) (all_tests (attribute_tests k m (kind_of r.spec) unknown) l) good.0 in
       let names = none_parts (spec_names m r.spec) (all_tests (attribute_names m) l) good.1 in
@@ -427,10 +431,10 @@ module _ (list : List Tree) (a : Answers list) (formed_list : list_all is_formed
       let p = none_parts (spec_rules us d l r.spec) (attributes_rules us d holder_is.Group (kind_of r.spec) [] l) rules.rules in
       let inner_rules : HasRules r.spec = record { own = l; rules = p.0 } in
       let base_good = element_good list a formed_list unbroken n m ps (trees.span_of x) counts (base_read g worth x) inner in
-      let stored = converted_typed x counts ts o.0 fine_x inner (kind_of r.spec) unknown o_ts fine_ts tests.1 names.1 in
+      let stored = converted_typed false x counts ts o.0 fine_x inner (kind_of r.spec) unknown o_ts fine_ts tests.1 names.1 in
       and_from (is_known_spec r.spec) (list_all is_known_attribute l)
       (contained_known (trees.span_of x) counts (base_read g worth x) o_counts.0 fine_counts inner (base_known x o.0 fine_x base_good (element_rules (trees.span_of x) counts (base_read g worth x) inner_rules)))
-      (attributes_known site (site_placed x counts ts o.0 fine_x inner stored) holder_is.Group (kind_of r.spec) (kind_of r.spec) (counted_kinds g worth x counts) unknown [] ts o_ts fine_ts tests.1 names.1 p.1)
+      (attributes_known site (site_placed false x counts ts o.0 fine_x inner stored) holder_is.Group (kind_of r.spec) (kind_of r.spec) (counted_kinds g worth x counts) unknown [] ts o_ts fine_ts tests.1 names.1 p.1)
   base_known (node (form_is.Base (base_is.Bytes bytes)) at none) of h good rules = refl
   base_known (node (form_is.Base (base_is.Regex text)) at none) of h good rules = refl
   base_known (node (form_is.Base (base_is.Number x)) at (more u none)) of h good rules = refl
@@ -450,7 +454,7 @@ module _ (list : List Tree) (a : Answers list) (formed_list : list_all is_formed
       let ends = stands_as optional condition && (stands_as optional sink && (stands_as (stands.Rows group_is.HookBodies) hooks && true)) in
       let x = field_of g worth fields span (present name) (counted_read g worth base counts) ts (present condition) (present sink) in
       let r = counted_read g worth base counts in
-      let site : Site = record { kind = r.kind; read = r.ty; stored = converted g r.ty (conversion ts) } in
+      let site : Site = record { kind = r.kind; read = r.ty; stored = converted g r.ty (conversion ts); of_field = true } in
       let l = attributes g worth site ts in
       let at_name = and_parts (stands_as (stands.Optional group_is.Names) name) (is_of group_is.Bases base && (are_of group_is.Counts counts && (are_of group_is.Attributes ts && ends))) (formed list f m form_is.Field span ws h) in
       let at_base = and_parts (is_of group_is.Bases base) (are_of group_is.Counts counts && (are_of group_is.Attributes ts && ends)) at_name.1 in
@@ -479,9 +483,9 @@ module _ (list : List Tree) (a : Answers list) (formed_list : list_all is_formed
       let whole : Good r.spec = (t_spec.0, n_spec.0, good.2) in
       let rules : HasRules r.spec = record { own = l; rules = r_spec.0 } in
       let base_good = element_good list a formed_list unbroken n m ps (trees.span_of base) counts (base_read g worth base) whole in
-      let stored = converted_typed base counts ts at_base.0 fine_base whole (kind_of r.spec) x.ty at_ts.0 fine_ts t_ts.0 n_ts.0 in
+      let stored = converted_typed true base counts ts at_base.0 fine_base whole (kind_of r.spec) x.ty at_ts.0 fine_ts t_ts.0 n_ts.0 in
       let known = contained_known (trees.span_of base) counts (base_read g worth base) at_counts.0 fine_counts whole (base_known base at_base.0 fine_base base_good (element_rules (trees.span_of base) counts (base_read g worth base) rules)) in
-      let attributes_ = attributes_known site (site_placed base counts ts at_base.0 fine_base whole stored) (holder_of x.member) (kind_of r.spec) (kind_of r.spec) (counted_kinds g worth base counts) x.ty [] ts at_ts.0 fine_ts t_ts.0 n_ts.0 r_ts.0 in
+      let attributes_ = attributes_known site (site_placed true base counts ts at_base.0 fine_base whole stored) (holder_of x.member) (kind_of r.spec) (kind_of r.spec) (counted_kinds g worth base counts) x.ty [] ts at_ts.0 fine_ts t_ts.0 n_ts.0 r_ts.0 in
       and_from (is_full x.ty) _ stored
       (and_from (is_known_spec r.spec) _ known
       (and_from (list_all is_known_attribute l) _ attributes_

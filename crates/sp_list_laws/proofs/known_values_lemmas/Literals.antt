@@ -21,7 +21,7 @@ use Rattle.sp_operands.specs.Literals.{can_take, has_number, is_past}
 use Rattle.sp_constants.specs.Known.{Known}
 use Rattle.sp_constants.specs.declared.outcome.Outcome.{Outcome}
 use Rattle.sp_constants.specs.declared.outcome.Outcome.TheVariants as outcome_is
-use Rattle.sp_constants.specs.Operations.{if_within, literal, negative_literal, typed_number, or_error_past}
+use Rattle.sp_constants.specs.Operations.{if_within, literal, negative_literal}
 use Rattle.sp_constants.specs.Values.{value_of, leaf_value}
 use Rattle.sp_list_laws.proofs.known_types_lemmas.Full.{never}
 use Rattle.sp_list_laws.proofs.known_types_lemmas.Tests.{not_so}
@@ -50,7 +50,7 @@ within : {A : Type 0} (t : Ty) (make : A → Val) (b : Bool) (a : A) (error : PK
 within t make true a error e f = f
 within t make false a error e f = never e
 
-number_fits : (w : Word) (n : ℕ) → can_take w ≡ true → has_number w false n ≡ true → fits (word w) (literal (word w) n) ≡ true
+pub number_fits : (w : Word) (n : ℕ) → can_take w ≡ true → has_number w false n ≡ true → fits (word w) (literal (word w) n) ≡ true
 number_fits (word_is.Uint x) n c h = within (word (word_is.Uint x)) (uint x) (fits_unsigned x (pos n)) _ CastRange (unsigned_within x n h) refl
 number_fits (word_is.Int x) n c h = within (word (word_is.Int x)) (int x) (fits_signed x (pos n)) (pos n) CastRange (signed_within x n h) refl
 number_fits _ n c h = never c
@@ -69,16 +69,6 @@ negative_fits : (w : Word) (n : ℕ) → can_take w ≡ true → has_number w tr
 negative_fits (word_is.Uint x) n c h = zero_fits x n (n == 0) refl h
 negative_fits (word_is.Int x) n c h = within (word (word_is.Int x)) (int x) (fits_signed x (neg_ℤ (pos n))) _ CastRange (negative_within x n h) refl
 negative_fits _ n c h = never c
-
--- a number whose type is written
-past_fits : {A : Type 0} (t : Ty) (make : A → Val) (r : Result A PKind) → ((a : A) → is_of t (make a) ≡ true) → fits t (or_error_past (if_within make r)) ≡ true
-past_fits t make (Ok a) f = f a
-past_fits t make (Err e) f = refl
-
-pub typed_fits : (w : Word) (n : ℕ) → can_take w ≡ true → fits (word w) (typed_number (word w) n) ≡ true
-typed_fits (word_is.Uint x) n c = past_fits (word (word_is.Uint x)) (uint x) (unsigned_or CastRange x (pos n)) (λ a. refl)
-typed_fits (word_is.Int x) n c = past_fits (word (word_is.Int x)) (int x) (signed_or CastRange x (pos n)) (λ a. refl)
-typed_fits _ n c = never c
 
 module _ (k : Known) where
   -- a literal that took an integer type, and is not past it

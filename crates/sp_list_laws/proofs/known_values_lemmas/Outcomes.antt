@@ -102,11 +102,12 @@ FitAll _ _ = ⊥
 -- what the worse of two lacks, and what all do, by one that lacks it
 unfoldable pub worse_one : Outcome → Outcome → Outcome
 worse_one (Value v) p = p
-worse_one Error (Value v) = Error
-worse_one Error p = p
 worse_one NotConstant p = NotConstant
-worse_one _ NotConstant = NotConstant
-worse_one _ p = Unknown
+worse_one Error NotConstant = NotConstant
+worse_one Error p = Error
+worse_one _ (Value v) = Unknown
+worse_one _ (Regex text) = Unknown
+worse_one _ p = p
 
 worse_is : (o p : Outcome) → worse (lack_of o) (lack_of p) ≡ lack_of (worse_one o p)
 unfolding worse_one
@@ -155,10 +156,10 @@ module _ (Holds : List Ty → List Val → Type 0) (none : Holds [] []) (add : (
   with_error : (t : Ty) (ts : List Ty) (o : Outcome) (vs ws : List Val) → Row ts o vs → Row (t ∷ ts) (worse_one Error o) ws
   unfolding worse_one
   with_error t ts (Value w) vs ws r = tt
-  with_error t ts (Regex text) vs ws r = r
+  with_error t ts (Regex text) vs ws r = tt
   with_error t ts NotConstant vs ws r = tt
   with_error t ts Error vs ws r = tt
-  with_error t ts Unknown vs ws r = r
+  with_error t ts Unknown vs ws r = tt
 
   row : (ts : List Ty) (os : List Outcome) → FitAll ts os → Row ts (worst_one os) (values os)
   unfolding worst_one worse_one

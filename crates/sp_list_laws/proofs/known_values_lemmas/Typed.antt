@@ -14,15 +14,16 @@ use Rattle.sp_typed.specs.declared.words.OneOp.{OneOp}
 use Rattle.sp_typed.specs.declared.words.LeafOp.TheVariants as leaf_is
 use Rattle.sp_typing.specs.declared.places.Place.TheVariants.{Whole}
 use Rattle.sp_typing.specs.Contexts.{Around}
-use Rattle.sp_operands.specs.Literals.{can_take, seen, unsigned_literal}
+use Rattle.sp_operands.specs.Literals.{can_take, has_number, seen, unsigned_literal}
 use Rattle.sp_typing.specs.Typing.{typed, typed_all, pairs_typed, leaf_at, number_in, name_of, led}
 use Rattle.sp_types.specs.Integers.{int_word}
 use Rattle.sp_body_rules.specs.Known.{Known}
 use Rattle.sp_constants.specs.Known.{Known as Values}
 use Rattle.sp_list_laws.specs.known_types.Trees.{is_expr, are_exprs, are_pairs}
 use Rattle.sp_list_laws.proofs.known_types_lemmas.Full.{never}
+use Rattle.sp_list_laws.proofs.known_types_lemmas.Tests.{first_fine, not_so}
 use Rattle.sp_list_laws.specs.known_values.Given.{AreTold}
-use Rattle.sp_list_laws.proofs.known_values_lemmas.Literals.{literal_told, typed_fits}
+use Rattle.sp_list_laws.proofs.known_values_lemmas.Literals.{literal_told, number_fits}
 use Rattle.sp_list_laws.proofs.known_values_lemmas.Nodes.{Told, not_told, negate_told, complement_told, size_told, cast_told}
 use Rattle.sp_list_laws.proofs.known_values_lemmas.Pairs.{binary_told, choice_told, index_told}
 use Rattle.sp_list_laws.proofs.known_values_lemmas.Rows.{ToldAll, ToldPairs, tuple_told, vector_told, set_told, map_told, led_told, member_told, set_member_told, call_told, new_told, method_told}
@@ -57,7 +58,8 @@ module _ (g : Around) (only : OneOp → Bool) (k : Known) (m : ℕ) (v : Values)
     typed_told (node (form_is.Expr expr_is.EmptyVector) span (more t none)) is = λ c r p. refl
     typed_told (node (form_is.Expr expr_is.EmptySet) span (more t none)) is = λ c r p. refl
     typed_told (node (form_is.Expr expr_is.EmptyMap) span (more s (more t none))) is = λ c r p. refl
-    typed_told (node (form_is.Expr (expr_is.TypedNumber w)) span (more n none)) is = λ c r p. typed_fits (int_word w) (number_in n) (int_takes w)
+    typed_told (node (form_is.Expr (expr_is.TypedNumber w)) span (more n none)) is =
+        λ c r p. (let f = first_fine only k m (leaf_at span (word (int_word w)) (leaf_is.TypedNumber (number_in n))) c in number_fits (int_word w) (number_in n) (int_takes w) (not_so (has_number (int_word w) false (number_in n)) f.0))
     typed_told (node (form_is.Expr expr_is.Cast) span (more t (more e none))) is =
         cast_told only k m v span (g.type_in Whole t) (g.written Whole t) (typed g e) (typed_told e (and_parts (is_type t) (is_expr is_type is_path e) is).1)
     typed_told (node (form_is.Expr expr_is.New) span (more path (more (row ts) none))) is = new_told only k m v g span (read.span_of path) (g.named (read.span_of path) path) (typed_all g ts)

@@ -79,7 +79,7 @@ module _ (g : Around) (v : Values) (fields : Fields) where
       let reading = counted_reads g v base counts (first_built base _ at_base) e in
       record {
         reads = λ o. (
-            let order = orders_alone g v (record { kind = r.kind; read = r.ty; stored = f.ty }) ts own_attributes o in
+            let order = orders_alone g v (record { kind = r.kind; read = r.ty; stored = f.ty; of_field = true }) ts own_attributes o in
             let w = reading order.order in
             let inner_form : where_known (only_orders o f.attributes) (λ p. integer_spec p r.spec) ≡ Some w.0 = ap (λ x. where_known x (λ p. integer_spec p r.spec)) order.is ∙ w.1 in
             let neither : integer_field o f ≡ where_known (only_orders o f.attributes) (λ p. integer_spec p r.spec) = ap (λ c. without_either (maybe_typed g c) (maybe_typed g (present sink)) (where_known (only_orders o f.attributes) (λ p. integer_spec p r.spec))) no_condition ∙ ap (λ c. without_either None (maybe_typed g c) (where_known (only_orders o f.attributes) (λ p. integer_spec p r.spec))) no_sink in

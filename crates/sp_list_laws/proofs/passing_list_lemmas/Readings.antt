@@ -187,7 +187,7 @@ module _ (g : Around) (v : Values) where
       let r = contained g (trees.span_of inner) counts (base_read g v inner) in
       let h = contained_reads (trees.span_of inner) counts (base_read g v inner) (base_reads inner (first_built inner (more (row counts) (more (row ts) none)) parts)) e in
       let stored = converted g r.ty (conversion ts) in
-      let site : Site = record { kind = r.kind; read = r.ty; stored = stored } in
+      let site : Site = record { kind = r.kind; read = r.ty; stored = stored; of_field = false } in
       let same : stored ≡ r.ty = ap (converted g r.ty) (no_conversion ts own) in
       λ o. (
       let order = orders_alone site ts own o in

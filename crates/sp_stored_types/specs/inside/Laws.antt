@@ -46,7 +46,7 @@ use Rattle.sp_stored_types.specs.inside.Typed.{AreInRow, typed_kept}
 use Rattle.sp_stored_types.specs.inside.Aligned.{are_in_row}
 
 -- the type of a container is that of its element, and how often it is read
-contained_type : (g h : Around) (at : Span) (counts : Trees) (r s : Read) → s.ty ≡ r.ty → (contained h at counts s).ty ≡ (contained g at counts r).ty
+pub contained_type : (g h : Around) (at : Span) (counts : Trees) (r s : Read) → s.ty ≡ r.ty → (contained h at counts s).ty ≡ (contained g at counts r).ty
 contained_type g h at none r s e = e
 contained_type g h at (more (node form_is.Count span (more count none)) ts) r s e =
     contained_type g h at ts (container g at span (present count) r) (container h at span (present count) s) (ap vector_of e)
@@ -108,7 +108,7 @@ module _ (list : List Tree) (count : ℕ) (in_row : AreInRow list count) (f g : 
       (λ same. conversion_kept o (counted_read (early o) v inner counts).ty (counted_read (late o) v inner counts).ty e
       (contained_type (early o) (late o) (read.span_of inner) counts (base_read (early o) v inner) (base_read (late o) v inner) same))
 
-  base_kept : (o : Around) (t : Tree) → Kept g (base_read (early o) v t).ty (base_open list count f (early o) v t) (base_read (late o) v t).ty (base_open list count g (late o) v t)
+  pub base_kept : (o : Around) (t : Tree) → Kept g (base_read (early o) v t).ty (base_open list count f (early o) v t) (base_read (late o) v t).ty (base_open list count g (late o) v t)
   base_kept o (node (form_is.Base base_is.Type) at (more t none)) = record {
     same = λ e. ap (λ r. Read.ty r) (type_same o at t (o.type_in place_is.Whole t));
     none = λ e. refl;
@@ -212,11 +212,11 @@ waits_is i j e = cc
 done_is : (a b : Ty) → Done a ≡ Done b → a ≡ b
 done_is a b e = cc
 
-when_done : (b a : Ty) (o : Option ℕ) → when_open b o ≡ Done a → (o ≡ None) × (b ≡ a)
+pub when_done : (b a : Ty) (o : Option ℕ) → when_open b o ≡ Done a → (o ≡ None) × (b ≡ a)
 when_done b a None e = (refl, done_is b a e)
 when_done b a (Some j) e = absurd (done_waits a j (sym e))
 
-when_waits : (b : Ty) (o : Option ℕ) (j : ℕ) → when_open b o ≡ Waits j → o ≡ Some j
+pub when_waits : (b : Ty) (o : Option ℕ) (j : ℕ) → when_open b o ≡ Waits j → o ≡ Some j
 when_waits b None j e = absurd (done_waits b j e)
 when_waits b (Some k) j e = ap Some (waits_is k j e)
 

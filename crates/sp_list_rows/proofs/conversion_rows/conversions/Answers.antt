@@ -5,7 +5,7 @@ use Rattle.sp_types.specs.Types.{Ty}
 use Rattle.sp_solver.specs.Told.{told}
 use Rattle.sp_typing.specs.Contexts.{Around}
 use Rattle.sp_declared_values.specs.Answers.{values}
-use Rattle.sp_stored_types.specs.Endless.{endless}
+use Rattle.sp_list_rows.specs.Conversions.{endless}
 use Rattle.sp_list_context.specs.Contexts.{homes, all_parameters, seeing, seeing_parameters}
 use Rattle.sp_list_context.specs.Holds.{here_told, seeing_told}
 use Rattle.sp_list_rows.proofs.conversion_rows.conversions.Goals as goal
@@ -26,7 +26,8 @@ returns c =
     let homes_are : map here_told c.deref-2.result.now ≡ around = ap (map here_told) c.deref-2.ensures.value ∙ c.in_ok-homes.ensures in
     let contexts_are : map seeing_told c.deref-4.result.now ≡ seeing_parameters list types known nothing =
     ap (map seeing_told) c.deref-4.ensures.value ∙ c.in_ok-contexts.ensures ∙ ap (λ (gs : List Around). seeing gs c.deref-3.result.now) homes_are ∙ ap (seeing around) seen_are in
-    IfOk-weaker c.endless_conversions.result (λ v. v.items ≡ endless c.in_ok-members.members (map seeing_told c.deref-4.result.now) worth stored)
-    (λ v. v.items ≡ endless list (seeing_parameters list types known nothing) worth stored)
-    (λ v is. is ∙ ap (λ (l : List Tree). endless l (map seeing_told c.deref-4.result.now) worth stored) members_are ∙ ap (λ (gs : List Around). endless list gs worth stored) contexts_are)
-    c.endless_conversions.ensures
+    let sites = c.args.sites.now in
+    IfOk-weaker c.at_sites.result (λ v. v.items ≡ endless c.in_ok-members.members (map seeing_told c.deref-4.result.now) worth stored sites)
+    (λ v. v.items ≡ endless list (seeing_parameters list types known nothing) worth stored sites)
+    (λ v is. is ∙ ap (λ (l : List Tree). endless l (map seeing_told c.deref-4.result.now) worth stored sites) members_are ∙ ap (λ (gs : List Around). endless list gs worth stored sites) contexts_are)
+    c.at_sites.ensures
