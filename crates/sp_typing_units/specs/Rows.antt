@@ -78,7 +78,7 @@ around = record {
   itself = λ span. leaf_at span unknown (leaf_is.Itself standing_is.Unmeant);
   current = λ span. leaf_at span unknown (leaf_is.Current standing_is.Unmeant);
   type_in = λ place t. written_type t;
-  written = λ t. fine here;
+  written = λ place t. fine here;
   member = λ t x. None;
   method = λ t x span ts. None;
   target = λ op t n. Some short;
@@ -164,6 +164,10 @@ integer = refl
 -- `f: bool` can't be read, `f: X` names nothing, `f: N` names a number
 truth : counted_read around values (of_type type_is.Bool) none ≡ broken here (misplaced here here)
 truth = refl
+
+-- a type in which something is unknown is told for what is wrong inside it, and not for itself
+unknown_inside : counted_read around values (of_type type_is.Set) none ≡ broken here (fine here)
+unknown_inside = refl
 
 nothing : counted_read around values (of_path (codes "X")) none ≡ broken here (unnamed here here)
 nothing = refl
