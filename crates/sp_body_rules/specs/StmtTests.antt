@@ -26,7 +26,6 @@ use Rattle.sp_rules.specs.Faults.{at}
 use Rattle.sp_body_rules.specs.Known.{Known}
 use Rattle.sp_body_rules.specs.ExprTests.{may_change, may_change_in}
 
-
 abbrev pub is_map : Ty → Bool
 is_map (made maker_is.Map ts) = true
 is_map _ = false
