@@ -1,6 +1,4 @@
 use Rattle.std.proofs.Common.{◌∙◌, ap, sym}
-use Rattle.sp_ast.specs.Trees.{span_of}
-use Rattle.sp_names.specs.RowViews.{row_tree}
 use Rattle.sp_solver.specs.Told.{told}
 use Rattle.sp_names.proofs.Lists.{list_of_trees}
 use Rattle.sp_around.specs.Heads.{parameter_types, function_parameters}
@@ -9,8 +7,5 @@ use Rattle.sp_around.proofs.tables.function_table.Goals as goal
 pub returns-in_ok-result_type-in-Declared-Function-clause-takes : goal.returns-in_ok-result_type-in-Declared-Function-clause-takes
 returns-in_ok-result_type-in-Declared-Function-clause-takes c =
     let d = c.args.declaration.now in
-    let parameters =
-    ap function_parameters (sym c.view.ensures)
-    ∙ ap (λ v. function_parameters (row_tree (span_of d.tree) v)) c.in-Declared-Function.is
-    ∙ list_of_trees c.in-Declared-Function.parameters in
+    let parameters = ap function_parameters (sym c.in-Declared-Function.ensures) ∙ list_of_trees c.in-Declared-Function.parameters in
     c.in_ok-parameter_types-in-Declared-Function.ensures ∙ ap (parameter_types c.args.names.now (told c.args.known.now) d.«module») (sym parameters)
