@@ -10,6 +10,7 @@ pub returns-in_ok-push-in-Declared-On : goal.returns-in_ok-push-in-Declared-On
 returns-in_ok-push-in-Declared-On c =
     let t = c.args.tree.now in
     let old = c.args.sites.now.items in
+    let is = rw c.in-Declared-On.field-0-is at c.in-Declared-On.ensures in
     c.in_ok-push-in-Declared-On.ensures.items
     ∙ ap (λ x. old ++ site c.args.«module» 0 (holder_is.Declaration x)) (c.new.ensures ∙ c.lend.ensures)
-    ∙ ap (λ l. old ++ l) (sym (on_site c.args.«module» c.args.unit (span_of t) (c.in-Declared-On.path ∷ optional_tree c.in-Declared-On.hook_name ∷ c.in-Declared-On.hook ∷ []) t c.in-Declared-On.ensures))
+    ∙ ap (λ l. old ++ l) (sym (on_site c.args.«module» c.args.unit (span_of t) (c.in-Declared-On.path ∷ optional_tree c.in-Declared-On.hook_name ∷ c.in-Declared-On.hook ∷ []) t is))
