@@ -121,6 +121,13 @@ abbrev function : List Parameter → Option Written → Ty → List Stmt → Fun
 function ps w t ss =
     record { path = []; «module» = 1; span = on 10; parameters = ps; result = t; written = w; slots = []; body = block (stmts ss) }
 
+-- a type that can't stand where it is written, so that what is declared with it is of an unknown one
+abbrev misplaced : ℕ → Written
+misplaced n = record { span = on n; unnamed = None; misplaced = Some (on n) }
+
+abbrev misplaced_parameter : ℕ → Parameter
+misplaced_parameter n = record { name = []; span = on n; written = misplaced n; ty = unknown; inout = false }
+
 abbrev gives : Ty → List Stmt → Function
 gives t ss = function [] (Some (written 20)) t ss
 
@@ -183,15 +190,15 @@ hook_of_nothing = refl
 constant_of_nothing : names (of_constant (constant unknown None (unnamed 30) constant_is.Unknown)) ≡ (rule_is.UnknownName, 30) ∷ []
 constant_of_nothing = refl
 
--- functions: a unit is `inout`, and nothing else; a result is plain; a body with a result ends by giving it
-parameters_stand : bodies (of_functions (function (parameter 11 false uint8 ∷ parameter 12 true uint8 ∷ parameter 13 true some_unit ∷ parameter 14 false some_unit ∷ parameter 15 true unknown ∷ []) None nothing [] ∷ [])) ≡ (rule_is.TypeMismatch, 12) ∷ (rule_is.TypeMismatch, 14) ∷ []
+-- functions: the types of parameters and of a result can stand there; a body with a result ends by giving it
+parameters_stand : bodies (of_functions (function (parameter 11 false uint8 ∷ misplaced_parameter 12 ∷ parameter 13 true some_unit ∷ misplaced_parameter 14 ∷ parameter 15 true unknown ∷ []) None nothing [] ∷ [])) ≡ (rule_is.TypeMismatch, 12) ∷ (rule_is.TypeMismatch, 14) ∷ []
 parameters_stand = refl
 
-unit_is_no_result : bodies (of_functions (gives some_unit (bare_at 30 bare_is.Return ∷ []) ∷ [])) ≡ (rule_is.TypeMismatch, 20) ∷ (rule_is.NotAssignable, 30) ∷ []
-unit_is_no_result = refl
+result_is_misplaced : bodies (of_functions (function [] (Some (misplaced 20)) unknown (bare_at 30 bare_is.Return ∷ []) ∷ [])) ≡ (rule_is.TypeMismatch, 20) ∷ (rule_is.NotAssignable, 30) ∷ []
+result_is_misplaced = refl
 
-void_is_no_result : bodies (of_functions (gives nothing [] ∷ [])) ≡ (rule_is.TypeMismatch, 20) ∷ (rule_is.MissingReturn, 10) ∷ []
-void_is_no_result = refl
+misplaced_without_return : bodies (of_functions (function [] (Some (misplaced 20)) unknown [] ∷ [])) ≡ (rule_is.TypeMismatch, 20) ∷ (rule_is.MissingReturn, 10) ∷ []
+misplaced_without_return = refl
 
 may_end_without_result : bodies (of_functions (gives uint8 [] ∷ [])) ≡ (rule_is.MissingReturn, 10) ∷ []
 may_end_without_result = refl
