@@ -113,8 +113,8 @@ module _ (list : List Tree) (contexts : List Around) (v : Values) (types : List 
         both_of (NamedUntold n) (declared_in t) (declared_among ts) (in_tree m n t p.0) (among m n ts p.1)
 
   declared_untold : (m n : ℕ) (x : Tree) → AllOf SiteUntold (sites_of m n x) → AllOf (NamedUntold n) (declared_among (unit_items (unit_in (type_tree_of x))))
-  declared_untold m n (node (form_is.Decl (decl_is.Type public)) span (more name (more type ts))) h = among m n (unit_items (unit_in type)) h
-  declared_untold m n _ h = tt
+  declared_untold m n (node (form_is.Decl decl_is.On) span ts) h = tt
+  declared_untold m n x h = among m n (unit_items (unit_in (type_tree_of x))) h
 
   -- the sites of a declaration
   at_declaration : (h : ℕ) (ds : List Declaration) (j : ℕ) (d : Declaration) → slice_get ds j ≡ Some d → AllOf SiteUntold (sites_from list h ds) → AllOf SiteUntold (sites_of d.«module» (number_at list (h + j)) d.tree)

@@ -13,12 +13,12 @@ use Rattle.sp_typed.specs.Nodes.{holds}
 use Rattle.sp_typed.specs.Stmts.{Stmt, Stmts, Branches, Cases, bare, valued, assign, print, block, branch, while_loop, for_loop, switch, no_stmts, more_stmts, no_branches, more_branches, no_cases, more_cases}
 use Rattle.sp_typed.specs.StmtNodes.{stmts_in, stmts_in_all, stmts_in_branches, stmts_in_cases}
 use Rattle.sp_body_rules.specs.Known.{Known}
-use Rattle.sp_body_rules.specs.Values.{is_no_value, is_void, written_tests}
+use Rattle.sp_body_rules.specs.Values.{is_no_value, is_no_object, is_void, written_tests}
 use Rattle.sp_body_rules.specs.StmtTests.{stmt_tests, valued_op_tests, local_tests, return_tests, print_tests, branches_tests, case_tests, cases_tests}
 use Rattle.sp_list_laws.specs.known_types.Full.{is_right, is_bare, holds_inside}
 use Rattle.sp_list_laws.specs.known_types.Stmts.{is_good, takes_key, each_holds, exprs_hold, all_exprs_hold, branch_exprs_hold, case_exprs_hold, is_quiet}
 use Rattle.sp_list_laws.proofs.known_types_lemmas.Full.{never}
-use Rattle.sp_list_laws.proofs.known_types_lemmas.Tests.{Fine, Good, fine, fine_parts, is_whole, right_of, bare_is_none, bare_is_unknown}
+use Rattle.sp_list_laws.proofs.known_types_lemmas.Tests.{Fine, Good, fine, fine_parts, is_whole, right_of, bare_is_none, bare_is_no_object, bare_is_unknown}
 
 by_or : (a b : Bool) → (a || b) ≡ true → (a ≡ true) ⊎ (b ≡ true)
 by_or true b e = inl refl
@@ -34,6 +34,15 @@ value_whole : (e : Expr) → is_good e ≡ true → is_no_value e ≡ false → 
 value_whole e g n =
     let h = good_of e g in
     is_whole is_right e h.0 (right_of e h n)
+
+-- a target, which is a value or a sink
+object_whole : (e : Expr) → is_good e ≡ true → is_no_object e ≡ false → holds is_right e ≡ true
+object_whole e g n =
+    let h = good_of e g in
+    is_whole is_right e h.0 (elim h.1 [
+      | inl r ↦ r
+      | inr b ↦ never (sym n ∙ bare_is_no_object e b)
+    ])
 
 -- an expression that stands alone, which need not give anything
 alone_whole : (e : Expr) → is_good e ≡ true → (is_no_value e && not (is_void (type_of e))) ≡ false → holds is_right e ≡ true
@@ -95,7 +104,7 @@ module _ (k : Known) (wanted : Option Ty) (m : ℕ) where
     stmt_whole (assign h d e) g q =
         let p = and_parts (is_good d) (is_good e) g in
         let f = at_first (assign h d e) [] q in
-        and_from (holds is_right d) (holds is_right e) (value_whole d p.0 f.0) (value_whole e p.1 f.1.1.1.0)
+        and_from (holds is_right d) (holds is_right e) (object_whole d p.0 f.0) (value_whole e p.1 f.1.1.1.0)
     stmt_whole (print span es) g q = printed_whole es g (at_first (print span es) [] q)
     stmt_whole (block ss) g q = all_whole ss g (behind (block ss) (stmts_in_all ss) q)
     stmt_whole (branch bs s) g q =

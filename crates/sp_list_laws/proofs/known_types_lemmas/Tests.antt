@@ -150,7 +150,7 @@ right_of e g n = elim g.1 [
 pub no_object : (e : Expr) → is_no_value e ≡ false → is_no_object e ≡ false
 no_object e n = ap (λ b. b && not (is_sink (type_of e))) n
 
-bare_is_no_object : (e : Expr) → is_bare e ≡ true → is_no_object e ≡ true
+pub bare_is_no_object : (e : Expr) → is_bare e ≡ true → is_no_object e ≡ true
 bare_is_no_object e b = and_from (is_no_value e) (not (is_sink (type_of e))) (bare_is_none e b) (ap (λ t. not (is_sink t)) (bare_is_unknown e b))
 
 pub object_of : (only : OneOp → Bool) (k : Known) (m : ℕ) (e : Expr) → Holds only k m e → Clear only k m e → is_no_object e ≡ false → is_past e ≡ false → Value e

@@ -1,5 +1,5 @@
 -- What is typed, as a constant.
-use Rattle.std.specs.Prelude.{ℕ, Bool, true, false, ◌&&◌, map}
+use Rattle.std.specs.Prelude.{ℕ, Bool, true, false, ◌&&◌, if◌then◌else◌, List, [], ◌∷◌, map}
 use Rattle.std.proofs.Common.{◌≡◌, refl}
 use Rattle.std.proofs.lemmas.Bool.{and_parts}
 use Rattle.sp_words.specs.declared.words.IntWord.{IntWord}
@@ -9,16 +9,23 @@ use Rattle.sp_ast.specs.Trees.{Tree, Trees, row, node, none, more}
 use Rattle.sp_ast.specs.Trees as read
 use Rattle.sp_ast.specs.declared.forms.Form.TheVariants as form_is
 use Rattle.sp_ast.specs.declared.forms.ExprForm.TheVariants as expr_is
-use Rattle.sp_types.specs.Types.{word}
+use Rattle.sp_base.specs.declared.places.Span.{Span}
+use Rattle.sp_types.specs.declared.words.Maker.TheVariants as maker_is
+use Rattle.sp_types.specs.Types.{Ty, word, is_known}
+use Rattle.sp_typed.specs.declared.words.Written.{Written}
 use Rattle.sp_typed.specs.declared.words.OneOp.{OneOp}
 use Rattle.sp_typed.specs.declared.words.LeafOp.TheVariants as leaf_is
 use Rattle.sp_typing.specs.declared.places.Place.TheVariants.{Whole}
+use Rattle.sp_typing.specs.declared.places.Place.TheVariants as place_is
 use Rattle.sp_typing.specs.Contexts.{Around}
+use Rattle.sp_operands.specs.Operands.{unknown}
 use Rattle.sp_operands.specs.Literals.{can_take, has_number, seen, unsigned_literal}
-use Rattle.sp_typing.specs.Typing.{typed, typed_all, pairs_typed, leaf_at, number_in, name_of, led}
+use Rattle.sp_typing.specs.Typing.{typed, typed_all, pairs_typed, leaf_at, made_of, both_written, number_in, name_of, led}
 use Rattle.sp_types.specs.Integers.{int_word}
 use Rattle.sp_body_rules.specs.Known.{Known}
 use Rattle.sp_constants.specs.Known.{Known as Values}
+use Rattle.sp_constants.specs.Operations.{empty}
+use Rattle.sp_list_laws.specs.known_values.Values.{fits}
 use Rattle.sp_list_laws.specs.known_types.Trees.{is_expr, are_exprs, are_pairs}
 use Rattle.sp_list_laws.proofs.known_types_lemmas.Full.{never}
 use Rattle.sp_list_laws.proofs.known_types_lemmas.Tests.{first_fine, not_so}
@@ -39,6 +46,14 @@ int_takes int.Int32 = refl
 int_takes int.Int64 = refl
 
 module _ (g : Around) (only : OneOp → Bool) (k : Known) (m : ℕ) (v : Values) (is_type is_path : Tree → Bool) (names : AreTold g only k m v is_path) where
+  -- what has no elements, where it has a type
+  empty_told : (span : Span) (t : Ty) (w : Written) → fits t (empty t) ≡ true → Told only k m v (leaf_at span (if is_known t then t else unknown) (leaf_is.Empty w))
+  empty_told span t w fit = by (is_known t)
+    where
+      by : (b : Bool) → Told only k m v (leaf_at span (if b then t else unknown) (leaf_is.Empty w))
+      by true = λ c r p. fit
+      by false = λ c r p. never r
+
   mutual
     pub typed_told : (t : Tree) → is_expr is_type is_path t ≡ true → Told only k m v (typed g t)
     typed_told (node (form_is.Expr expr_is.Path) span (more path none)) is = names.path span path is
@@ -55,9 +70,10 @@ module _ (g : Around) (only : OneOp → Bool) (k : Known) (m : ℕ) (v : Values)
     typed_told (node (form_is.Expr expr_is.Vector) span ts) is = vector_told only k m v span (led (typed_all g ts)) (led_told only k m v (typed_all g ts) (all_told_in ts is))
     typed_told (node (form_is.Expr expr_is.Set) span ts) is = set_told only k m v span (led (typed_all g ts)) (led_told only k m v (typed_all g ts) (all_told_in ts is))
     typed_told (node (form_is.Expr expr_is.Map) span ts) is = map_told only k m v span (pairs_typed g ts) (pairs_told_in ts is)
-    typed_told (node (form_is.Expr expr_is.EmptyVector) span (more t none)) is = λ c r p. refl
-    typed_told (node (form_is.Expr expr_is.EmptySet) span (more t none)) is = λ c r p. refl
-    typed_told (node (form_is.Expr expr_is.EmptyMap) span (more s (more t none))) is = λ c r p. refl
+    typed_told (node (form_is.Expr expr_is.EmptyVector) span (more t none)) is = empty_told span (made_of maker_is.Vector (g.type_in place_is.Value t ∷ [])) (g.written place_is.Value t) refl
+    typed_told (node (form_is.Expr expr_is.EmptySet) span (more t none)) is = empty_told span (made_of maker_is.Set (g.type_in place_is.Key t ∷ [])) (g.written place_is.Key t) refl
+    typed_told (node (form_is.Expr expr_is.EmptyMap) span (more s (more t none))) is =
+        empty_told span (made_of maker_is.Map (g.type_in place_is.Key s ∷ g.type_in place_is.Value t ∷ [])) (both_written (g.written place_is.Key s) (g.written place_is.Value t)) refl
     typed_told (node (form_is.Expr (expr_is.TypedNumber w)) span (more n none)) is =
         λ c r p. (let f = first_fine only k m (leaf_at span (word (int_word w)) (leaf_is.TypedNumber (number_in n))) c in number_fits (int_word w) (number_in n) (int_takes w) (not_so (has_number (int_word w) false (number_in n)) f.0))
     typed_told (node (form_is.Expr expr_is.Cast) span (more t (more e none))) is =

@@ -336,7 +336,7 @@ module _ (k : Known) (m : ℕ) where
           let x = and_parts (holds clear d) (holds clear e) c in
           let y = and_parts (holds is_right d) (holds is_right e) r in
           let f = first_tests k wanted m (assign h d e) [] q in
-          and_from (holds is_built d) (holds is_built e) (value_is_built d p.0 x.0 y.0 f.0) (value_is_built e p.1 x.1 y.1 f.1.1.1.0)
+          and_from (holds is_built d) (holds is_built e) (expr_built d p.0 x.0 y.0 (unstarted d p.0 (object_new d f.0))) (value_is_built e p.1 x.1 y.1 f.1.1.1.0)
       stmt_is_built (print at es) i c q r = all_built es i c (each_right es r) (printed_new es (first_tests k wanted m (print at es) [] q))
       stmt_is_built (block ss) i c q r = stmts_are_built ss i c (behind k wanted m (block ss) (stmts_in_all ss) q) r
       stmt_is_built (branch bs b) i c q r =
