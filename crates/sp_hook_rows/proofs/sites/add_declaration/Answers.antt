@@ -13,4 +13,4 @@ returns-in_ok-push-in-Declared-On c =
     let is = rw c.in-Declared-On.field-0-is at c.in-Declared-On.ensures in
     c.in_ok-push-in-Declared-On.ensures.items
     ∙ ap (λ x. old ++ site c.args.«module» 0 (holder_is.Declaration x)) (c.new.ensures ∙ c.lend.ensures)
-    ∙ ap (λ l. old ++ l) (sym (on_site c.args.«module» c.args.unit (span_of t) (c.in-Declared-On.path ∷ optional_tree c.in-Declared-On.hook_name ∷ c.in-Declared-On.hook ∷ []) t is))
+    ∙ ap (λ l. old ++ l) (sym (on_site c.args.«module» c.args.unit (span_of t) (c.in-Declared-On.field-0-0 ∷ optional_tree c.in-Declared-On.field-0-1 ∷ c.in-Declared-On.field-0-2 ∷ []) t is))
