@@ -1,6 +1,6 @@
 -- What a base of a field is: where no rule is broken at it, and no alias of a type that is made of others is read with arguments, it can
 -- be read.
-use Rattle.std.specs.Prelude.{◌&&◌}
+use Rattle.std.specs.Prelude.{Bool, false, ◌&&◌}
 use Rattle.std.specs.List.{list_all}
 use Rattle.std.proofs.Common.{ℕ, ◌≡◌, true, refl, sym, ap, ◌∙◌, List, [], Option, Some, None}
 use Rattle.std.proofs.lemmas.Bool.{and_parts}
@@ -28,7 +28,7 @@ use Rattle.sp_typing.specs.Contexts.{Around}
 use Rattle.sp_typing_units.specs.declared.readings.Read.{Read}
 use Rattle.sp_typing_units.specs.Values.{Values}
 use Rattle.sp_ast.specs.Views.{present}
-use Rattle.sp_typing_units.specs.Readings.{constant_read, constant_of_type, named_read, word_read, unknown_read, type_read, called_op, called, container, contained, base_read, counted_read}
+use Rattle.sp_typing_units.specs.Readings.{broken, constant_read, constant_of_type, named_read, word_read, unknown_read, type_read, called_op, called, container, contained, base_read, counted_read}
 use Rattle.sp_solver.specs.Told.{told}
 use Rattle.sp_names.specs.declared.sort.DeclSort.{DeclSort}
 use Rattle.sp_names.specs.declared.sort.DeclSort.TheVariants as sort_is
@@ -42,6 +42,8 @@ use Rattle.sp_around.specs.Written.{is_type_sort}
 use Rattle.sp_around.specs.Arounds.{word_leaf, type_leaf, declared_at, meaning_at, slice_of}
 use Rattle.sp_body_rules.specs.Known.{Known}
 use Rattle.sp_body_rules.specs.Values.{written_tests}
+use Rattle.sp_rules.specs.Faults.{at as fault_at}
+use Rattle.sp_rules.specs.declared.rule.Rule.TheVariants as rule_is
 use Rattle.sp_list_rules.specs.Fields.{spec_tests}
 use Rattle.sp_declared_values.specs.Answers.{constant_type}
 use Rattle.sp_unit_rules.specs.declared.here.Here.{Here}
@@ -147,12 +149,17 @@ module _ (list : List Tree) (a : Answers list) (formed_list : list_all is_formed
   meaning_reads own at span path meaning_is.Decoder named some e h = no_unknown (word word_is.Decoder) refl e
   meaning_reads own at span path (meaning_is.Nothing i) named some e h = never some
 
+  broken_reads : (own : List Attribute) (at : Span) (t : Tree) → is_type list f m t ≡ true → type_in list f m t ≡ unknown → Reads own (broken at (g.written Whole t))
+  broken_reads own at t is e h =
+      let w = g.written Whole t in
+      let past : List (Bool × Fault) = (false, fault_at m rule_is.LiteralRange at) ∷ [] in
+      let p = none_parts (written_tests m w) past h.0 in
+      no_unknown (type_in list f m t) (type_full list f m Whole t is (placed m w.misplaced p.0) (each_has list f m has_type (mentions_in list m t))) e
+
   unknown_reads : (own : List Attribute) (at : Span) (t : Tree) → is_type list f m t ≡ true → type_in list f m t ≡ unknown → Reads own (unknown_read g worth at t)
   unknown_reads own at (node (form_is.Type type_is.Path) span (more path none)) is e h =
       meaning_reads own at (slice_of list (trees.span_of path) path (path_means list f m path)) path (path_means list f m path) (means_named list f m (path_names path)) is e h
-  unknown_reads own at t is e h =
-      let p = none_parts (written_tests m (g.written Whole t)) _ h.0 in
-      no_unknown (type_in list f m t) (type_full list f m Whole t is (placed m (g.written Whole t).misplaced p.0) (each_has list f m has_type (mentions_in list m t))) e
+  unknown_reads own at t is e h = broken_reads own at t is e h
 
   type_reads : (own : List Attribute) (at : Span) (t : Tree) (u : Ty) → is_type list f m t ≡ true → type_in list f m t ≡ u → Reads own (type_read g worth at t u)
   type_reads own at t (word word_is.Unknown) is e h = unknown_reads own at t is e h
