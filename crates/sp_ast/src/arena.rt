@@ -1,6 +1,7 @@
 // Trees in an arena: entries in the order in which they are built, each naming its parts by their places.
-ghost use Rattle.std.specs.Prelude.{◌≡◌, ◌≤◌, ◌<◌, ◌++◌, ◌∷◌, [], List, length, max, true, IfOk, OnErr};
+ghost use Rattle.std.specs.Prelude.{◌≡◌, ◌≤◌, ◌<◌, ◌++◌, ◌∷◌, [], List, length, max, true, ◌↔◌, IfOk, IsErrOf, OnErr};
 ghost use Rattle.std.proofs.Common.{get_or};
+ghost use Rattle.sp_base.specs.declared.resources.ResourceError.TheVariants.{LimitExceeded};
 ghost use Rattle.sp_ast.specs.Trees.{Tree, in_row, tree, trees, respan};
 ghost use Rattle.sp_ast.specs.Heights.{height, list_height, most_levels};
 ghost use Rattle.sp_ast.specs.Slots.{slots, fill, is_formed};
@@ -11,7 +12,7 @@ ghost use Rattle.sp_ast.specs.Levels.{level_tree};
 use crate::forms::Form;
 use crate::heads::{Head, Heads};
 use crate::lent::{Level, Parts};
-use sp_base::{NoMemory, Span, or_drop};
+use sp_base::{NoMemory, ResourceError, Span, or_drop};
 use std::alloc::Global;
 use std::marker::Model;
 
@@ -149,21 +150,23 @@ impl Arena {
         Ok(at)
     }
 
-    /// One more tree: of an alternative, on this slice of the text, with the parts at these places. It answers its place.
-    /// Want of memory also where it would be too high.
-    pub fn push(&mut self, form: Form, span: Span, parts: &[u32]) -> Result<u32, NoMemory>
+    /// One more tree: of an alternative, on this slice of the text, with the parts at these places. It answers its place,
+    /// or that the tree would be higher than [`MOST_LEVELS`].
+    pub fn push(&mut self, form: Form, span: Span, parts: &[u32]) -> Result<u32, ResourceError>
         requires places { ArePlaces self.old parts.now }
         requires fill { fill (slots form) (trees (trees_at self.old parts.now)) ≡ true }
         ensures ok { IfOk result (λ at. (at ≡ length self.old) × (at < no_parts)
             × (self.new ≡ self.old ++ tree form span (trees_at self.old parts.now) ∷ [])) }
         ensures err { OnErr result (self.new ≡ self.old) }
+        ensures limit { IsErrOf result LimitExceeded
+            ↔ (most_levels < height (tree form span (trees_at self.old parts.now))) }
     {
         self.are_sound();
         let highest = self.highest(parts);
         if highest >= MOST_LEVELS {
-            return Err(NoMemory);
+            return Err(ResourceError::LimitExceeded);
         }
-        self.put(Head::Of(form), span, highest + 1, parts)
+        Ok(self.put(Head::Of(form), span, highest + 1, parts)?)
     }
 
     /// One more tree: the parts at these places in a row. It answers its place, which is [`NO_PARTS`] where there are

@@ -160,7 +160,7 @@ fn one_part(alloc: Global, maker: Maker, part: Type) -> Result<Type, NoMemory>
 {
     let mut parts = or_drop!(Vec::with_capacity(alloc, 1); part);
     or_drop!(parts.push(part); parts);
-    Type::made(alloc, maker, parts)
+    Ok(Type::made(alloc, maker, parts)?)
 }
 
 fn two_parts(alloc: Global, maker: Maker, first: Type, second: Type) -> Result<Type, NoMemory>
@@ -169,7 +169,7 @@ fn two_parts(alloc: Global, maker: Maker, first: Type, second: Type) -> Result<T
     let mut parts = or_drop!(Vec::with_capacity(alloc, 2); first, second);
     or_drop!(parts.push(first); second, parts);
     or_drop!(parts.push(second); parts);
-    Type::made(alloc, maker, parts)
+    Ok(Type::made(alloc, maker, parts)?)
 }
 
 /// What a method of the library gives, by its receiver's type.

@@ -50,7 +50,7 @@ fn made_of_one(alloc: Global, maker: Maker, part: Type) -> Result<Type, NoMemory
 {
     let mut parts = Vec::with_capacity(alloc, 1)?;
     parts.push(part)?;
-    Type::made(alloc, maker, parts)
+    Ok(Type::made(alloc, maker, parts)?)
 }
 
 fn made_of_two(alloc: Global, maker: Maker, first: Type, second: Type) -> Result<Type, NoMemory>
@@ -59,7 +59,7 @@ fn made_of_two(alloc: Global, maker: Maker, first: Type, second: Type) -> Result
     let mut parts = Vec::with_capacity(alloc, 2)?;
     parts.push(first)?;
     parts.push(second)?;
-    Type::made(alloc, maker, parts)
+    Ok(Type::made(alloc, maker, parts)?)
 }
 
 /// A type, if it may stand inside another one.

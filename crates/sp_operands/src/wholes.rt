@@ -33,7 +33,7 @@ pub fn tuple_type(alloc: Global, list: Vec<Type>) -> Result<Type, NoMemory>
     ensures { IfOk result (λ t. t ≡ tuple_type list.items) }
 {
     if are_parts(&list) {
-        Type::made(alloc, Maker::Tuple, list)
+        Ok(Type::made(alloc, Maker::Tuple, list)?)
     } else {
         drop(list);
         Ok(Type::word(Word::Unknown))
@@ -73,7 +73,7 @@ pub fn made_of_one(alloc: Global, maker: Maker, t: Type) -> Result<Type, NoMemor
 {
     let mut parts = or_drop!(Vec::with_capacity(alloc, 1); t);
     or_drop!(parts.push(t); parts);
-    Type::made(alloc, maker, parts)
+    Ok(Type::made(alloc, maker, parts)?)
 }
 
 pub fn made_of_two(alloc: Global, maker: Maker, t: Type, u: Type) -> Result<Type, NoMemory>
@@ -82,7 +82,7 @@ pub fn made_of_two(alloc: Global, maker: Maker, t: Type, u: Type) -> Result<Type
     let mut parts = or_drop!(Vec::with_capacity(alloc, 2); t, u);
     or_drop!(parts.push(t); parts, u);
     or_drop!(parts.push(u); parts);
-    Type::made(alloc, maker, parts)
+    Ok(Type::made(alloc, maker, parts)?)
 }
 
 fn has_keys_alone(maker: Maker) -> bool

@@ -1,17 +1,18 @@
 // Expressions: a few shapes, by how many parts a node has.
-ghost use Rattle.std.specs.Prelude.{◌≡◌, ◌≤◌, ◌+◌, max, IfOk};
+ghost use Rattle.std.specs.Prelude.{◌≡◌, ◌≤◌, ◌<◌, ◌+◌, ◌↔◌, max, IfOk, IsErrOf, IsOkUnless};
+ghost use Rattle.sp_base.specs.declared.resources.ResourceError.TheVariants.{LimitExceeded};
 ghost use Rattle.sp_typed.specs.Exprs.{exprs};
 ghost use Rattle.sp_typed.specs.Heights.{heights, most_levels};
 
 use crate::heads::{Leaf, Many, One, Three, Two};
 use crate::words::{LeafOp, OneOp};
-use sp_base::{NoMemory, Span, or_drop};
+use sp_base::{ResourceError, Span, or_drop};
 use sp_types::{Type, Word};
 use std::alloc::Global;
 use std::marker::Model;
 
 /// The most levels of what is typed: twice as many as a tree of the grammar has, since each part may stand in a node that
-/// widens it. What is higher is answered as want of memory, for the stack is memory too.
+/// widens it. The stack is memory too, so that what is higher exceeds the limit.
 pub const MOST_LEVELS: u16 = 2000;
 
 /// A typed expression, at most [`MOST_LEVELS`] levels high. Clauses see the expression.
@@ -99,19 +100,22 @@ pub(crate) fn highest(parts: &[Expr]) -> u16
     most
 }
 
-/// The height of a node over parts of this height, unless it is too high.
-pub(crate) fn above(levels: u16) -> Result<u16, NoMemory>
-    ensures { IfOk result (λ n. (n ≡ levels + 1) × (n ≤ most_levels)) }
+/// The height of a node over parts of this height, unless it exceeds the limit. It takes no memory.
+pub(crate) fn above(levels: u16) -> Result<u16, ResourceError>
+    ensures height { IfOk result (λ n. (n ≡ levels + 1) × (n ≤ most_levels)) }
+    ensures unless { IsOkUnless result LimitExceeded }
+    ensures limit { IsErrOf result LimitExceeded ↔ (most_levels < levels + 1) }
 {
     if levels < MOST_LEVELS {
         Ok(levels + 1)
     } else {
-        Err(NoMemory)
+        Err(ResourceError::LimitExceeded)
     }
 }
 
 impl Expr {
-    ghost use Rattle.std.specs.Prelude.{◌≡◌, ◌≤◌, true, IfOk};
+    ghost use Rattle.std.specs.Prelude.{◌≡◌, ◌≤◌, ◌<◌, ◌↔◌, true, IfOk, IsErrOf, IsOkUnless};
+    ghost use Rattle.sp_base.specs.declared.resources.ResourceError.TheVariants.{LimitExceeded};
     ghost use Rattle.sp_typed.specs.Exprs.{leaf, one, two, three, many, exprs, type_of, span_of, is_literal, is_number, retyped, settled};
     ghost use Rattle.sp_typed.specs.ExprLevels.{level_expr, expr_of_parts};
     ghost use Rattle.sp_typed.specs.Heights.{height, most_levels};
@@ -126,9 +130,10 @@ impl Expr {
         }
     }
 
-    /// A node with one part.
-    pub fn one(alloc: Global, head: One, a: Expr) -> Result<Expr, NoMemory>
-        ensures { IfOk result (λ e. e ≡ one head a) }
+    /// A node with one part, unless it would be too high.
+    pub fn one(alloc: Global, head: One, a: Expr) -> Result<Expr, ResourceError>
+        ensures made { IfOk result (λ e. e ≡ one head a) }
+        ensures limit { IsErrOf result LimitExceeded ↔ (most_levels < height (one head a)) }
     {
         let levels = or_drop!(above(a.levels()); head, a);
         let a = or_drop!(Box::new(alloc, a); head);
@@ -138,9 +143,10 @@ impl Expr {
         })
     }
 
-    /// A node with two parts.
-    pub fn two(alloc: Global, head: Two, a: Expr, b: Expr) -> Result<Expr, NoMemory>
-        ensures { IfOk result (λ e. e ≡ two head a b) }
+    /// A node with two parts, unless it would be too high.
+    pub fn two(alloc: Global, head: Two, a: Expr, b: Expr) -> Result<Expr, ResourceError>
+        ensures made { IfOk result (λ e. e ≡ two head a b) }
+        ensures limit { IsErrOf result LimitExceeded ↔ (most_levels < height (two head a b)) }
     {
         let levels = or_drop!(above(higher(a.levels(), b.levels())); head, a, b);
         let a = or_drop!(Box::new(alloc, a); head, b);
@@ -151,9 +157,16 @@ impl Expr {
         })
     }
 
-    /// A node with three parts.
-    pub fn three(alloc: Global, head: Three, a: Expr, b: Expr, c: Expr) -> Result<Expr, NoMemory>
-        ensures { IfOk result (λ e. e ≡ three head a b c) }
+    /// A node with three parts, unless it would be too high.
+    pub fn three(
+        alloc: Global,
+        head: Three,
+        a: Expr,
+        b: Expr,
+        c: Expr,
+    ) -> Result<Expr, ResourceError>
+        ensures made { IfOk result (λ e. e ≡ three head a b c) }
+        ensures limit { IsErrOf result LimitExceeded ↔ (most_levels < height (three head a b c)) }
     {
         let inside = higher(a.levels(), higher(b.levels(), c.levels()));
         let levels = or_drop!(above(inside); head, a, b, c);
@@ -166,9 +179,11 @@ impl Expr {
         })
     }
 
-    /// A node with any number of parts.
-    pub fn many(head: Many, parts: Vec<Expr>) -> Result<Expr, NoMemory>
-        ensures { IfOk result (λ e. e ≡ many head (exprs parts.items)) }
+    /// A node with any number of parts, unless it would be too high. Takes no memory.
+    pub fn many(head: Many, parts: Vec<Expr>) -> Result<Expr, ResourceError>
+        ensures made { IfOk result (λ e. e ≡ many head (exprs parts.items)) }
+        ensures unless { IsOkUnless result LimitExceeded }
+        ensures limit { IsErrOf result LimitExceeded ↔ (most_levels < height (many head (exprs parts.items))) }
     {
         let levels = or_drop!(above(highest(&parts)); head, parts);
         Ok(Expr {

@@ -5,7 +5,7 @@ ghost use Rattle.sp_typed.specs.Heights.{stmts_height, branches_height, cases_he
 
 use crate::exprs::{Expr, above, higher, highest};
 use crate::stmt_words::{Assign, Bare, For, Valued};
-use sp_base::{NoMemory, Span, or_drop};
+use sp_base::{ResourceError, Span, or_drop};
 use std::marker::Model;
 
 /// A typed statement, at most [`MOST_LEVELS`](crate::MOST_LEVELS) levels high, its expressions among them. Clauses see the
@@ -96,7 +96,8 @@ fn highest_case(cases: &[(Vec<Expr>, Stmt)]) -> u16
 }
 
 impl Stmt {
-    ghost use Rattle.std.specs.Prelude.{◌≡◌, ◌≤◌, ◌+◌, IfOk};
+    ghost use Rattle.std.specs.Prelude.{◌≡◌, ◌≤◌, ◌<◌, ◌+◌, ◌↔◌, IfOk, IsErrOf, IsOkUnless};
+    ghost use Rattle.sp_base.specs.declared.resources.ResourceError.TheVariants.{LimitExceeded};
     ghost use Rattle.sp_typed.specs.StmtViews.{stmt_of};
     ghost use Rattle.sp_typed.specs.Heights.{stmt_height, most_levels};
 
@@ -125,9 +126,11 @@ impl Stmt {
         }
     }
 
-    /// The statement of this first level.
-    pub fn new(node: StmtNode) -> Result<Stmt, NoMemory>
-        ensures { IfOk result (λ s. s ≡ stmt_of node) }
+    /// The statement of this first level, unless it would be too high. Takes no memory.
+    pub fn new(node: StmtNode) -> Result<Stmt, ResourceError>
+        ensures made { IfOk result (λ s. s ≡ stmt_of node) }
+        ensures unless { IsOkUnless result LimitExceeded }
+        ensures limit { IsErrOf result LimitExceeded ↔ (most_levels < stmt_height (stmt_of node)) }
     {
         let levels = or_drop!(above(Stmt::inside(&node)); node);
         Ok(Stmt { node, levels })

@@ -1,6 +1,6 @@
 // How a field, an element or a group is read.
 use crate::attributes::Attribute;
-use sp_base::{ByteList, NoMemory, Span, Text, or_drop};
+use sp_base::{ByteList, ResourceError, Span, Text, or_drop};
 use sp_typed::{Expr, MOST_LEVELS, Written};
 use sp_types::Type;
 use std::marker::Model;
@@ -96,13 +96,17 @@ impl Model for Spec {
 }
 
 impl Spec {
-    ghost use Rattle.std.specs.Prelude.{◌≡◌, ◌≤◌, ◌+◌, IfOk};
+    ghost use Rattle.std.specs.Prelude.{◌≡◌, ◌≤◌, ◌<◌, ◌+◌, ◌↔◌, IfOk, IsErrOf, IsOkUnless};
+    ghost use Rattle.sp_base.specs.declared.resources.ResourceError.TheVariants.{LimitExceeded};
     ghost use Rattle.sp_typed.specs.Heights.{most_levels};
     ghost use Rattle.sp_typed_units.specs.SpecViews.{spec_of};
     ghost use Rattle.sp_typed_units.specs.SpecHeights.{spec_height};
 
-    fn node_levels(node: &SpecNode) -> Result<u16, NoMemory>
-        ensures { IfOk result (λ n. (n ≡ spec_height (spec_of node.now)) × (n ≤ most_levels)) }
+    fn node_levels(node: &SpecNode) -> Result<u16, ResourceError>
+        ensures height { IfOk result (λ n. (n ≡ spec_height (spec_of node.now)) × (n ≤ most_levels)) }
+        ensures unless { IsOkUnless result LimitExceeded }
+        ensures limit { IsErrOf result LimitExceeded
+            ↔ (most_levels < spec_height (spec_of node.now)) }
     {
         let inside = match node {
             SpecNode::Read(_) | SpecNode::Unit(..) => 0,
@@ -112,13 +116,15 @@ impl Spec {
         if inside < MOST_LEVELS {
             Ok(inside + 1)
         } else {
-            Err(NoMemory)
+            Err(ResourceError::LimitExceeded)
         }
     }
 
-    /// The reading of this first level.
-    pub fn new(node: SpecNode) -> Result<Spec, NoMemory>
-        ensures { IfOk result (λ s. s ≡ spec_of node) }
+    /// The reading of this first level, unless it would be too high. Takes no memory.
+    pub fn new(node: SpecNode) -> Result<Spec, ResourceError>
+        ensures made { IfOk result (λ s. s ≡ spec_of node) }
+        ensures unless { IsOkUnless result LimitExceeded }
+        ensures limit { IsErrOf result LimitExceeded ↔ (most_levels < spec_height (spec_of node)) }
     {
         let levels = or_drop!(Spec::node_levels(&node); node);
         Ok(Spec { node, levels })

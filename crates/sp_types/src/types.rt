@@ -4,7 +4,7 @@ ghost use Rattle.std.specs.List.{list_all};
 ghost use Rattle.sp_types.specs.Types.{tys, all_written, is_known, is_plain, most_written};
 
 use crate::words::{Maker, Word};
-use sp_base::NoMemory;
+use sp_base::{NoMemory, ResourceError};
 use std::alloc::Global;
 use std::marker::Model;
 use std::rc::Rc;
@@ -96,7 +96,8 @@ fn are_plain(parts: &[Type]) -> bool
 }
 
 impl Type {
-    ghost use Rattle.std.specs.Prelude.{◌≡◌, ◌≤◌, IfOk};
+    ghost use Rattle.std.specs.Prelude.{◌≡◌, ◌≤◌, ◌<◌, ◌↔◌, IfOk, IsErrOf};
+    ghost use Rattle.sp_base.specs.declared.resources.ResourceError.TheVariants.{LimitExceeded};
     ghost use Rattle.sp_types.specs.Types.{word, made, tys, written, is_known, is_plain, most_written};
     ghost use Rattle.sp_types.specs.Levels.{level_ty};
 
@@ -112,14 +113,16 @@ impl Type {
         }
     }
 
-    /// A type made of types. One of more than [`MOST_WRITTEN`] parts is answered as want of memory.
+    /// A type made of types, unless it would have more than [`MOST_WRITTEN`] parts, which exceeds the limit.
     #[tactic(auto, using(crate::proofs::Lists::all_known, crate::proofs::Lists::all_plain))]
-    pub fn made(alloc: Global, maker: Maker, parts: Vec<Type>) -> Result<Type, NoMemory>
-        ensures { IfOk result (λ t. t ≡ made maker (tys parts.items)) }
+    pub fn made(alloc: Global, maker: Maker, parts: Vec<Type>) -> Result<Type, ResourceError>
+        ensures made { IfOk result (λ t. t ≡ made maker (tys parts.items)) }
+        ensures limit { IsErrOf result LimitExceeded
+            ↔ (most_written < written (made maker (tys parts.items))) }
     {
         let Some(written) = all_written(&parts) else {
             drop(parts);
-            return Err(NoMemory);
+            return Err(ResourceError::LimitExceeded);
         };
         let whole = are_known(&parts);
         let simple = are_plain(&parts);

@@ -23,7 +23,7 @@ use std::alloc::Global;
 pub(crate) fn nothing(alloc: Global) -> Result<Stmt, NoMemory>
     ensures { IfOk result (λ s. s ≡ block no_stmts) }
 {
-    Stmt::new(StmtNode::Block(Vec::new(alloc)))
+    Ok(Stmt::new(StmtNode::Block(Vec::new(alloc)))?)
 }
 
 /// A `switch`, with the slot in which its subject is kept.
@@ -37,7 +37,7 @@ pub(crate) fn switch_of(
     ensures { IfOk result (λ s. s ≡ switch slot subject (case_row cases.items) otherwise) }
 {
     let otherwise = or_drop!(Box::new(alloc, otherwise); subject, cases);
-    Stmt::new(StmtNode::Switch(slot, subject, cases, otherwise))
+    Ok(Stmt::new(StmtNode::Switch(slot, subject, cases, otherwise))?)
 }
 
 /// The values of a case: literals take the type of the subject.
@@ -69,7 +69,7 @@ pub(crate) fn print_in<C: Context>(
         (trees values.now)).1) }
 {
     let all = values_in(alloc, context, scope, values)?;
-    Stmt::new(StmtNode::Print(span, all))
+    Ok(Stmt::new(StmtNode::Print(span, all))?)
 }
 
 /// `assert e : "text";`

@@ -62,7 +62,7 @@ fn block_typed<C: Context>(
     let mark = scope.mark();
     let list = stmts_typed(alloc, body, context, in_loop, scope, &block.statements())?;
     scope.close(mark);
-    Stmt::new(StmtNode::Block(list))
+    Ok(Stmt::new(StmtNode::Block(list))?)
 }
 
 /// What is done where no condition holds, or no case has the value.
@@ -155,7 +155,7 @@ fn if_typed<C: Context>(
     );
     scope.close(mark);
     let boxed = or_drop!(Box::new(alloc, other); list);
-    Stmt::new(StmtNode::If(list, boxed))
+    Ok(Stmt::new(StmtNode::If(list, boxed))?)
 }
 
 /// `while (c) s`
@@ -178,7 +178,7 @@ fn while_typed<C: Context>(
     let inner = or_drop!(typed_stmt(alloc, body, context, true, scope, inner); condition);
     scope.close(mark);
     let boxed = or_drop!(Box::new(alloc, inner); condition);
-    Stmt::new(StmtNode::While(condition, boxed))
+    Ok(Stmt::new(StmtNode::While(condition, boxed))?)
 }
 
 /// `for (x in e) s`
@@ -207,7 +207,7 @@ fn for_typed<C: Context>(
     let stmt = or_drop!(typed_stmt(alloc, body, context, true, scope, inner); head, sequence);
     scope.close(mark);
     let boxed = or_drop!(Box::new(alloc, stmt); head, sequence);
-    Stmt::new(StmtNode::For(head, sequence, boxed))
+    Ok(Stmt::new(StmtNode::For(head, sequence, boxed))?)
 }
 
 /// `case a, b: s`

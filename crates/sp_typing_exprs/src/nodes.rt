@@ -25,7 +25,7 @@ pub(crate) fn one_at(
 ) -> Result<Expr, NoMemory>
     ensures { IfOk result (λ e. e ≡ one_at span ty op a) }
 {
-    Expr::one(alloc, One { span, ty, op }, a)
+    Ok(Expr::one(alloc, One { span, ty, op }, a)?)
 }
 
 pub(crate) fn two_at(
@@ -38,13 +38,13 @@ pub(crate) fn two_at(
 ) -> Result<Expr, NoMemory>
     ensures { IfOk result (λ e. e ≡ two_at span ty op a b) }
 {
-    Expr::two(alloc, Two { span, ty, op }, a, b)
+    Ok(Expr::two(alloc, Two { span, ty, op }, a, b)?)
 }
 
 pub(crate) fn many_at(span: Span, ty: Type, op: ManyOp, parts: Vec<Expr>) -> Result<Expr, NoMemory>
     ensures { IfOk result (λ e. e ≡ many_at span ty op parts.items) }
 {
-    Expr::many(Many { span, ty, op }, parts)
+    Ok(Expr::many(Many { span, ty, op }, parts)?)
 }
 
 fn widened(alloc: Global, to: &Type, e: Expr) -> Result<Expr, NoMemory>
@@ -182,7 +182,7 @@ pub(crate) fn choice_at(
 {
     let (a, b) = or_drop!(make_agree(a, b); c);
     let ty = or_drop!(choice_type(&a, &b); a, b, c);
-    Expr::three(alloc, Three { span, ty }, c, a, b)
+    Ok(Expr::three(alloc, Three { span, ty }, c, a, b)?)
 }
 
 fn unary_op(op: UnaryOp) -> OneOp

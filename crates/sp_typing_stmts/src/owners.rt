@@ -112,14 +112,12 @@ fn many_kept(scope: &mut Scope, head: Many, parts: Vec<Expr>) -> Result<Expr, No
     let owner = or_drop!(changed_owner(&head.op, &parts); head, parts);
     let slot = or_drop!(keep_owner(scope, owner); head, parts);
     let op = with_slot_of(head.op, slot);
-    Expr::many(
-        Many {
-            span: head.span,
-            ty: head.ty,
-            op,
-        },
-        parts,
-    )
+    let head = Many {
+        span: head.span,
+        ty: head.ty,
+        op,
+    };
+    Ok(Expr::many(head, parts)?)
 }
 
 #[cycle(kept)]
@@ -162,7 +160,7 @@ fn three_kept(
 {
     let a = or_drop!(keep_owners(alloc, scope, a); head, b, c);
     let (b, c) = or_drop!(both_kept(alloc, scope, b, c); head, a);
-    Expr::three(alloc, head, a, b, c)
+    Ok(Expr::three(alloc, head, a, b, c)?)
 }
 
 /// An expression in which each method that changes its receiver has a slot for the owner, where that has to be kept.
@@ -175,11 +173,11 @@ pub fn keep_owners(alloc: Global, scope: &mut Scope, e: Expr) -> Result<Expr, No
         ExprParts::Leaf(head) => Ok(Expr::leaf(head)),
         ExprParts::One(head, a) => {
             let a = or_drop!(keep_owners(alloc, scope, a); head);
-            Expr::one(alloc, head, a)
+            Ok(Expr::one(alloc, head, a)?)
         }
         ExprParts::Two(head, a, b) => {
             let (a, b) = or_drop!(both_kept(alloc, scope, a, b); head);
-            Expr::two(alloc, head, a, b)
+            Ok(Expr::two(alloc, head, a, b)?)
         }
         ExprParts::Three(head, a, b, c) => three_kept(alloc, scope, head, a, b, c),
         ExprParts::Many(head, parts) => {

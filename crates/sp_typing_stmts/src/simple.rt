@@ -27,14 +27,14 @@ use std::alloc::Global;
 pub fn bare_at(span: Span, op: BareOp) -> Result<Stmt, NoMemory>
     ensures { IfOk result (λ s. s ≡ bare_at span op) }
 {
-    Stmt::new(StmtNode::Bare(Bare { span, op }))
+    Ok(Stmt::new(StmtNode::Bare(Bare { span, op }))?)
 }
 
 /// A statement with one expression.
 fn valued_at(span: Span, op: ValuedOp, e: Expr) -> Result<Stmt, NoMemory>
     ensures { IfOk result (λ s. s ≡ valued_at span op e) }
 {
-    Stmt::new(StmtNode::Valued(Valued { span, op }, e))
+    Ok(Stmt::new(StmtNode::Valued(Valued { span, op }, e))?)
 }
 
 /// The type that is written at a place, if one is.
@@ -236,7 +236,7 @@ fn pair_of(alloc: Global, parts: &[Type]) -> Result<Type, NoMemory>
     for part in parts {
         all.push(part.copy()?)?;
     }
-    Type::made(alloc, Maker::Tuple, all)
+    Ok(Type::made(alloc, Maker::Tuple, all)?)
 }
 
 /// The type of the variable of a `for` over values of a type.
@@ -363,7 +363,8 @@ fn assigned(
 {
     let value = or_drop!(sent_to(alloc, &target, e); target);
     let slot = or_drop!(keep_owner_of(scope, &target); target, value);
-    Stmt::new(StmtNode::Assign(Assign { op, owner: slot }, target, value))
+    let node = StmtNode::Assign(Assign { op, owner: slot }, target, value);
+    Ok(Stmt::new(node)?)
 }
 
 /// `a = b;` and the like.

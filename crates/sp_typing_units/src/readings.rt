@@ -322,7 +322,7 @@ fn group_spec(
     ensures { IfOk result (λ s. s ≡ group_read at inner attributes.items) }
 {
     let inner = or_drop!(Box::new(alloc, inner); attributes);
-    Spec::new(SpecNode::Group(at, inner, attributes))
+    Ok(Spec::new(SpecNode::Group(at, inner, attributes))?)
 }
 
 /// What is no unit, with arguments.
@@ -432,7 +432,7 @@ fn vector_of(alloc: Global, element: &Type) -> Result<Type, NoMemory>
     let mut parts = Vec::with_capacity(alloc, 1)?;
     let part = or_drop!(element.copy(); parts);
     or_drop!(parts.push(part); parts);
-    Type::made(alloc, Maker::Vector, parts)
+    Ok(Type::made(alloc, Maker::Vector, parts)?)
 }
 
 fn counting(count: &Option<Ref<'_, ExprKind>>) -> Kind
@@ -448,7 +448,7 @@ fn list_spec(alloc: Global, at: Span, element: Spec, number: Option<Expr>) -> Re
     ensures { IfOk result (λ s. s ≡ list_read at element number) }
 {
     let inner = or_drop!(Box::new(alloc, element); number);
-    Spec::new(SpecNode::List(at, inner, number))
+    Ok(Spec::new(SpecNode::List(at, inner, number))?)
 }
 
 /// A container of what is read, whose last bracket stands here.
