@@ -14,7 +14,7 @@ use Rattle.sp_driver.specs.declared.exits.RunExit.TheVariants as run_is
 use Rattle.sp_driver.specs.declared.exits.Unready.TheVariants as unready_is
 use Rattle.sp_driver.specs.declared.options.RunOptions.{RunOptions}
 use Rattle.sp_driver.specs.Driver.{status_of, message_of}
-use Rattle.sp_driver.specs.Lines.{flow_name, event_line}
+use Rattle.sp_driver.specs.Lines.{flow_name, event_line, event_lines}
 use Rattle.sp_driver.specs.Lists.{text_at}
 use Rattle.sp_driver.specs.Options.{options_of, AreOptions}
 use Rattle.sp_driver.specs.Shown.{shown, whole, run_lines}
@@ -52,6 +52,13 @@ telling s close = record { events = prints s; stand = Waiting; retention_points 
 
 abbrev pieces : ℕ → RunOptions
 pieces most = record { increment = 1; most = most; trace = false }
+
+-- behind two pieces of three bytes stand the lines of two bytes, and at the end those of all
+two_pieces : shown telling (pieces 3) (1 ∷ 2 ∷ 3 ∷ []) 2 ≡ event_lines false (print ∷ print ∷ [])
+two_pieces = refl
+
+all_pieces : whole telling (pieces 3) (1 ∷ 2 ∷ 3 ∷ []) ≡ event_lines false (print ∷ print ∷ print ∷ [])
+all_pieces = refl
 
 -- of three bytes where two may be taken two pieces are shown, and else the whole
 too_long : run_lines telling (pieces 2) (1 ∷ 2 ∷ 3 ∷ []) ≡ shown telling (pieces 2) (1 ∷ 2 ∷ 3 ∷ []) 2

@@ -9,9 +9,8 @@ ghost use Rattle.sp_command.specs.Puts.{IsPartPut};
 ghost use Rattle.sp_driver.specs.Lines.{event_lines};
 ghost use Rattle.sp_driver.specs.Options.{AreOptions, limits_of};
 ghost use Rattle.sp_driver.specs.Parts.{StopCause};
-ghost use Rattle.sp_driver.specs.Shown.{added};
 ghost use Rattle.sp_driver.specs.Run.{Runs, RunCause};
-ghost use Rattle.sp_driver.specs.inside.Fed.{IsFedBy, Turned, TurnCause, IsOver, exit_of_stop, exit_of_stand};
+ghost use Rattle.sp_driver.specs.inside.Fed.{added, IsFedBy, Turned, TurnCause, IsOver, exit_of_stop, exit_of_stand};
 ghost use Rattle.sp_driver.specs.inside.Ready.{AlwaysRuns};
 
 use crate::compile::Compiled;

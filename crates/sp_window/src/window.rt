@@ -13,7 +13,7 @@ use std::marker::Model;
 pub struct Window {
     /// The place of the first byte that is held.
     base: u64,
-    /// How many bytes before it are still in the vector.
+    /// How many bytes before it are still in the vector: at most half of it.
     dead: usize,
     bytes: Vec<u8>,
 }
@@ -26,8 +26,18 @@ impl Model for Window {
 
     ghost view = { λ w. record { base = w.base; bytes = drop w.dead w.bytes.items } };
 
-    ghost invariant = { λ w. (w.dead ≤ length w.bytes.items)
+    ghost invariant = { λ w. (w.dead + w.dead ≤ length w.bytes.items)
         × (w.base + length (drop w.dead w.bytes.items) ≤ most) };
+}
+
+/// Takes the bytes before a place away, and moves the others down.
+fn cut_off(bytes: &mut Vec<u8>, before: usize)
+    requires { before ≤ length bytes.old.items }
+    ensures { bytes.new.items ≡ drop before bytes.old.items }
+{
+    let left = bytes.len() - before;
+    bytes.rotate_left(before);
+    bytes.truncate(left);
 }
 
 impl Window {
@@ -95,20 +105,13 @@ impl Window {
         requires to { to ≤ end_of self.old }
         ensures { self.new ≡ trimmed to self.old }
     {
-        self.dead += (to - self.base) as usize;
-        self.base = to;
-        if self.dead > self.bytes.len() / 2 {
-            self.move_down();
+        let dead = self.dead + (to - self.base) as usize;
+        if dead > self.bytes.len() / 2 {
+            cut_off(&mut self.bytes, dead);
+            self.dead = 0;
+        } else {
+            self.dead = dead;
         }
-    }
-
-    /// Moves the bytes that are held to the front of the vector.
-    fn move_down(&mut self)
-        ensures { self.new ≡ self.old }
-    {
-        let held = self.bytes.len() - self.dead;
-        self.bytes.rotate_left(self.dead);
-        self.bytes.truncate(held);
-        self.dead = 0;
+        self.base = to;
     }
 }

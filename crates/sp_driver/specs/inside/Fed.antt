@@ -1,5 +1,6 @@
 -- Between two pieces of a run.
-use Rattle.std.specs.Prelude.{◌≡◌, ◌*◌, ℕ, List, length, Option}
+use Rattle.std.specs.Prelude.{◌≡◌, ◌*◌, ℕ, List, length, drop, Option}
+use Rattle.sp_base.specs.Input.{Close, held_open}
 use Rattle.sp_io.specs.Moved.{appended, prepended}
 use Rattle.sp_meaning.specs.declared.stand.Stand.{Stand}
 use Rattle.sp_meaning.specs.Meaning.{UnitMeaning}
@@ -10,8 +11,13 @@ use Rattle.sp_driver.specs.declared.exits.Stop.{Stop}
 use Rattle.sp_driver.specs.declared.exits.Turn.{Turn}
 use Rattle.sp_driver.specs.declared.exits.Turn.TheVariants.{More, Ends}
 use Rattle.sp_driver.specs.declared.options.RunOptions.{RunOptions}
+use Rattle.sp_driver.specs.Lines.{event_lines}
 use Rattle.sp_driver.specs.Run.{Runs, RunCause}
 use Rattle.sp_driver.specs.Shown.{shown}
+
+-- the lines of the events that the meaning of the later bytes has, and that of the earlier bytes, held open, has not
+abbrev pub added : UnitMeaning → RunOptions → List ℕ → List ℕ → Close → List ℕ
+added meaning o earlier later close = event_lines o.trace (drop (length (meaning earlier held_open).events) (meaning later close).events)
 
 -- j whole pieces, which make the bytes s, were fed, and their lines were put
 pub record IsFedBy (meaning : UnitMeaning) (o : RunOptions) (session : Session) (left_before left_after held_before held_after : Option (List ℕ)) (s : List ℕ) (j : ℕ) : Type 0 where

@@ -4,7 +4,7 @@ use Rattle.sp_meaning.specs.Meaning.{UnitMeaning}
 use Rattle.sp_session.specs.Session.{means}
 use Rattle.sp_driver.specs.Run.{Runs}
 use Rattle.sp_driver.specs.inside.Fed.{IsFedBy}
-use Rattle.sp_driver.proofs.Runs.{runs_stopped_first, told_first, put_first}
+use Rattle.sp_driver.proofs.Runs.{steady_of, runs_stopped_first, told_first, put_first}
 use Rattle.sp_driver.proofs.run.run_session.Goals as goal
 
 pub returns-in-Err-clause-runs : goal.returns-in-Err-clause-runs
@@ -12,7 +12,7 @@ returns-in-Err-clause-runs g c =
     let meaning = means c.args.session.now in
     let part = told_first meaning c.args.session.now c.args.options (g.O.Out.held c.args.out.now) (g.O.Out.held c.step.new.out) c.requires.fresh refl (c.in-Err.ensures.part [] c.requires.stands) in
     subst (λ exit. Runs meaning c.args.options (g.S.Source.left c.args.input.now) (g.S.Source.left c.args.input.now) (g.O.Out.held c.args.out.now) (g.O.Out.held c.step.new.out) exit) (sym c.stopped.ensures)
-    (runs_stopped_first meaning c.args.options (g.S.Source.left c.args.input.now) (g.O.Out.held c.args.out.now) (g.O.Out.held c.step.new.out) c.in-Err.stop c.requires.options.some part)
+    (runs_stopped_first meaning c.args.options (steady_of c.args.session.now [] c.requires.stands) (g.S.Source.left c.args.input.now) (g.O.Out.held c.args.out.now) (g.O.Out.held c.step.new.out) c.in-Err.stop c.requires.options.some part)
 
 pub pieces-init : goal.pieces-init
 pieces-init g c =

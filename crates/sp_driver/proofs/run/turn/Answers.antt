@@ -5,9 +5,8 @@ use Rattle.sp_meaning.specs.declared.stand.Stand.TheVariants.{Waiting}
 use Rattle.sp_meaning.specs.Meaning.{UnitMeaning}
 use Rattle.sp_command.specs.Puts.{IsPartPut}
 use Rattle.sp_session.specs.Session.{means}
-use Rattle.sp_driver.specs.Shown.{added}
 use Rattle.sp_driver.specs.Run.{Runs}
-use Rattle.sp_driver.specs.inside.Fed.{exit_of_stand}
+use Rattle.sp_driver.specs.inside.Fed.{added, exit_of_stand}
 use Rattle.sp_driver.proofs.Runs.{runs_input_fault, runs_no_memory, runs_too_long, runs_stopped, runs_stopped_last, runs_over, fed_next, told_next, held_next, piece_of}
 use Rattle.sp_driver.proofs.run.turn.Goals as goal
 
