@@ -7,6 +7,7 @@ mod declarations;
 mod hooks;
 mod items;
 mod readings;
+mod rare;
 mod rows;
 
 pub use attributes::Attribute;
@@ -18,4 +19,5 @@ pub use declarations::{
 pub use hooks::unit_of;
 pub use items::{Arm, Field, Part, PartNode};
 pub use readings::{ReadOp, Reading, Spec, SpecNode, TokenOp, UnitOf};
+pub use rare::Rare;
 pub use rows::Row;
