@@ -1,7 +1,7 @@
 // Parts of units: fields and switches.
 use crate::attributes::Attribute;
-use crate::readings::Spec;
 use crate::rare::Rare;
+use crate::readings::Spec;
 use crate::rows::Row;
 use sp_base::Span;
 use sp_typed::Expr;

@@ -6,8 +6,8 @@ mod attributes;
 mod declarations;
 mod hooks;
 mod items;
-mod readings;
 mod rare;
+mod readings;
 mod rows;
 
 pub use attributes::Attribute;
@@ -18,6 +18,6 @@ pub use declarations::{
 };
 pub use hooks::unit_of;
 pub use items::{Arm, Field, Part, PartNode};
-pub use readings::{ReadOp, Reading, Spec, SpecNode, TokenOp, UnitOf};
 pub use rare::Rare;
+pub use readings::{ReadOp, Reading, Spec, SpecNode, TokenOp, UnitOf};
 pub use rows::Row;

@@ -59,12 +59,7 @@ pub(crate) fn note_maybe(
 }
 
 /// Notes what is wrong in an expression that is mostly left out.
-pub(crate) fn note_rare(
-    units: &[Unit],
-    here: Here,
-    value: &Rare<Expr>,
-    least: &mut Option<Fault>,
-)
+pub(crate) fn note_rare(units: &[Unit], here: Here, value: &Rare<Expr>, least: &mut Option<Fault>)
     ensures { least.new ≡ checked least.old (maybe_tests units.now here value.now) }
 {
     if let Some(e) = value.get() {
