@@ -6,7 +6,7 @@ ghost use Rattle.sp_emit_unit.specs.Forms.{is_order, neither, read_as, form_of, 
 use sp_code::IntForm;
 use sp_numbers::Width;
 use sp_typed::Expr;
-use sp_typed_units::{Attribute, Field, ReadOp, Spec, SpecNode};
+use sp_typed_units::{Attribute, Field, Rare, ReadOp, Spec, SpecNode};
 use sp_types::{Level, Type, Word};
 use sp_words::AttributeName;
 
@@ -102,10 +102,10 @@ fn with_attributes(order: Option<u64>, attributes: &[Attribute], spec: &Spec) ->
 }
 
 /// Whether neither of two expressions stands.
-fn neither(a: &Option<Expr>, b: &Option<Expr>) -> bool
+fn neither(a: &Rare<Expr>, b: &Rare<Expr>) -> bool
     ensures { result ≡ neither a.now b.now }
 {
-    match (a, b) {
+    match (a.get(), b.get()) {
         (None, None) => true,
         _ => false,
     }

@@ -1,5 +1,5 @@
 // The hooks of what they hang on.
-ghost use Rattle.std.specs.Prelude.{◌≡◌, ◌∷◌, ◌++◌, ℕ, [], cond, IfOk, OnOk};
+ghost use Rattle.std.specs.Prelude.{◌≡◌, ◌==◌, ◌∷◌, ◌++◌, ℕ, [], length, cond, IfOk, OnOk};
 ghost use Rattle.sp_hook_order.specs.Keys.{are_same, hangs_on, key_at, hooks_of, parts_of};
 ghost use Rattle.sp_hook_order.specs.inside.Buckets.{told, AreGathered};
 
@@ -130,6 +130,13 @@ impl HookTable {
             ranks,
             buckets,
         })
+    }
+
+    /// Whether there is no hook.
+    pub fn is_empty(&self) -> bool
+        ensures { result ≡ (length self.now.0 == 0) }
+    {
+        self.keys.is_empty()
     }
 
     /// The numbers of the hooks that hang on something, in the order in which they run.

@@ -82,6 +82,15 @@ fn note(table: &mut FieldKeys, unit: u32, key: Option<(u32, HookKey)>) -> Result
 }
 
 impl FieldKeys {
+    /// What the hooks of no field hang on. Takes no memory.
+    pub fn none(alloc: Global) -> FieldKeys
+        ensures { (x : ℕ × ℕ) → key_told result x ≡ None }
+    {
+        FieldKeys {
+            keys: IndexMap::new(alloc),
+        }
+    }
+
     /// What the hooks of all fields hang on.
     pub fn new(
         alloc: Global,

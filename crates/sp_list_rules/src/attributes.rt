@@ -12,7 +12,7 @@ use sp_body_rules::{Facts, note_condition, note_right, note_value, value_goes, v
 use sp_operands::{is_bytes, is_integer};
 use sp_rules::{Fault, Rule, note_at};
 use sp_typed::Expr;
-use sp_typed_units::Attribute;
+use sp_typed_units::{Attribute, Rare};
 use sp_types::{Level, Type, Word};
 use sp_typing_units::{Kind, Role, role_of};
 use sp_words::AttributeName;
@@ -54,13 +54,13 @@ pub(crate) fn note_count<F: Facts>(
     alloc: Global,
     facts: &F,
     owner: u32,
-    count: &Option<Expr>,
+    count: &Rare<Expr>,
     least: &mut Option<Fault>,
 ) -> Result<(), NoMemory>
     ensures { OnOk result (least.new ≡ checked least.old
         (option_tests (amount_tests (F.known facts.now) owner) count.now)) }
 {
-    match count {
+    match count.get() {
         Some(e) => note_amount(alloc, facts, owner, e, least),
         None => Ok(()),
     }

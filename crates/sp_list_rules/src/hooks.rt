@@ -17,7 +17,7 @@ use sp_constants::Constants;
 use sp_numbers::Width;
 use sp_rules::Fault;
 use sp_typed::Expr;
-use sp_typed_units::{Hook, Typed};
+use sp_typed_units::{Hook, Rare, Typed};
 use sp_types::{Type, Word};
 use std::alloc::Global;
 
@@ -34,13 +34,13 @@ fn note_priority<F: Facts>(
     alloc: Global,
     facts: &F,
     owner: u32,
-    priority: &Option<Expr>,
+    priority: &Rare<Expr>,
     least: &mut Option<Fault>,
 ) -> Result<(), NoMemory>
     ensures { OnOk result (least.new ≡ checked least.old
         (option_tests (priority_tests (F.known facts.now) owner) priority.now)) }
 {
-    match priority {
+    match priority.get() {
         Some(e) => note_constant_value(alloc, facts, owner, is_rank(e.ty()), e, least),
         None => Ok(()),
     }

@@ -4,7 +4,7 @@ ghost use Rattle.sp_rules.specs.Least.{checked};
 ghost use Rattle.sp_list_rules.specs.Lists.{all_tests};
 ghost use Rattle.sp_list_rules.specs.Names.{variable_names, sink_names, order_names, unit_names, is_of_nothing, hook_names, function_names, constant_names, label_names, enum_names, list_names};
 
-use crate::part_names::{note_option_names, note_parts_names};
+use crate::part_names::{note_option_names, note_parts_names, note_rare_names};
 use crate::stmt_names::{note_expr_names, note_stmt_names};
 use sp_rules::{Fault, Rule, note_at};
 use sp_typed_units::{
@@ -67,7 +67,7 @@ fn note_hook(hook: &Hook, least: &mut Option<Fault>)
 {
     let unknown = is_of_nothing(hook.of) || !hook.fits;
     note_at(unknown, hook.module, Rule::UnknownHook, hook.span, least);
-    note_option_names(hook.module, &hook.priority, least);
+    note_rare_names(hook.module, &hook.priority, least);
     note_stmt_names(hook.module, &hook.body, least);
 }
 

@@ -9,12 +9,20 @@ ghost use Rattle.sp_list_rules.specs.Names.{expr_names, attribute_names, spec_na
 use crate::stmt_names::{note_expr_names, note_exprs_names};
 use sp_rules::{Fault, Rule, note_at};
 use sp_typed::Expr;
-use sp_typed_units::{Arm, Attribute, Field, Part, PartNode, Spec, SpecNode};
+use sp_typed_units::{Arm, Attribute, Field, Part, PartNode, Rare, Spec, SpecNode};
 
 pub(crate) fn note_option_names(owner: u32, e: &Option<Expr>, least: &mut Option<Fault>)
     ensures { least.new ≡ checked least.old (option_tests (expr_names owner) e.now) }
 {
     if let Some(e) = e {
+        note_expr_names(owner, e, least);
+    }
+}
+
+pub(crate) fn note_rare_names(owner: u32, e: &Rare<Expr>, least: &mut Option<Fault>)
+    ensures { least.new ≡ checked least.old (option_tests (expr_names owner) e.now) }
+{
+    if let Some(e) = e.get() {
         note_expr_names(owner, e, least);
     }
 }
@@ -45,7 +53,7 @@ fn note_spec_names(owner: u32, spec: &Spec, least: &mut Option<Fault>)
         SpecNode::Unit(_, arguments) => note_exprs_names(owner, arguments, least),
         SpecNode::List(_, element, count) => {
             note_spec_names(owner, element, least);
-            note_option_names(owner, count, least);
+            note_rare_names(owner, count, least);
         }
         SpecNode::Group(_, inner, attributes) => {
             note_spec_names(owner, inner, least);
@@ -61,8 +69,8 @@ fn note_field_names(owner: u32, field: &Field, least: &mut Option<Fault>)
     note_at(field.taken, owner, Rule::NameTwice, field.span, least);
     note_spec_names(owner, &field.spec, least);
     note_attributes_names(owner, field.attributes.as_slice(), least);
-    note_option_names(owner, &field.condition, least);
-    note_option_names(owner, &field.sink, least);
+    note_rare_names(owner, &field.condition, least);
+    note_rare_names(owner, &field.sink, least);
 }
 
 #[cycle(parts)]

@@ -15,7 +15,7 @@ use sp_body_rules::{Facts, note_arrow, note_case, note_value};
 use sp_operands::{OperatorSort, is_bytes};
 use sp_rules::{Fault, Rule, note_at};
 use sp_typed::Expr;
-use sp_typed_units::{Arm, Field, Part, PartNode, ReadOp, Spec, SpecNode};
+use sp_typed_units::{Arm, Field, Part, PartNode, Rare, ReadOp, Spec, SpecNode};
 use sp_typing_units::kind_of;
 use std::alloc::Global;
 
@@ -46,13 +46,13 @@ fn note_field_condition<F: Facts>(
     alloc: Global,
     facts: &F,
     owner: u32,
-    condition: &Option<Expr>,
+    condition: &Rare<Expr>,
     least: &mut Option<Fault>,
 ) -> Result<(), NoMemory>
     ensures { OnOk result (least.new ≡ checked least.old
         (option_tests (truth_tests (F.known facts.now) owner) condition.now)) }
 {
-    match condition {
+    match condition.get() {
         Some(e) => note_truth(alloc, facts, owner, e, least),
         None => Ok(()),
     }
@@ -64,13 +64,13 @@ fn note_sink<F: Facts>(
     facts: &F,
     owner: u32,
     takes: bool,
-    sink: &Option<Expr>,
+    sink: &Rare<Expr>,
     least: &mut Option<Fault>,
 ) -> Result<(), NoMemory>
     ensures { OnOk result (least.new ≡ checked least.old
         (option_tests (sink_tests (F.known facts.now) owner takes) sink.now)) }
 {
-    match sink {
+    match sink.get() {
         Some(e) => {
             note_at(!takes, owner, Rule::TypeMismatch, e.span(), least);
             note_arrow(owner, e, least);

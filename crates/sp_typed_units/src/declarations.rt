@@ -1,5 +1,6 @@
 // Declarations of the typed list. A number of a declaration is that in its row of the list, from 0.
 use crate::items::Part;
+use crate::rare::Rare;
 use crate::rows::Row;
 use sp_base::{Span, Text};
 use sp_typed::{Expr, Stmt, Written};
@@ -114,7 +115,7 @@ pub struct Hook {
     /// Whether its parameters are those of its hook, and its field is a container where it is of elements.
     pub fits: bool,
     pub parameters: Row<Parameter>,
-    pub priority: Option<Expr>,
+    pub priority: Rare<Expr>,
     /// The number that its priority is, where it is constant; 0 without one.
     pub rank: Option<i64>,
     /// The types of its locals, by their slots.

@@ -1,5 +1,6 @@
 // Parts of units: fields and switches.
 use crate::attributes::Attribute;
+use crate::rare::Rare;
 use crate::readings::Spec;
 use crate::rows::Row;
 use sp_base::Span;
@@ -21,9 +22,9 @@ pub struct Field {
     pub spec: Spec,
     /// In the order of the text.
     pub attributes: Row<Attribute>,
-    pub condition: Option<Expr>,
+    pub condition: Rare<Expr>,
     /// What stands behind `->`.
-    pub sink: Option<Expr>,
+    pub sink: Rare<Expr>,
     /// The numbers of its hooks in the list, in the order in which they run.
     pub hooks: Row<u32>,
 }

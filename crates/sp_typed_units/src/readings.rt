@@ -1,5 +1,6 @@
 // How a field, an element or a group is read.
 use crate::attributes::Attribute;
+use crate::rare::Rare;
 use sp_base::{ByteList, ResourceError, Span, Text, or_drop};
 use sp_typed::{Expr, MOST_LEVELS, Written};
 use sp_types::Type;
@@ -61,7 +62,7 @@ pub enum SpecNode {
     /// A unit, with its arguments.
     Unit(UnitOf, Vec<Expr>),
     /// A container: its element, and how many there are where that is written.
-    List(Span, Box<Spec>, Option<Expr>),
+    List(Span, Box<Spec>, Rare<Expr>),
     /// What stands in parentheses, with its attributes.
     Group(Span, Box<Spec>, Vec<Attribute>),
 }

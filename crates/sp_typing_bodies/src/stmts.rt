@@ -37,7 +37,7 @@ fn stmts_typed<C: Context>(
     ensures scope { OnOk result (scope.new ≡ (typed_stmts body.now (C.around context.now) in_loop
         scope.old (trees list.now)).1) }
 {
-    let mut all = Vec::new(alloc);
+    let mut all = Vec::with_capacity(alloc, list.len())?;
     for stmt in list.again() {
         all.push(typed_stmt(alloc, body, context, in_loop, scope, &stmt)?)?;
     }
@@ -124,7 +124,7 @@ fn branches_typed<C: Context>(
     ensures scope { OnOk result (scope.new ≡ (typed_branches body.now (C.around context.now) in_loop
         scope.old (trees list.now)).1) }
 {
-    let mut all = Vec::new(alloc);
+    let mut all = Vec::with_capacity(alloc, list.len())?;
     for branch in list.again() {
         all.push(branch_typed(alloc, body, context, in_loop, scope, &branch)?)?;
     }
@@ -251,7 +251,7 @@ fn cases_typed<C: Context>(
     ensures scope { OnOk result (scope.new ≡ (typed_cases body.now (C.around context.now) in_loop
         subject.now scope.old (trees list.now)).1) }
 {
-    let mut all = Vec::new(alloc);
+    let mut all = Vec::with_capacity(alloc, list.len())?;
     for case in list.again() {
         all.push(case_typed(alloc, body, context, in_loop, subject, scope, &case)?)?;
     }

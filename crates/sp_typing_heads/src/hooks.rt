@@ -13,7 +13,7 @@ use sp_numbers::Width;
 use sp_operands::taken;
 use sp_surroundings::{Parameters, WithCurrent, WithParameters, WithSelf, parameters_in};
 use sp_typed::{Expr, Standing, Stmt};
-use sp_typed_units::{Hook, HookOf, Parameter, Row};
+use sp_typed_units::{Hook, HookOf, Parameter, Rare, Row};
 use sp_types::{Type, Word};
 use sp_typing::Context;
 use sp_typing_bodies::typed_body;
@@ -113,7 +113,7 @@ fn rank_of<R: Ranks>(
 /// its slots.
 #[derive(Drop)]
 pub(crate) struct Inside {
-    pub(crate) priority: Option<Expr>,
+    pub(crate) priority: Rare<Expr>,
     pub(crate) rank: Option<i64>,
     pub(crate) body: Stmt,
     pub(crate) slots: Vec<Type>,
@@ -144,6 +144,7 @@ fn inside_of<P: Context, C: Context, R: Ranks>(
     let found = typed_body(alloc, &of_body, inside, Vec::new(alloc), tree);
     drop(of_body);
     let (body, slots) = or_drop!(found; priority);
+    let priority = or_drop!(Rare::new(alloc, priority); body, slots);
     Ok(Inside {
         priority,
         rank,

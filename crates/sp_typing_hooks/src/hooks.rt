@@ -14,7 +14,7 @@ use sp_base::{NoMemory, or_drop};
 use sp_hook_rows::HookRow;
 use sp_surroundings::Parameters;
 use sp_typed::{Stmt, StmtNode};
-use sp_typed_units::{Hook, Row, unit_of};
+use sp_typed_units::{Hook, Rare, Row, unit_of};
 use sp_typing::Context;
 use sp_typing_heads::{Ranks, Site, fits, hook_behind, hook_on};
 use std::alloc::Global;
@@ -100,7 +100,7 @@ fn no_hook(alloc: Global, site: Site) -> Result<Hook, NoMemory>
         of,
         fits,
         parameters: Row::new(alloc),
-        priority: None,
+        priority: Rare::none(),
         rank: Some(0),
         slots: Row::new(alloc),
         body,

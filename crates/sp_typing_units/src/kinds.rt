@@ -4,7 +4,7 @@ ghost use Rattle.sp_typing_units.specs.Kinds.{token_kind, read_kind, list_kind, 
 
 use crate::roles::{Kind, grouped};
 use sp_typed::Expr;
-use sp_typed_units::{ReadOp, Spec, SpecNode, TokenOp};
+use sp_typed_units::{Rare, ReadOp, Spec, SpecNode, TokenOp};
 
 fn token_kind(token: &TokenOp) -> Kind
     ensures { result ≡ token_kind token.now }
@@ -30,10 +30,10 @@ pub fn read_kind(op: &ReadOp) -> Kind
 }
 
 /// What is read again and again.
-pub fn list_kind(count: &Option<Expr>) -> Kind
+pub fn list_kind(count: &Rare<Expr>) -> Kind
     ensures { result ≡ list_kind count.now }
 {
-    match count {
+    match count.get() {
         None => Kind::Open,
         Some(_) => Kind::Counted,
     }

@@ -5,6 +5,7 @@ ghost use Rattle.sp_typing_units.specs.Attributes.{maybe_typed};
 use sp_ast::{ExprKind, Ref};
 use sp_base::NoMemory;
 use sp_typed::Expr;
+use sp_typed_units::Rare;
 use sp_typing::Context;
 use sp_typing_exprs::typed;
 use std::alloc::Global;
@@ -21,4 +22,15 @@ pub(crate) fn maybe_typed<C: Context>(
         Some(tree) => Ok(Some(typed(alloc, context, tree)?)),
         None => Ok(None),
     }
+}
+
+/// The same of what is mostly left out.
+pub(crate) fn rarely_typed<C: Context>(
+    alloc: Global,
+    context: &C,
+    part: &Option<Ref<'_, ExprKind>>,
+) -> Result<Rare<Expr>, NoMemory>
+    ensures { IfOk result (λ e. e ≡ maybe_typed (C.around context.now) part.now) }
+{
+    Rare::new(alloc, maybe_typed(alloc, context, part)?)
 }

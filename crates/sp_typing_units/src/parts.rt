@@ -8,7 +8,7 @@ ghost use Rattle.sp_typing_units.specs.Parts.{Fields, field_place, member_number
 
 use crate::attributes::stored_by;
 use crate::constants::Constants;
-use crate::optional::maybe_typed;
+use crate::optional::{maybe_typed, rarely_typed};
 use crate::readings::{Read, counted_read};
 use sp_ast::{
     ArmKind, AttributeKind, BodyKind, BodyView, ExprKind, FieldKind, FieldView, GuardKind,
@@ -17,7 +17,7 @@ use sp_ast::{
 use sp_base::{NoMemory, Span, or_drop};
 use sp_operands::{seen, taken};
 use sp_typed::Expr;
-use sp_typed_units::{Arm, Field, Part, PartNode, Row};
+use sp_typed_units::{Arm, Field, Part, PartNode, Rare, Row};
 use sp_types::Type;
 use sp_typing::Context;
 use sp_typing_exprs::typed_all;
@@ -73,8 +73,8 @@ fn is_taken<F: FieldTable>(table: &F, name: &Option<Ref<'_, NameKind>>) -> bool
 /// What stands round a field: its condition, its sink and its hooks.
 #[derive(Drop)]
 struct Guards {
-    condition: Option<Expr>,
-    sink: Option<Expr>,
+    condition: Rare<Expr>,
+    sink: Rare<Expr>,
     hooks: Row<u32>,
 }
 
@@ -90,8 +90,8 @@ fn guards_of<C: Context, F: FieldTable>(
     ensures sink { IfOk result (λ x. x.sink ≡ maybe_typed (C.around context.now) view.now.sink) }
     ensures hooks { IfOk result (λ x. x.hooks ≡ (F.fields table.now).hooks place) }
 {
-    let condition = maybe_typed(alloc, context, &view.condition)?;
-    let sink = or_drop!(maybe_typed(alloc, context, &view.sink); condition);
+    let condition = rarely_typed(alloc, context, &view.condition)?;
+    let sink = or_drop!(rarely_typed(alloc, context, &view.sink); condition);
     let hooks = or_drop!(table.hooks(alloc, place); condition, sink);
     Ok(Guards {
         condition,
@@ -221,7 +221,7 @@ pub fn parts_of<C: Context, V: Constants, F: FieldTable>(
     ensures { IfOk result (λ r. r.items ≡ parts_of (C.around context.now)
         (V.values constants.now) (F.fields table.now) (trees list.now)) }
 {
-    let mut all = Vec::new(alloc);
+    let mut all = Vec::with_capacity(alloc, list.len())?;
     for part in list.again() {
         let typed = or_drop!(part_of(alloc, context, constants, table, &part); all);
         or_drop!(all.push(typed); all);
@@ -266,7 +266,7 @@ fn arms_of<C: Context, V: Constants, F: FieldTable>(
     ensures { IfOk result (λ r. arms r.items ≡ arms_of (C.around context.now)
         (V.values constants.now) (F.fields table.now) subject.now (trees list.now)) }
 {
-    let mut all = Vec::new(alloc);
+    let mut all = Vec::with_capacity(alloc, list.len())?;
     for arm in list.again() {
         let arm = arm.view();
         let head = arm_of(alloc, context, subject, &arm.guard)?;

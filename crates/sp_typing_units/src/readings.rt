@@ -20,7 +20,7 @@ use sp_ast::{
 };
 use sp_base::{ByteList, NoMemory, Span, Text, or_drop};
 use sp_typed::{Expr, ExprLevel, LeafOp, Many, ManyOp, NewOf, Written};
-use sp_typed_units::{Attribute, ReadOp, Reading, Spec, SpecNode, TokenOp, UnitOf};
+use sp_typed_units::{Attribute, Rare, ReadOp, Reading, Spec, SpecNode, TokenOp, UnitOf};
 use sp_types::{Level, Maker, Type, Word, int_word};
 use sp_typing::{Context, Place};
 use sp_typing_exprs::{to_maybe, typed_all};
@@ -447,6 +447,7 @@ fn counting(count: &Option<Ref<'_, ExprKind>>) -> Kind
 fn list_spec(alloc: Global, at: Span, element: Spec, number: Option<Expr>) -> Result<Spec, NoMemory>
     ensures { IfOk result (λ s. s ≡ list_read at element number) }
 {
+    let number = or_drop!(Rare::new(alloc, number); element);
     let inner = or_drop!(Box::new(alloc, element); number);
     Ok(Spec::new(SpecNode::List(at, inner, number))?)
 }

@@ -4,6 +4,7 @@ ghost use Rattle.sp_typed.specs.Exprs.{exprs};
 ghost use Rattle.sp_unit_calls.specs.Calls.{method_number, is_same, op_calls, expr_calls, exprs_call, option_calls};
 
 use sp_typed::{Expr, ExprLevel, ManyOp, UnitMethod};
+use sp_typed_units::Rare;
 
 /// The place of a method among the methods of units, from 0.
 fn method_number(method: UnitMethod) -> u8
@@ -69,6 +70,16 @@ pub(crate) fn option_calls(method: UnitMethod, e: &Option<Expr>) -> bool
     ensures { result ≡ option_calls method e.now }
 {
     match e {
+        Some(e) => expr_calls(method, e),
+        None => false,
+    }
+}
+
+/// Whether an expression that is mostly left out calls the method.
+pub(crate) fn rare_calls(method: UnitMethod, e: &Rare<Expr>) -> bool
+    ensures { result ≡ option_calls method e.now }
+{
+    match e.get() {
         Some(e) => expr_calls(method, e),
         None => false,
     }

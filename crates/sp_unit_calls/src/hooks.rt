@@ -4,7 +4,7 @@ ghost use Rattle.sp_unit_calls.specs.HookCalling.{hook_calls, if_calls, callers,
 ghost use Rattle.sp_typed_units.specs.Hooks.{unit_of};
 ghost use Rattle.sp_unit_calls.specs.inside.Units.{has_told};
 
-use crate::exprs::option_calls;
+use crate::exprs::rare_calls;
 use crate::stmts::stmt_calls;
 use indexmap::IndexSet;
 use sp_base::{NoMemory, or_drop};
@@ -16,7 +16,7 @@ use std::marker::Model;
 fn hook_calls(method: UnitMethod, hook: &Hook) -> bool
     ensures { result ≡ hook_calls method hook.now }
 {
-    option_calls(method, &hook.priority) || stmt_calls(method, &hook.body)
+    rare_calls(method, &hook.priority) || stmt_calls(method, &hook.body)
 }
 
 /// Adds a unit, if there is one and its hook calls.

@@ -5,7 +5,7 @@ ghost use Rattle.sp_typed_units.specs.Parts.{parts, arms};
 ghost use Rattle.sp_unit_calls.specs.Calls.{expr_calls};
 ghost use Rattle.sp_unit_calls.specs.PartCalls.{attribute_calls, spec_calls, field_calls, part_calls, parts_call, arms_call, variables_call};
 
-use crate::exprs::{expr_calls, exprs_call, option_calls};
+use crate::exprs::{expr_calls, exprs_call, option_calls, rare_calls};
 use sp_typed::{Expr, UnitMethod};
 use sp_typed_units::{Arm, Attribute, Field, Part, PartNode, Spec, SpecNode, Variable};
 
@@ -39,7 +39,7 @@ fn spec_calls(method: UnitMethod, spec: &Spec) -> bool
         SpecNode::Read(_) => false,
         SpecNode::Unit(_, arguments) => exprs_call(method, arguments),
         SpecNode::List(_, element, count) => {
-            spec_calls(method, element) || option_calls(method, count)
+            spec_calls(method, element) || rare_calls(method, count)
         }
         SpecNode::Group(_, inner, attributes) => {
             spec_calls(method, inner) || attributes_call(method, attributes)
@@ -52,7 +52,7 @@ fn field_calls(method: UnitMethod, field: &Field) -> bool
 {
     spec_calls(method, &field.spec)
         || (attributes_call(method, field.attributes.as_slice())
-            || (option_calls(method, &field.condition) || option_calls(method, &field.sink)))
+            || (rare_calls(method, &field.condition) || rare_calls(method, &field.sink)))
 }
 
 /// Whether some part of a unit calls a method of a unit: in a reading, in an attribute, in a condition, behind a `->`, or in

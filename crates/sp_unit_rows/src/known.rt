@@ -1,6 +1,6 @@
 // What the rows of units are made of.
 ghost use Rattle.std.specs.Prelude.{◌≡◌, IfOk};
-ghost use Rattle.sp_hook_rows.specs.inside.Keyed.{AreKeys};
+ghost use Rattle.sp_unit_rows.specs.inside.Finding.{FindHooks};
 
 use sp_around::Tables;
 use sp_base::NoMemory;
@@ -19,7 +19,24 @@ pub struct UnitRows<'a> {
     pub sites: &'a [Site<'a>],
     pub hooks: &'a HookTable,
     pub(crate) keys: FieldKeys,
-    ghost keyed: { AreKeys tables.now.0 sites.now keys },
+    ghost keyed: { FindHooks tables.now.0 sites.now hooks.now keys },
+}
+
+/// What the hooks of fields hang on, where these are the hooks: where there are none, nothing is looked up.
+#[tactic(auto, using(crate::proofs::Finding::none_found, crate::proofs::Finding::found))]
+fn keys_with(
+    alloc: Global,
+    tables: &Tables<'_>,
+    sites: &[Site<'_>],
+    hooks: &HookTable,
+) -> Result<FieldKeys, NoMemory>
+    ensures { IfOk result (FindHooks tables.now.0 sites.now hooks.now) }
+{
+    if hooks.is_empty() {
+        Ok(FieldKeys::none(alloc))
+    } else {
+        FieldKeys::new(alloc, tables, sites)
+    }
 }
 
 impl<'a> UnitRows<'a> {
@@ -37,7 +54,7 @@ impl<'a> UnitRows<'a> {
         ensures sites { IfOk result (λ r. r.sites.now ≡ sites.now) }
         ensures hooks { IfOk result (λ r. r.hooks.now ≡ hooks.now) }
     {
-        let keys = FieldKeys::new(alloc, tables, sites)?;
+        let keys = keys_with(alloc, tables, sites, hooks)?;
         Ok(UnitRows {
             tables,
             stored,

@@ -7,7 +7,7 @@ ghost use Rattle.sp_unit_rules.specs.Units.{field_tests, part_tests, parts_tests
 
 use crate::here::Here;
 use crate::readings::{note_attributes, note_spec};
-use crate::sweep::{note_exprs, note_maybe};
+use crate::sweep::{note_exprs, note_maybe, note_rare};
 use sp_rules::Fault;
 use sp_typed_units::{Arm, Field, Part, PartNode, Unit};
 use sp_typing_units::Holder;
@@ -28,8 +28,8 @@ fn note_field(units: &[Unit], here: Here, field: &Field, least: &mut Option<Faul
     let own = field.attributes.as_slice();
     let kind = note_spec(units, here, own, &field.spec, least);
     note_attributes(units, here, holder_of(field.member), kind, own, least);
-    note_maybe(units, here, &field.condition, least);
-    note_maybe(units, here, &field.sink, least);
+    note_rare(units, here, &field.condition, least);
+    note_rare(units, here, &field.sink, least);
 }
 
 /// Notes what is wrong with parts of a unit.

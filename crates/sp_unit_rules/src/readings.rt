@@ -8,7 +8,7 @@ ghost use Rattle.sp_unit_rules.specs.Readings.{attributes_tests, is_decoder, rea
 use crate::attributes::{is_bounded, note_attribute};
 use crate::here::Here;
 use crate::nodes::{connects_filter, is_filter};
-use crate::sweep::{note_exprs, note_maybe};
+use crate::sweep::{note_exprs, note_maybe, note_rare};
 use sp_rules::{Fault, Rule, note_at};
 use sp_typed_units::{Attribute, ReadOp, Reading, Spec, SpecNode, Unit, UnitOf};
 use sp_types::{Level, Type, Word};
@@ -88,7 +88,7 @@ pub(crate) fn note_spec(
         }
         SpecNode::List(_, element, count) => {
             let _ = note_spec(units, here, &own[..0], element, least);
-            note_maybe(units, here, count, least);
+            note_rare(units, here, count, least);
             list_kind(count)
         }
         SpecNode::Group(_, inner, attributes) => {

@@ -8,7 +8,7 @@ use crate::here::Here;
 use crate::nodes::note_node;
 use sp_rules::Fault;
 use sp_typed::{Expr, ExprLevel};
-use sp_typed_units::Unit;
+use sp_typed_units::{Rare, Unit};
 
 /// Notes what is wrong at all nodes of some expressions.
 #[cycle(expr)]
@@ -54,6 +54,15 @@ pub(crate) fn note_maybe(
     ensures { least.new ≡ checked least.old (maybe_tests units.now here value.now) }
 {
     if let Some(e) = value {
+        note_expr(units, here, e, least);
+    }
+}
+
+/// Notes what is wrong in an expression that is mostly left out.
+pub(crate) fn note_rare(units: &[Unit], here: Here, value: &Rare<Expr>, least: &mut Option<Fault>)
+    ensures { least.new ≡ checked least.old (maybe_tests units.now here value.now) }
+{
+    if let Some(e) = value.get() {
         note_expr(units, here, e, least);
     }
 }

@@ -1,0 +1,28 @@
+-- Where there are no hooks, none are found, whatever a table tells; what hangs on each place finds all.
+use Rattle.std.proofs.Common.{ℕ, ◌≡◌, ◌∙◌, ap, sym, List, [], ◌∷◌, Option, Some, None}
+use Rattle.std.specs.Prelude.{ℤ, ◌==◌, true, length}
+use Rattle.sp_ast.specs.Trees.{Tree}
+use Rattle.sp_hook_order.specs.declared.keys.HookKey.{HookKey}
+use Rattle.sp_hook_order.specs.Keys.{gathered}
+use Rattle.sp_hook_rows.specs.declared.sites.Site.{Site}
+use Rattle.sp_hook_rows.specs.declared.places.FieldKeys.{FieldKeys}
+use Rattle.sp_hook_rows.specs.Places.{key_at}
+use Rattle.sp_hook_rows.specs.inside.Keyed.{key_told, AreKeys}
+use Rattle.sp_unit_rows.specs.Fields.{hooks_by}
+use Rattle.sp_unit_rows.specs.inside.Finding.{FindHooks}
+
+none_gathered : (order : List ℕ) (parts : ℕ × ℕ × ℕ) → gathered [] order parts ≡ []
+none_gathered [] parts = refl
+none_gathered (i ∷ is) parts = none_gathered is parts
+
+none_by : (keys : List (Option HookKey)) (ranks : List ℤ) (key : Option HookKey) → (length keys == 0) ≡ true → hooks_by (keys, ranks) key ≡ []
+none_by keys ranks None e = refl
+none_by [] ranks (Some key) e = none_gathered _ _
+none_by (k ∷ ks) ranks (Some key) e = cc
+
+pub none_found : (list : List Tree) (ss : List Site) (hooks : List (Option HookKey) × List ℤ) (table : FieldKeys) → (length hooks.0 == 0) ≡ true → FindHooks list ss hooks table
+none_found list ss hooks table e x =
+    none_by hooks.0 hooks.1 (key_told table x) e ∙ sym (none_by hooks.0 hooks.1 (key_at list x ss) e)
+
+pub found : (list : List Tree) (ss : List Site) (hooks : List (Option HookKey) × List ℤ) (table : FieldKeys) → AreKeys list ss table → FindHooks list ss hooks table
+found list ss hooks table told x = ap (hooks_by hooks) (told x)
