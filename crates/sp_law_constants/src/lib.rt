@@ -1,0 +1,9 @@
+//! Laws on constants: what the checker takes a constant expression for is what bodies make of it.
+//! There is no code here.
+#![tactic(auto)]
+
+mod constants;
+mod lists;
+
+pub use constants::constants_are_meant;
+pub use lists::lists_agree;
