@@ -1,13 +1,14 @@
 // What an expression is as a constant, and how large its value is.
-ghost use Rattle.std.specs.Prelude.{◌≡◌, IfOk};
+ghost use Rattle.std.specs.Prelude.{◌≡◌, ◌≤◌, IfOk};
 ghost use Rattle.sp_constants.specs.declared.outcome.Outcome.TheVariants as outcome_is;
+ghost use Rattle.sp_constants.specs.Extents.{most_parts, most_levels};
 
 use crate::outcome::Outcome;
-use sp_base::NoMemory;
+use sp_base::{NoMemory, ResourceError};
 use std::marker::Model;
 
 /// The most parts that the value of a constant may have where it is written out: constants can build towers of values by
-/// name, and whatever is compared or copied has to stay short. What is larger is answered as want of memory.
+/// name, and whatever is compared or copied has to stay short. What is larger exceeds the limit.
 pub const MOST_PARTS: u32 = 1 << 20;
 
 /// The most parts of a value that stand inside one another, for what walks into values calls itself once a level.
@@ -18,11 +19,19 @@ pub const MOST_LEVELS: u16 = 1000;
 pub(crate) struct Extent {
     parts: u32,
     levels: u16,
+    ghost few: { parts ≤ most_parts },
+    ghost low: { levels ≤ most_levels },
 }
 
 impl Extent {
+    ghost use Rattle.std.specs.Prelude.{◌≡◌, ◌<◌, ◌+◌, max, ◌⊎◌, ◌↔◌, IfOk, IsErrOf, IsOkUnless};
+    ghost use Rattle.sp_base.specs.declared.resources.ResourceError.TheVariants.{LimitExceeded};
+
     /// That of no value.
-    pub(crate) fn none() -> Extent {
+    pub(crate) fn none() -> Extent
+        ensures parts { result.parts ≡ 0 }
+        ensures levels { result.levels ≡ 0 }
+    {
         Extent {
             parts: 0,
             levels: 0,
@@ -30,17 +39,24 @@ impl Extent {
     }
 
     /// That of a value without parts.
-    pub(crate) fn one() -> Extent {
+    pub(crate) fn one() -> Extent
+        ensures parts { result.parts ≡ 1 }
+        ensures levels { result.levels ≡ 1 }
+    {
         Extent {
             parts: 1,
             levels: 1,
         }
     }
 
-    /// That of bytes or a text of this length.
-    pub(crate) fn of_length(n: usize) -> Result<Extent, NoMemory> {
+    /// That of bytes or a text of this length, unless it has too many parts.
+    pub(crate) fn of_length(n: usize) -> Result<Extent, ResourceError>
+        ensures extent { IfOk result (λ e. (e.parts ≡ n + 1) × (e.levels ≡ 1)) }
+        ensures unless { IsOkUnless result LimitExceeded }
+        ensures limit { IsErrOf result LimitExceeded ↔ (most_parts < n + 1) }
+    {
         if n >= MOST_PARTS as usize {
-            return Err(NoMemory);
+            return Err(ResourceError::LimitExceeded);
         }
         Ok(Extent {
             parts: n as u32 + 1,
@@ -48,11 +64,16 @@ impl Extent {
         })
     }
 
-    /// That of two values side by side.
-    pub(crate) fn beside(self, other: Extent) -> Result<Extent, NoMemory> {
-        let parts = self.parts.saturating_add(other.parts);
+    /// That of two values side by side, unless they have too many parts.
+    pub(crate) fn beside(self, other: Extent) -> Result<Extent, ResourceError>
+        ensures extent { IfOk result (λ e. (e.parts ≡ self.parts + other.parts)
+            × (e.levels ≡ max self.levels other.levels)) }
+        ensures unless { IsOkUnless result LimitExceeded }
+        ensures limit { IsErrOf result LimitExceeded ↔ (most_parts < self.parts + other.parts) }
+    {
+        let parts = self.parts + other.parts;
         if parts > MOST_PARTS {
-            return Err(NoMemory);
+            return Err(ResourceError::LimitExceeded);
         }
         let levels = if self.levels < other.levels {
             other.levels
@@ -62,10 +83,16 @@ impl Extent {
         Ok(Extent { parts, levels })
     }
 
-    /// That of a value made of these parts.
-    pub(crate) fn around(self) -> Result<Extent, NoMemory> {
+    /// That of a value made of these parts, unless it has too many of them or too many levels.
+    pub(crate) fn around(self) -> Result<Extent, ResourceError>
+        ensures extent { IfOk result (λ e. (e.parts ≡ self.parts + 1)
+            × (e.levels ≡ self.levels + 1)) }
+        ensures unless { IsOkUnless result LimitExceeded }
+        ensures limit { IsErrOf result LimitExceeded
+            ↔ ((most_parts < self.parts + 1) ⊎ (most_levels < self.levels + 1)) }
+    {
         if self.parts >= MOST_PARTS || self.levels >= MOST_LEVELS {
-            return Err(NoMemory);
+            return Err(ResourceError::LimitExceeded);
         }
         Ok(Extent {
             parts: self.parts + 1,
@@ -94,7 +121,7 @@ impl Model for Measured {
 }
 
 impl Measured {
-    /// What has this value, which is so large.
+    /// What has this value, which is at most so large.
     pub(crate) fn new(outcome: Outcome, extent: Extent) -> Measured
         ensures { result ≡ outcome }
     {
@@ -137,6 +164,7 @@ impl Measured {
         self.outcome
     }
 
+    /// How large its value is at most.
     pub(crate) fn extent(&self) -> Extent {
         self.extent
     }

@@ -9,7 +9,7 @@ ghost use Rattle.sp_constants.specs.Values.{is_and, is_or, binary_value, three_v
 
 use crate::measured::{Extent, Measured};
 use crate::outcome::Outcome;
-use sp_base::{NoMemory, or_drop};
+use sp_base::{NoMemory, ResourceError, or_drop};
 use sp_operators::{
     PlainType, ValueFault, add, binary, cast, has_size, is_cast, size, takes, takes_one, unary,
 };
@@ -25,7 +25,7 @@ pub(crate) fn unknown() -> Measured
 }
 
 /// How large a value without members is.
-fn extent_of(value: &Value) -> Result<Extent, NoMemory> {
+fn extent_of(value: &Value) -> Result<Extent, ResourceError> {
     match value.level() {
         Level::Bytes(bytes) => Extent::of_length(bytes.len()),
         Level::Str(text) => Extent::of_length(text.len()),
