@@ -1,5 +1,5 @@
 -- The values inside a tree: each is smaller than the tree.
-use Rattle.std.proofs.Common.{◌≡◌, ℕ, zero, suc, ◌+◌, ◌<◌, ◌≤◌, List, [], ◌∷◌, length, get_or, sym, subst, arith}
+use Rattle.std.proofs.Common.{◌≡◌, ℕ, zero, suc, ◌+◌, ◌<◌, ◌≤◌, List, [], ◌∷◌, ◌++◌, length, get_or, sym, subst, arith}
 use Rattle.sp_events.specs.Tree.{TreeData, trees_of, pairs_of, fields_of}
 use Rattle.sp_events.specs.TreeSizes.{tree_size, trees_size, pairs_size, fields_size}
 
@@ -26,3 +26,16 @@ pair_size_of ps i p h is = let P : TreeData × TreeData → Type 0 = λ x. tree_
 
 pub field_size_of : (fs : List (List ℕ × TreeData)) (i : ℕ) (f : List ℕ × TreeData) → i < length fs → f ≡ get_or fs i f → tree_size f.1 + 1 ≤ fields_size (fields_of fs)
 field_size_of fs i f h is = let P : List ℕ × TreeData → Type 0 = λ x. tree_size x.1 + 1 ≤ fields_size (fields_of fs) in subst P (sym is) (field_size_within fs i f h)
+
+-- a tree that leaves the end of a row, or its front
+pub sizes_both : (ts us : List TreeData) → trees_size (trees_of (ts ++ us)) ≡ trees_size (trees_of ts) + trees_size (trees_of us)
+sizes_both [] us = omega arith
+sizes_both (t ∷ ts) us = omega (arith, sizes_both ts us)
+
+pub pair_sizes_both : (ps qs : List (TreeData × TreeData)) → pairs_size (pairs_of (ps ++ qs)) ≡ pairs_size (pairs_of ps) + pairs_size (pairs_of qs)
+pair_sizes_both [] qs = omega arith
+pair_sizes_both (p ∷ ps) qs = omega (arith, pair_sizes_both ps qs)
+
+pub field_sizes_both : (fs gs : List (List ℕ × TreeData)) → fields_size (fields_of (fs ++ gs)) ≡ fields_size (fields_of fs) + fields_size (fields_of gs)
+field_sizes_both [] gs = omega arith
+field_sizes_both (f ∷ fs) gs = omega (arith, field_sizes_both fs gs)

@@ -3,6 +3,7 @@
 
 mod copies;
 mod event;
+mod parting;
 mod tree;
 mod trees;
 

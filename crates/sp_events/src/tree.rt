@@ -1,5 +1,6 @@
 // A value as it is told: plain data, with the fields of units written out.
 use crate::copies::copy_tree;
+use crate::parting::let_go;
 use sp_base::{ByteList, NoMemory, Text};
 use std::marker::Model;
 
@@ -7,9 +8,15 @@ use std::marker::Model;
 /// nesting of values, since the nesting of a text is bounded, and the depth limit of a run bounds that of units in
 /// units. So a walk into a tree needs little stack.
 #[cycle(tree)]
-#[derive(Drop)]
 pub struct Tree {
     pub node: Node,
+}
+
+impl Drop for Tree {
+    fn drop(self) {
+        let Tree { node } = self;
+        let_go(node);
+    }
 }
 
 /// One level of a tree.
@@ -65,6 +72,7 @@ impl Model for Tree {
 impl Tree {
     ghost use Rattle.std.specs.Prelude.{◌≡◌, IfOk};
     ghost use Rattle.sp_events.specs.Tree.{unit, fields_of};
+    ghost use Rattle.sp_events.specs.TreeView.{tree_of};
 
     /// The value of a unit with these fields.
     pub fn unit(fields: Vec<(Text, Tree)>) -> Tree
@@ -73,6 +81,14 @@ impl Tree {
         Tree {
             node: Node::Unit(fields),
         }
+    }
+
+    /// The tree's first level, taken out of it.
+    pub(crate) fn into_node(self) -> Node
+        ensures { tree_of result ≡ self }
+    {
+        let Tree { node } = self;
+        node
     }
 
     /// An equal tree, which shares nothing with this one.
