@@ -1,12 +1,14 @@
 //! Laws on the rules of the checker, in words of their own: each list of modules has answers, a body that ends well never runs past its end, a
-//! name of a unit comes twice by where both stand.
+//! name of a unit comes twice by where both stand, a conversion is found where conversions lead to a field that is made of itself.
 //! There is no code here.
 #![tactic(auto)]
 
 mod answers;
+mod conversions;
 mod ends;
 mod names;
 
 pub use answers::answers_are_there;
+pub use conversions::conversions_are_endless;
 pub use ends::bodies_give_results;
 pub use names::names_come_twice;
