@@ -1,9 +1,11 @@
 -- Where there are no hooks, none are found, whatever a table tells; what hangs on each place finds all.
-use Rattle.std.proofs.Common.{ℕ, ◌≡◌, ◌∙◌, ap, sym, List, [], ◌∷◌, Option, Some, None}
+use Rattle.std.proofs.Common.{ℕ, suc, ◌≡◌, ◌∙◌, refl, ap, sym, arith, List, [], ◌∷◌, Option, Some, None}
 use Rattle.std.specs.Prelude.{ℤ, ◌==◌, true, length}
+use Rattle.std.proofs.lemmas.Bool.{eqb-true}
 use Rattle.sp_ast.specs.Trees.{Tree}
 use Rattle.sp_hook_order.specs.declared.keys.HookKey.{HookKey}
-use Rattle.sp_hook_order.specs.Keys.{gathered}
+use Rattle.sp_hook_order.specs.Keys.{gathered, parts_of}
+use Rattle.sp_hook_order.specs.Order.{run_order}
 use Rattle.sp_hook_rows.specs.declared.sites.Site.{Site}
 use Rattle.sp_hook_rows.specs.declared.places.FieldKeys.{FieldKeys}
 use Rattle.sp_hook_rows.specs.Places.{key_at}
@@ -17,8 +19,8 @@ none_gathered (i ∷ is) parts = none_gathered is parts
 
 none_by : (keys : List (Option HookKey)) (ranks : List ℤ) (key : Option HookKey) → (length keys == 0) ≡ true → hooks_by (keys, ranks) key ≡ []
 none_by keys ranks None e = refl
-none_by [] ranks (Some key) e = none_gathered _ _
-none_by (k ∷ ks) ranks (Some key) e = cc
+none_by [] ranks (Some key) e = none_gathered (run_order ranks) (parts_of key)
+none_by (k ∷ ks) ranks (Some key) e = absurd (let z : suc (length ks) ≡ 0 = eqb-true (suc (length ks)) 0 e in omega (arith, z))
 
 pub none_found : (list : List Tree) (ss : List Site) (hooks : List (Option HookKey) × List ℤ) (table : FieldKeys) → (length hooks.0 == 0) ≡ true → FindHooks list ss hooks table
 none_found list ss hooks table e x =

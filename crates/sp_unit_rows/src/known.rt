@@ -23,7 +23,7 @@ pub struct UnitRows<'a> {
 }
 
 /// What the hooks of fields hang on, where these are the hooks: where there are none, nothing is looked up.
-#[tactic(auto, using(crate::proofs::Finding::none_found, crate::proofs::Finding::found))]
+#[tactic(auto, using(crate::proofs::Finding::found))]
 fn keys_with(
     alloc: Global,
     tables: &Tables<'_>,
