@@ -1,4 +1,5 @@
-// How a tree is dropped: by a loop, whatever its depth, and without memory.
+// How a tree is dropped: by a loop, whatever its depth, and without memory. Only the key of a map is dropped by a call, and no
+// key of a run's map has values in it.
 ghost use Rattle.std.specs.Prelude.{◌≤◌, ◌<◌, ◌+◌};
 ghost use Rattle.sp_events.specs.Tree.{trees_of, pairs_of, fields_of};
 ghost use Rattle.sp_events.specs.TreeSizes.{tree_size, trees_size, pairs_size, fields_size};

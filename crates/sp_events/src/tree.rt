@@ -4,9 +4,8 @@ use crate::parting::let_go;
 use sp_base::{ByteList, NoMemory, Text};
 use std::marker::Model;
 
-/// A value with unit values written out. Trees nest no deeper than the values that they tell: types bound the
-/// nesting of values, since the nesting of a text is bounded, and the depth limit of a run bounds that of units in
-/// units. So a walk into a tree needs little stack.
+/// A value with unit values written out. Trees nest as deep as the values that they tell, and the units in these. A tree is
+/// dropped by a loop, whatever its depth; other walks into it call themselves once a level.
 #[cycle(tree)]
 pub struct Tree {
     pub node: Node,
