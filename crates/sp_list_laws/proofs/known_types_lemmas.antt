@@ -1,4 +1,5 @@
 pub mod Full
+pub mod Inside
 pub mod Tests
 pub mod Kept
 pub mod Nodes

@@ -1,4 +1,5 @@
 pub mod Full
+pub mod Inside
 pub mod Trees
 pub mod Clear
 pub mod Given

@@ -1,5 +1,12 @@
 // What is known of an expression in which no rule is broken.
+ghost use Rattle.sp_list_laws.specs.known_types.Inside.{PartsMayStand};
 ghost use Rattle.sp_list_laws.specs.known_types.Laws.{TypesAreKnownInside, TypesAreKnownValues, FormedIsExpr, UnbrokenIsClear, ValuesInBodies};
+
+/// Each type that stands inside a full one is known and has values, and each element of a set and each key of a map is of a type of
+/// keys.
+pub fn parts_may_stand()
+    ensures { PartsMayStand }
+{}
 
 /// Where all that an expression can name is known, no rule is broken at its nodes, and each of them may stand there, each node inside it has a value of a
 /// full type; and so has the expression itself, unless it is a name that is no value or the key of a set. An expression that

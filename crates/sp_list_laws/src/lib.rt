@@ -40,7 +40,9 @@ pub use known_members::{
     functions_are_known, members_are_known, modules_are_known, readings_are_known,
 };
 pub use known_statements::{locals_are_full, statements_pass, typing_makes_statements};
-pub use known_types::{formed_is_expr, types_are_known, unbroken_is_clear, values_in_bodies};
+pub use known_types::{
+    formed_is_expr, parts_may_stand, types_are_known, unbroken_is_clear, values_in_bodies,
+};
 pub use known_units::units_are_known;
 pub use known_values::operators_are_told;
 pub use made_nodes::nodes_hold;

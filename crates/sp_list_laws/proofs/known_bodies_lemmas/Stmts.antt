@@ -8,8 +8,7 @@ use Rattle.sp_ast.specs.declared.forms.Form.TheVariants as form_is
 use Rattle.sp_ast.specs.declared.forms.StmtForm.TheVariants as stmt_is
 use Rattle.sp_types.specs.declared.words.Word.TheVariants as word_is
 use Rattle.sp_types.specs.declared.words.Maker.TheVariants as maker_is
-use Rattle.sp_types.specs.Types.{Ty, Tys, word, made}
-use Rattle.sp_types.specs.Types as types
+use Rattle.sp_types.specs.Types.{Ty, word, made}
 use Rattle.sp_typed.specs.declared.words.OneOp.{OneOp}
 use Rattle.sp_typed.specs.declared.words.Written.{Written}
 use Rattle.sp_typed.specs.declared.stmt_words.ValuedOp.TheVariants as valued_is
@@ -19,7 +18,6 @@ use Rattle.sp_typed.specs.Stmts.{Stmt, block, branch, while_loop, for_loop, swit
 use Rattle.sp_typed.specs.StmtNodes.{stmts_in, stmts_in_all, stmts_in_branches, stmts_in_cases, nodes_hold, stmts_hold, branches_hold, cases_hold}
 use Rattle.sp_typing.specs.declared.places.Place.TheVariants as place_is
 use Rattle.sp_typing.specs.Contexts.{Around}
-use Rattle.sp_operands.specs.Operands.{first_type}
 use Rattle.sp_operands.specs.Literals.{seen, taken}
 use Rattle.sp_typing.specs.Typing.{typed, to_target, to_maybe}
 use Rattle.sp_typing_stmts.specs.declared.body.Body.{Body}
@@ -31,12 +29,12 @@ use Rattle.sp_typing_stmts.specs.Statements.{valued_at, after_local, declared, l
 use Rattle.sp_body_rules.specs.Known.{Known}
 use Rattle.sp_body_rules.specs.Values.{written_tests}
 use Rattle.sp_body_rules.specs.StmtTests.{is_sequence}
-use Rattle.sp_list_laws.specs.known_types.Full.{has_parts, is_full, are_full, is_right, is_bare, holds_inside}
+use Rattle.sp_list_laws.specs.known_types.Full.{is_full, is_right, is_bare, holds_inside}
 use Rattle.sp_list_laws.specs.known_types.Clear.{is_clear}
 use Rattle.sp_list_laws.specs.known_types.Trees.{is_expr, are_exprs}
 use Rattle.sp_list_laws.specs.known_types.Given.{IsKnown}
 use Rattle.sp_list_laws.specs.known_types.Stmts.{is_good, each_holds, exprs_hold, all_exprs_hold, branch_exprs_hold, case_exprs_hold}
-use Rattle.sp_list_laws.proofs.known_types_lemmas.Full.{never, vector_first}
+use Rattle.sp_list_laws.proofs.known_types_lemmas.Full.{never, vector_first, set_first, entry_full}
 use Rattle.sp_list_laws.proofs.known_types_lemmas.Tests.{Good, Holds, fine_parts, not_misplaced, value_of, full_of, seen_is, seen_full, right_when}
 use Rattle.sp_list_laws.proofs.known_types_lemmas.Kept.{HoldsAll, taken_holds, target_holds, maybe_holds}
 use Rattle.sp_list_laws.proofs.known_types_lemmas.Typed.{typed_holds}
@@ -48,16 +46,11 @@ use Rattle.sp_list_laws.proofs.known_bodies_lemmas.Kept.{kept_holds}
 use Rattle.sp_list_laws.proofs.known_bodies_lemmas.Contexts.{Full, locals_known, kept_full, owner_full}
 
 -- what a `for` goes over has elements of a full type
-set_first : (ts : Tys) → is_full (made maker_is.Set ts) ≡ true → is_full (first_type ts) ≡ true
-set_first types.none f = never f
-set_first (types.more t types.none) f = (and_parts (is_full t) true f).0
-set_first (types.more t (types.more u us)) f = never f
-
-element_full : (t : Ty) → is_sequence t ≡ true → is_full t ≡ true → is_full (element_type t) ≡ true
+pub element_full : (t : Ty) → is_sequence t ≡ true → is_full t ≡ true → is_full (element_type t) ≡ true
 element_full (word word_is.Bytes) s f = refl
 element_full (made maker_is.Vector ts) s f = vector_first ts f
 element_full (made maker_is.Set ts) s f = set_first ts f
-element_full (made maker_is.Map ts) s f = (and_parts (has_parts maker_is.Map ts) (are_full ts) f).1
+element_full (made maker_is.Map ts) s f = entry_full ts f
 element_full _ s f = never s
 
 -- the type that is written for a local, with what is said of it, is full unless it is misplaced

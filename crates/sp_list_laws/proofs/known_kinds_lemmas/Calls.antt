@@ -22,7 +22,7 @@ use Rattle.sp_body_rules.specs.Values.{is_no_value, is_no_object}
 use Rattle.sp_body_rules.specs.ExprTests.{argument_fits, arguments_fit, argument_tests}
 use Rattle.sp_list_rules.specs.Told.{parameter_type, function_takes}
 use Rattle.sp_list_laws.specs.known_types.Full.{is_full, is_right, is_unknown}
-use Rattle.sp_list_laws.proofs.known_types_lemmas.Full.{never, full_is_known}
+use Rattle.sp_list_laws.proofs.known_types_lemmas.Full.{never, full_is_known, vector_first, map_first, map_second}
 use Rattle.sp_list_laws.proofs.known_types_lemmas.Tests.{Fine, at_first, no_object}
 use Rattle.sp_list_laws.specs.fit_expr.Sorts.{Void, Vectors, Maps, sort_of, same_sort}
 use Rattle.sp_list_laws.specs.fit_expr.Lists.{arguments_are, sorts_are}
@@ -117,7 +117,7 @@ call_so (Some x) t es own full a =
 -- what a vector and a map of full types hold
 on_vector : (P : Ty → Type 0) → ((x : Ty) → is_full x ≡ true → P (made maker_is.Vector (types.more x types.none))) → (s : Ty) → is_sort s Vectors ≡ true → is_full s ≡ true → P s
 on_vector P go (made maker_is.Vector types.none) r f = never f
-on_vector P go (made maker_is.Vector (types.more x types.none)) r f = go x (and_parts (is_full x) true f).0
+on_vector P go (made maker_is.Vector (types.more x types.none)) r f = go x (vector_first (types.more x types.none) f)
 on_vector P go (made maker_is.Vector (types.more x (types.more y ts))) r f = never f
 on_vector P go (made _ ts) r f = never r
 on_vector P go (word word_is.Bytes) r f = never r
@@ -126,9 +126,7 @@ on_vector P go (word _) r f = never r
 on_map : (P : Ty → Type 0) → ((x v : Ty) → is_full x ≡ true → is_full v ≡ true → P (made maker_is.Map (types.more x (types.more v types.none)))) → (s : Ty) → is_sort s Maps ≡ true → is_full s ≡ true → P s
 on_map P go (made maker_is.Map types.none) r f = never f
 on_map P go (made maker_is.Map (types.more x types.none)) r f = never f
-on_map P go (made maker_is.Map (types.more x (types.more v types.none))) r f =
-    let p = and_parts (is_full x) (is_full v && true) f in
-    go x v p.0 (and_parts (is_full v) true p.1).0
+on_map P go (made maker_is.Map (types.more x (types.more v types.none))) r f = go x v (map_first x v f) (map_second (types.more x (types.more v types.none)) f)
 on_map P go (made maker_is.Map (types.more x (types.more v (types.more y ts)))) r f = never f
 on_map P go (made _ ts) r f = never r
 on_map P go (word word_is.Bytes) r f = never r

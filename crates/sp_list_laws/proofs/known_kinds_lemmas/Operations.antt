@@ -40,7 +40,7 @@ use Rattle.sp_emit_expr.specs.Many.{kept_in, row_of}
 use Rattle.sp_emit_expr.specs.Literals.{number_behind}
 use Rattle.sp_list_laws.specs.known_types.Full.{is_full, is_right, is_unknown}
 use Rattle.sp_list_laws.specs.known_types.Clear.{is_clear, any_op}
-use Rattle.sp_list_laws.proofs.known_types_lemmas.Full.{never, full_is_known}
+use Rattle.sp_list_laws.proofs.known_types_lemmas.Full.{never, full_is_known, map_first}
 use Rattle.sp_list_laws.proofs.known_types_lemmas.Tests.{Fine, fine_parts, both_false, not_so, at_first, tests_of, no_object}
 use Rattle.sp_list_laws.specs.known_literals.Widened.{is_widen, widens_value}
 use Rattle.sp_list_laws.proofs.whole_list_lemmas.None.{holds_both, all_hold_both}
@@ -159,9 +159,8 @@ module _ (around : Around) (k : Known) (m : ℕ) where
       and_from (is_sort (type_of b) Unsigned) (part_is ts 0 t) (sorted (type_of b) Unsigned key) (first_part ts t given full)
   index_so (made maker_is.Map (types.more x (types.more v types.none))) t a b given f whole full r past =
       let p = and_parts (same t v) (is_targeted x b) given in
-      let parts = and_parts (is_full x) (is_full v && true) whole in
       let goes_ = (and_parts (not (is_past b)) (goes (type_of b) x) (not_so (value_goes x b) f.0)).1 in
-      let key = key_same (type_of b) x (full_is_known (type_of b) (full_type b r)) (full_is_known x parts.0) goes_ (subst (λ u. not (widens u x && not (same u x)) ≡ true) (seen_is b past) p.1) in
+      let key = key_same (type_of b) x (full_is_known (type_of b) (full_type b r)) (full_is_known x (map_first x v whole)) goes_ (subst (λ u. not (widens u x && not (same u x)) ≡ true) (seen_is b past) p.1) in
       and_from (same x (type_of b)) (same v t) (turned (type_of b) x key) (turned t v p.0)
   index_so (made maker_is.Map types.none) t a b given f whole full r past = never whole
   index_so (made maker_is.Map (types.more x types.none)) t a b given f whole full r past = never whole

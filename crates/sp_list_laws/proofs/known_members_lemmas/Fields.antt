@@ -27,7 +27,7 @@ use Rattle.sp_operands.specs.Operands.{unknown, boolean}
 use Rattle.sp_operands.specs.Literals.{is_past}
 use Rattle.sp_typing.specs.declared.places.Place.TheVariants.{Whole}
 use Rattle.sp_typing.specs.Contexts.{Around}
-use Rattle.sp_typing.specs.Typing.{typed}
+use Rattle.sp_typing.specs.Typing.{typed, typed_all}
 use Rattle.sp_typing_units.specs.declared.attributes.Site.{Site}
 use Rattle.sp_typing_units.specs.declared.readings.Read.{Read}
 use Rattle.sp_typing_units.specs.declared.roles.Kind.{Kind}
@@ -62,11 +62,11 @@ use Rattle.sp_stored_types.specs.inside.Laws.{source_kept}
 use Rattle.sp_checked_list.specs.Settled.{Answers}
 use Rattle.sp_checked_list.specs.Lists.{typed_of}
 use Rattle.sp_checked_list.specs.Rules.{Breaks}
-use Rattle.sp_list_laws.specs.known_types.Full.{is_full}
+use Rattle.sp_list_laws.specs.known_types.Full.{has_value, is_full}
 use Rattle.sp_list_laws.specs.known_types.Clear.{none_hold, any_op}
 use Rattle.sp_list_laws.proofs.known_types_lemmas.Full.{never}
 use Rattle.sp_list_laws.proofs.known_types_lemmas.Formed.{formed_expr}
-use Rattle.sp_list_laws.proofs.known_types_lemmas.Tests.{Holds, value_of, seen_full}
+use Rattle.sp_list_laws.proofs.known_types_lemmas.Tests.{Holds, valued_by, value_of, seen_is, seen_full}
 use Rattle.sp_list_laws.proofs.known_types_lemmas.Typed.{typed_holds}
 use Rattle.sp_list_laws.proofs.whole_list_lemmas.Heads.{parameters_full}
 use Rattle.sp_list_laws.proofs.whole_list_lemmas.None.{none_parts, none_all, expr_clear}
@@ -77,7 +77,7 @@ use Rattle.sp_list_laws.proofs.known_constants_lemmas.Named.{tree_told}
 use Rattle.sp_list_laws.proofs.unbroken_list_lemmas.Lists.{are_unbroken}
 use Rattle.sp_list_laws.specs.known_members.Given.{is_read}
 use Rattle.sp_list_laws.proofs.known_members_lemmas.Shapes.{field_parts}
-use Rattle.sp_list_laws.proofs.known_members_lemmas.Readings.{integer_full, type_sound, called_sound, contained_full}
+use Rattle.sp_list_laws.proofs.known_members_lemmas.Readings.{IsValued, integer_full, integer_valued, type_sound, called_sound, type_valued, called_valued, contained_valued, contained_full}
 use Rattle.sp_list_laws.proofs.known_members_lemmas.Contexts.{FullMembers, unit_home, inside, types, paths, meant_known}
 
 -- a value of which something is asked
@@ -211,6 +211,14 @@ module _ (list : List Tree) (a : Answers list) (formed_list : list_all is_formed
           let holding = subst (λ y. Holds any_op k m y) same (typed_holds (meant u (here (filled r))) any_op k m ty path known e is) in
           seen_full x (value_of any_op k m x holding clear q.0 q.1)
 
+      -- a conversion gives a value
+      converted_valued : (u : Ty) (e : Option Tree) → IsConversion u e → has_value u ≡ true → has_value (converted last u e) ≡ true
+      converted_valued u None good valued = valued
+      converted_valued u (Some e) good valued =
+          let x = typed (meant u last) e in
+          let q = right_parts m (is_plain (type_of x)) x (inside_tests k m x) good.3 in
+          ap has_value (seen_is x q.1) ∙ ap not (valued_by x q.0)
+
       -- what is read, and then made of it by a conversion
       pub behind_full : (base : Tree) (counts ts : Trees) → is_full (counted_read last v base counts).ty ≡ true
           → or_else (base_open list count r (here r) v base) (conversion_open list count r (here r) (counted_read (here r) v base counts).ty (conversion ts)) ≡ None
@@ -220,10 +228,10 @@ module _ (list : List Tree) (a : Answers list) (formed_list : list_all is_formed
           let same = counted_alike base counts opens.0 in
           converted_full (counted_read last v base counts).ty (conversion ts) fu (subst (λ u. conversion_open list count r (here r) u (conversion ts) ≡ None) (sym same) opens.1) good
 
-      pub base_full : (x : Tree) → is_of group_is.Bases x ≡ true → Fine x → IsGood (base_read last v x).spec → base_open list count r (here r) v x ≡ None → is_full (base_read last v x).ty ≡ true
-      base_full (node (form_is.Base base_is.Type) at (more u none)) of h good open_ = type_sound last v at u (last.type_in Whole u) good.2
+      pub base_full : (x : Tree) → is_of group_is.Bases x ≡ true → Fine x → IsGood (base_read last v x).spec → base_open list count r (here r) v x ≡ None → (is_full (base_read last v x).ty ≡ true) × IsValued (base_read last v x)
+      base_full (node (form_is.Base base_is.Type) at (more u none)) of h good open_ = (type_sound last v at u (last.type_in Whole u) good.2, type_valued last v at u (last.type_in Whole u))
       base_full (node (form_is.Base base_is.Unit) at (more path (more (row ts) none))) of h good open_ =
-          called_sound last v at (trees.span_of path) (last.named (trees.span_of path) path) _ good.2
+          (called_sound last v at (trees.span_of path) (last.named (trees.span_of path) path) _ good.2, called_valued last v at (trees.span_of path) (last.named (trees.span_of path) path) (typed_all last ts))
       base_full (node (form_is.Base base_is.Group) at (more inner (more (row counts) (more (row ts) none)))) of h good open_ =
           let ws = more inner (more (row counts) (more (row ts) none)) in
           let fill_ = and_parts (is_of group_is.Bases inner) (are_of group_is.Counts counts && (are_of group_is.Attributes ts && true)) (formed list f m (form_is.Base base_is.Group) at ws h) in
@@ -237,11 +245,14 @@ module _ (list : List Tree) (a : Answers list) (formed_list : list_all is_formed
           let tests = none_parts (spec_tests k m read.spec) (all_tests (attribute_tests k m (kind_of read.spec) unknown) (attributes last v site ts)) good.0 in
           let names = none_parts (spec_names m read.spec) (all_tests (attribute_names m) (attributes last v site ts)) good.1 in
           let opens = else_none (base_open list count r (here r) v inner) (conversion_open list count r (here r) (counted_read (here r) v inner counts).ty (conversion ts)) open_ in
-          let inner_full = base_full inner fill_.0 fine_inner (element_good (trees.span_of inner) counts (base_read last v inner) (tests.0, names.0, good.2)) opens.0 in
-          behind_full inner counts ts (contained_full last v (trees.span_of inner) counts (base_read last v inner) inner_full) open_ (is_conversion site (kind_of read.spec) unknown ts fill_ts fine_ts tests.1 names.1)
-      base_full (node (form_is.Base (base_is.Bytes bytes)) at none) of h good open_ = refl
-      base_full (node (form_is.Base (base_is.Regex text)) at none) of h good open_ = refl
-      base_full (node (form_is.Base (base_is.Number x)) at (more u none)) of h good open_ = integer_full x
+          let base = base_full inner fill_.0 fine_inner (element_good (trees.span_of inner) counts (base_read last v inner) (tests.0, names.0, good.2)) opens.0 in
+          let good_ts = is_conversion site (kind_of read.spec) unknown ts fill_ts fine_ts tests.1 names.1 in (
+            behind_full inner counts ts (contained_full last v k m (trees.span_of inner) counts (base_read last v inner) tests.0 base.1 base.0) open_ good_ts,
+            λ e. converted_valued read.ty (conversion ts) good_ts (contained_valued last v (trees.span_of inner) counts (base_read last v inner) base.1 e),
+          )
+      base_full (node (form_is.Base (base_is.Bytes bytes)) at none) of h good open_ = (refl, λ e. refl)
+      base_full (node (form_is.Base (base_is.Regex text)) at none) of h good open_ = (refl, λ e. refl)
+      base_full (node (form_is.Base (base_is.Number x)) at (more u none)) of h good open_ = (integer_full x, λ e. integer_valued x)
       base_full _ of h good open_ = never good.2
 
     pub field_sound : (fields : Fields) (span : Span) (name base : Tree) (counts ts : Trees) (condition sink hooks : Tree) → Fine (node form_is.Field span (field_parts name base counts ts condition sink hooks))
@@ -266,5 +277,5 @@ module _ (list : List Tree) (a : Answers list) (formed_list : list_all is_formed
         let names = none_parts (spec_names m read.spec) _ named.1 in
         let names_ts = none_parts (all_tests (attribute_names m) (attributes last v site ts)) _ names.1 in
         let opens = else_none (base_open list count r (here r) v base) _ open_ in
-        let inner_full = base_full r w all base at_base.0 (first list f m base (more (row counts) (more (row ts) tail)) fine) (element_good (trees.span_of base) counts (base_read last v base) (tests.0, names.0, good.2)) opens.0 in
-        behind_full r w all base counts ts (contained_full last v (trees.span_of base) counts (base_read last v base) inner_full) open_ (is_conversion site (kind_of read.spec) whole.ty ts at_ts.0 fine_ts tests_ts.0 names_ts.0)
+        let inner = base_full r w all base at_base.0 (first list f m base (more (row counts) (more (row ts) tail)) fine) (element_good (trees.span_of base) counts (base_read last v base) (tests.0, names.0, good.2)) opens.0 in
+        behind_full r w all base counts ts (contained_full last v k m (trees.span_of base) counts (base_read last v base) tests.0 inner.1 inner.0) open_ (is_conversion site (kind_of read.spec) whole.ty ts at_ts.0 fine_ts tests_ts.0 names_ts.0)

@@ -5,17 +5,13 @@ use Rattle.std.proofs.lemmas.Bool.{and_parts, and_from}
 use Rattle.sp_ast.specs.Trees.{Tree, Trees, absent, row, node, none, more}
 use Rattle.sp_ast.specs.declared.forms.Form.TheVariants as form_is
 use Rattle.sp_ast.specs.declared.forms.StmtForm.TheVariants as stmt_is
-use Rattle.sp_types.specs.declared.words.Word.TheVariants as word_is
-use Rattle.sp_types.specs.declared.words.Maker.TheVariants as maker_is
-use Rattle.sp_types.specs.Types.{Ty, Tys, word, made}
-use Rattle.sp_types.specs.Types as types
+use Rattle.sp_types.specs.Types.{Ty}
 use Rattle.sp_typed.specs.declared.words.OneOp.{OneOp}
 use Rattle.sp_typed.specs.Exprs.{Expr, exprs, type_of}
 use Rattle.sp_typed.specs.Nodes.{holds, all_hold}
 use Rattle.sp_typed.specs.Stmts.{Stmt, block, branch, while_loop, for_loop, switch, stmts, branch_row}
 use Rattle.sp_typed.specs.StmtNodes.{stmts_in, stmts_in_all, stmts_in_branches, stmts_in_cases, nodes_hold, stmts_hold, branches_hold, cases_hold}
 use Rattle.sp_typing.specs.Contexts.{Around}
-use Rattle.sp_operands.specs.Operands.{first_type}
 use Rattle.sp_operands.specs.Literals.{seen, taken}
 use Rattle.sp_typing.specs.Typing.{typed}
 use Rattle.sp_typing_stmts.specs.declared.body.Body.{Body}
@@ -25,11 +21,11 @@ use Rattle.sp_typing_stmts.specs.Values.{value_in, values_in}
 use Rattle.sp_typing_stmts.specs.Statements.{after_local, loop_head, element_type, cases_of, typed_stmt, typed_stmts, typed_branches, typed_branch, typed_cases, typed_case, typed_body}
 use Rattle.sp_body_rules.specs.Known.{Known}
 use Rattle.sp_body_rules.specs.StmtTests.{is_sequence}
-use Rattle.sp_list_laws.specs.known_types.Full.{has_parts, is_full, are_full}
+use Rattle.sp_list_laws.specs.known_types.Full.{is_full}
 use Rattle.sp_list_laws.specs.known_types.Clear.{is_clear}
 use Rattle.sp_list_laws.specs.known_types.Trees.{is_expr, are_exprs}
 use Rattle.sp_list_laws.specs.known_types.Given.{IsKnown}
-use Rattle.sp_list_laws.proofs.known_types_lemmas.Full.{never, vector_first}
+use Rattle.sp_list_laws.proofs.known_types_lemmas.Full.{never}
 use Rattle.sp_list_laws.proofs.known_types_lemmas.Tests.{Holds, value_of, full_of, seen_is, right_when}
 use Rattle.sp_list_laws.proofs.known_types_lemmas.Typed.{typed_holds}
 use Rattle.sp_list_laws.proofs.known_types_lemmas.Bodies.{Quiet, two_quiet, at_first, behind}
@@ -38,21 +34,8 @@ use Rattle.sp_list_laws.specs.known_bodies.Decided.{locals_full, DecidesUnder}
 use Rattle.sp_list_laws.specs.known_bodies.Trees.{is_stmt, are_stmts, are_branches, are_cases, is_body}
 use Rattle.sp_list_laws.proofs.known_bodies_lemmas.Kept.{kept_holds}
 use Rattle.sp_list_laws.proofs.known_bodies_lemmas.Contexts.{Full, locals_known, kept_full}
-use Rattle.sp_list_laws.proofs.known_bodies_lemmas.Stmts.{stmt_known}
+use Rattle.sp_list_laws.proofs.known_bodies_lemmas.Stmts.{element_full, stmt_known}
 use Rattle.sp_list_laws.specs.known_statements.Declared.{locals_full_in, locals_full_among, branch_locals_full, case_locals_full}
-
--- what a `for` goes over has elements of a full type
-set_first : (ts : Tys) → is_full (made maker_is.Set ts) ≡ true → is_full (first_type ts) ≡ true
-set_first types.none f = never f
-set_first (types.more t types.none) f = (and_parts (is_full t) true f).0
-set_first (types.more t (types.more u us)) f = never f
-
-element_full : (t : Ty) → is_sequence t ≡ true → is_full t ≡ true → is_full (element_type t) ≡ true
-element_full (word word_is.Bytes) s f = refl
-element_full (made maker_is.Vector ts) s f = vector_first ts f
-element_full (made maker_is.Set ts) s f = set_first ts f
-element_full (made maker_is.Map ts) s f = (and_parts (has_parts maker_is.Map ts) (are_full ts) f).1
-element_full _ s f = never s
 
 module _ (only : OneOp → Bool) (k : Known) (m : ℕ) (is_type is_path : Tree → Bool) (blind : IsBlind k) (b : Body) (wanted : Option Ty) (g : Around) (known : IsKnown g only k m is_type is_path) (decides : DecidesUnder g only k m is_type is_path) where
   abbrev clear : Expr → Bool

@@ -38,7 +38,7 @@ use Rattle.sp_bodies.specs.Exprs.{slot_local}
 use Rattle.sp_list_laws.specs.known_types.Full.{is_full, is_right, is_bare, is_unknown}
 use Rattle.sp_list_laws.specs.known_types.Clear.{is_clear, any_op}
 use Rattle.sp_list_laws.specs.known_types.Stmts.{is_good, takes_key, each_holds, exprs_hold, all_exprs_hold, branch_exprs_hold, case_exprs_hold}
-use Rattle.sp_list_laws.proofs.known_types_lemmas.Full.{never, full_is_known}
+use Rattle.sp_list_laws.proofs.known_types_lemmas.Full.{never, full_is_known, set_first, map_first}
 use Rattle.sp_list_laws.proofs.known_types_lemmas.Tests.{Fine, fine_parts, both_false, not_so, at_first, first_fine, place_of, place_in}
 use Rattle.sp_list_laws.proofs.known_types_lemmas.Bodies.{Quiet, two_quiet, at_first as first_tests, behind}
 use Rattle.sp_list_laws.specs.known_literals.Widened.{widens_value}
@@ -145,12 +145,12 @@ module _ (k : Known) (m : ℕ) where
   key_is : (deletes : Bool) (s t : Ty) (a e : Expr) → has_changed_keys deletes s ≡ true → is_full s ≡ true → element_made s t e ≡ true → Fine (index_tests k m s a e) → is_right e ≡ true → is_past e ≡ false → is_key (not deletes) s (type_of e) ≡ true
   key_is deletes (made maker_is.Set types.none) t a e h f given tests r past = never f
   key_is deletes (made maker_is.Set (types.more x types.none)) t a e h f given tests r past =
-      set_key deletes x (type_of e) (key_of_type x e (and_parts (is_full x) true f).0 tests.0 (and_parts (is_unknown t) (is_targeted x e) given).1 r past)
+      set_key deletes x (type_of e) (key_of_type x e (set_first (types.more x types.none) f) tests.0 (and_parts (is_unknown t) (is_targeted x e) given).1 r past)
   key_is deletes (made maker_is.Set (types.more x (types.more y ts))) t a e h f given tests r past = never f
   key_is deletes (made maker_is.Map types.none) t a e h f given tests r past = never f
   key_is deletes (made maker_is.Map (types.more x types.none)) t a e h f given tests r past = never f
   key_is true (made maker_is.Map (types.more x (types.more v types.none))) t a e h f given tests r past =
-      key_of_type x e (and_parts (is_full x) (is_full v && true) f).0 tests.0 (and_parts (same t v) (is_targeted x e) given).1 r past
+      key_of_type x e (map_first x v f) tests.0 (and_parts (same t v) (is_targeted x e) given).1 r past
   key_is false (made maker_is.Map (types.more x (types.more v types.none))) t a e h f given tests r past = never h
   key_is deletes (made maker_is.Map (types.more x (types.more v (types.more y ts)))) t a e h f given tests r past = never f
   key_is true (made maker_is.Vector ts) t a e h f given tests r past = never h

@@ -5,12 +5,12 @@ use Rattle.std.proofs.lemmas.Bool.{true≢false, and_parts, and_from}
 use Rattle.sp_types.specs.declared.words.Word.{Word}
 use Rattle.sp_types.specs.declared.words.Word.TheVariants as word_is
 use Rattle.sp_types.specs.declared.words.Maker.TheVariants as maker_is
-use Rattle.sp_types.specs.Types.{Ty, Tys, word, made, is_known, are_known, is_known_word, wider, wider_of, same, same_word, widens, holds}
+use Rattle.sp_types.specs.Types.{Ty, Tys, word, made, is_known, are_known, is_key, is_plain, are_plain, is_known_word, wider, wider_of, same, same_word, widens, holds}
 use Rattle.sp_types.specs.Types as types
 use Rattle.sp_operands.specs.declared.operators.OperatorSort.{OperatorSort}
 use Rattle.sp_operands.specs.declared.operators.OperatorSort.TheVariants as takes
 use Rattle.sp_operands.specs.Operands.{unknown, is_unsigned, is_signed, is_integer, is_bytes, is_text, first_type, of_one_sign, stands_before, stands_behind, agree, wider_type, sum_type, result_type, second_type}
-use Rattle.sp_list_laws.specs.known_types.Full.{has_parts, is_full, are_full, is_unknown}
+use Rattle.sp_list_laws.specs.known_types.Full.{has_value, have_values, has_parts, is_full, are_full, is_unknown}
 
 -- what can't be
 pub never : {X : Type 0} → false ≡ true → X
@@ -35,14 +35,69 @@ unknown_is _ u = never u
 -- the parts of vectors, sets and maps
 pub vector_first : (ts : Tys) → is_full (made maker_is.Vector ts) ≡ true → is_full (first_type ts) ≡ true
 vector_first types.none f = never f
-vector_first (types.more t types.none) f = (and_parts (is_full t) true f).0
+vector_first (types.more t types.none) f = (and_parts (is_full t) true (and_parts (has_value t) (is_full t && true) f).1).0
 vector_first (types.more t (types.more u us)) f = never f
+
+pub set_first : (ts : Tys) → is_full (made maker_is.Set ts) ≡ true → is_full (first_type ts) ≡ true
+set_first types.none f = never f
+set_first (types.more t types.none) f = (and_parts (is_full t) true (and_parts (is_key t) (is_full t && true) f).1).0
+set_first (types.more t (types.more u us)) f = never f
+
+pub map_first : (t u : Ty) → is_full (made maker_is.Map (types.more t (types.more u types.none))) ≡ true → is_full t ≡ true
+map_first t u f = (and_parts (is_full t) (is_full u && true) (and_parts (is_key t && has_value u) (is_full t && (is_full u && true)) f).1).0
 
 pub map_second : (ts : Tys) → is_full (made maker_is.Map ts) ≡ true → is_full (second_type ts) ≡ true
 map_second types.none f = never f
 map_second (types.more t types.none) f = never f
-map_second (types.more t (types.more u types.none)) f = (and_parts (is_full u) true (and_parts (is_full t) (is_full u && true) f).1).0
+map_second (types.more t (types.more u types.none)) f =
+    let p = and_parts (is_key t && has_value u) (is_full t && (is_full u && true)) f in
+    (and_parts (is_full u) true (and_parts (is_full t) (is_full u && true) p.1).1).0
 map_second (types.more t (types.more u (types.more v us))) f = never f
+
+-- types of keys and plain types are types of values
+pub key_valued : (t : Ty) → is_key t ≡ true → has_value t ≡ true
+key_valued (word word_is.Unknown) k = refl
+key_valued (word word_is.Bool) k = refl
+key_valued (word (word_is.Uint w)) k = refl
+key_valued (word (word_is.Int w)) k = refl
+key_valued (word word_is.Bytes) k = refl
+key_valued (word word_is.String) k = refl
+key_valued (word (word_is.Enum n)) k = refl
+key_valued _ k = never k
+
+pub plain_valued : (t : Ty) → is_plain t ≡ true → has_value t ≡ true
+plain_valued (word word_is.Void) p = never p
+plain_valued (word word_is.Regex) p = never p
+plain_valued (word word_is.Sink) p = never p
+plain_valued (word word_is.New) p = never p
+plain_valued _ p = refl
+
+pub are_valued : (ts : Tys) → are_plain ts ≡ true → have_values ts ≡ true
+are_valued types.none p = refl
+are_valued (types.more t ts) p =
+    let q = and_parts (is_plain t) (are_plain ts) p in
+    and_from (has_value t) (have_values ts) (plain_valued t q.0) (are_valued ts q.1)
+
+-- what is made of full types, and of what may stand in it
+pub vector_full : (t : Ty) → has_value t ≡ true → is_full t ≡ true → is_full (made maker_is.Vector (types.more t types.none)) ≡ true
+vector_full t v f = and_from (has_value t) (is_full t && true) v (and_from (is_full t) true f refl)
+
+pub set_full : (t : Ty) → is_key t ≡ true → is_full t ≡ true → is_full (made maker_is.Set (types.more t types.none)) ≡ true
+set_full t k f = and_from (is_key t) (is_full t && true) k (and_from (is_full t) true f refl)
+
+pub keyed_full : (t u : Ty) → is_key t ≡ true → has_value u ≡ true → is_full t ≡ true → is_full u ≡ true → is_full (made maker_is.Map (types.more t (types.more u types.none))) ≡ true
+keyed_full t u k v f g =
+    and_from (is_key t && has_value u) (is_full t && (is_full u && true)) (and_from (is_key t) (has_value u) k v) (and_from (is_full t) (is_full u && true) f (and_from (is_full u) true g refl))
+
+-- a key and its value, as a tuple
+pub entry_full : (ts : Tys) → is_full (made maker_is.Map ts) ≡ true → is_full (made maker_is.Tuple ts) ≡ true
+entry_full types.none f = never f
+entry_full (types.more t types.none) f = never f
+entry_full (types.more t (types.more u types.none)) f =
+    let p = and_parts (is_key t && has_value u) (is_full t && (is_full u && true)) f in
+    let q = and_parts (is_key t) (has_value u) p.0 in
+    and_from (has_value t && (has_value u && true)) (is_full t && (is_full u && true)) (and_from (has_value t) (has_value u && true) (key_valued t q.0) (and_from (has_value u) true q.1 refl)) p.1
+entry_full (types.more t (types.more u (types.more v us))) f = never f
 
 -- integer types
 pub integer_full : (t : Ty) → is_integer t ≡ true → is_full t ≡ true

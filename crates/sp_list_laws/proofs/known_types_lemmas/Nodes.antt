@@ -27,7 +27,7 @@ use Rattle.sp_typing.specs.Typing.{one_at, two_at, to_target, agreeing, signed_t
 use Rattle.sp_body_rules.specs.Known.{Known}
 use Rattle.sp_body_rules.specs.Values.{knows, is_set_key, written_tests, value_tests}
 use Rattle.sp_body_rules.specs.ExprTests.{negates, is_past_key, disagree, index_tests, is_constant, is_not_constant}
-use Rattle.sp_list_laws.specs.known_types.Full.{is_full, are_full, is_right}
+use Rattle.sp_list_laws.specs.known_types.Full.{have_values, is_full, are_full, is_right}
 use Rattle.sp_list_laws.specs.known_types.Clear.{is_clear}
 use Rattle.sp_list_laws.specs.known_types.Given.{is_member_op, is_member, is_decided}
 use Rattle.sp_list_laws.proofs.known_types_lemmas.Full.{never, integer_full, result_full, vector_first, map_second}
@@ -265,7 +265,7 @@ module _ (only : OneOp → Bool) (k : Known) (m : ℕ) where
       let v = value_of only k m a ga q.0 f.0 f.1.0 in
       let w = value_of only k m i hi q.1 f.1.1.0 f.1.1.1.0 in
       let full : is_full (made maker_is.Tuple ts) ≡ true = sym (ap is_full is) ∙ seen_full a v in
-      two_good span t (two_is.Item n) a i v w (part_full ts n t at full)
+      two_good span t (two_is.Item n) a i v w (part_full ts n t at (and_parts (have_values ts) (are_full ts) full).1)
 
   items_hold : (span : Span) (ts : types.Tys) (o : Option ℕ) (a i : Expr) → Decided i → seen a ≡ made maker_is.Tuple ts → Holds only k m a → Holds only k m i → Holds only k m (item_at span ts o a i)
   items_hold span ts None a i settled is ga hi = no_item span ts a i settled is ga hi

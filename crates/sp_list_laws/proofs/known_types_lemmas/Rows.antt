@@ -27,10 +27,10 @@ use Rattle.sp_typing.specs.Typing.{one_at, many_at, each_to, row_at, in_turn, le
 use Rattle.sp_body_rules.specs.Known.{Known}
 use Rattle.sp_body_rules.specs.Values.{is_no_value, knows, is_new}
 use Rattle.sp_body_rules.specs.ExprTests.{unlike, all_value_tests, elements_tests, row_tests, entries_tests, map_tests, argument_tests, connects}
-use Rattle.sp_list_laws.specs.known_types.Full.{is_full, are_full, is_right, is_bare}
+use Rattle.sp_list_laws.specs.known_types.Full.{has_value, have_values, is_full, are_full, is_right, is_bare}
 use Rattle.sp_list_laws.specs.known_types.Clear.{is_clear}
 use Rattle.sp_list_laws.specs.known_types.Given.{is_method_op}
-use Rattle.sp_list_laws.proofs.known_types_lemmas.Full.{never, full_is_known}
+use Rattle.sp_list_laws.proofs.known_types_lemmas.Full.{never, full_is_known, vector_full, set_full, keyed_full}
 use Rattle.sp_list_laws.proofs.known_types_lemmas.Tests.{Fine, Good, Clear, Holds, Value, first_fine, object_of, value_of, bare_is_none, bare_is_unknown, valued_by, full_of, seen_is, seen_full, knows_it, whole_of, right_when, both_false, not_so, is_whole, inside, at_first}
 use Rattle.sp_list_laws.proofs.known_types_lemmas.Kept.{HoldsAll, HoldsPairs, each_holds, turn_holds, joined_holds}
 use Rattle.sp_list_laws.proofs.known_types_lemmas.Nodes.{no_member, chosen_full}
@@ -71,6 +71,14 @@ module _ (only : OneOp → Bool) (k : Known) (m : ℕ) where
   seen_all [] v = refl
   seen_all (e ∷ es) v = and_from (is_full (seen e)) (are_full (tys (map seen es))) (seen_full e v.0) (seen_all es v.1)
 
+  -- a value is of a type of values
+  valued_seen : (e : Expr) → Value e → is_no_value e ≡ false → has_value (seen e) ≡ true
+  valued_seen e v n = ap has_value (seen_is e v.within) ∙ ap not (valued_by e n)
+
+  all_valued : (es : List Expr) → Values es → Fine (all_value_tests m (exprs es)) → have_values (tys (map seen es)) ≡ true
+  all_valued [] v f = refl
+  all_valued (e ∷ es) v f = and_from (has_value (seen e)) (have_values (tys (map seen es))) (valued_seen e v.0 f.0) (all_valued es v.1 f.1.1)
+
   -- a value is of a type that parts may have
   may_of : (keyed : Bool) (e : Expr) → Value e → is_no_value e ≡ false → (not keyed || is_key (type_of e)) ≡ true → may_hold keyed (type_of e) ≡ true
   may_of keyed e v n s =
@@ -89,7 +97,7 @@ module _ (only : OneOp → Bool) (k : Known) (m : ℕ) where
       let f = first_fine only k m (tuple_at span es) c in
       let v = all_values es h (parts_of span t many_is.Tuple es c) f in
       many_good span t many_is.Tuple es (whole_all es v) refl
-      (chosen_full (are_parts (map seen es)) (made maker_is.Tuple (tys (map seen es))) (parts_may es v f) (seen_all es v))
+      (chosen_full (are_parts (map seen es)) (made maker_is.Tuple (tys (map seen es))) (parts_may es v f) (and_from (have_values (tys (map seen es))) (are_full (tys (map seen es))) (all_valued es v f) (seen_all es v)))
 
   -- vectors and sets
   elements_values : (keyed : Bool) (first : Expr) (es : List Expr) → HoldsAll only k m es → ClearAll es → Fine (elements_tests m keyed first (exprs es)) → Values es
@@ -108,19 +116,24 @@ module _ (only : OneOp → Bool) (k : Known) (m : ℕ) where
   elements_of keyed first (e ∷ es) v vs f =
       and_from (is_of (type_of first) e) (all_of (type_of first) es) (element_of first e v vs.0 f.1.1.1.0) (elements_of keyed first es v vs.1 f.1.1.1.1)
 
-  row_full : (maker : Maker) (e : Expr) (es : List Expr) → Values (e ∷ es) → Fine (elements_tests m (has_keys_alone maker) e (exprs (e ∷ es))) → is_full (made maker (types.more (type_of e) types.none)) ≡ true → is_full (row_type maker (e ∷ es)) ≡ true
+  row_full : (maker : Maker) (e : Expr) (es : List Expr) → Values (e ∷ es) → Fine (elements_tests m (has_keys_alone maker) e (exprs (e ∷ es))) → (may_hold (has_keys_alone maker) (type_of e) ≡ true → is_full (made maker (types.more (type_of e) types.none)) ≡ true) → is_full (row_type maker (e ∷ es)) ≡ true
   row_full maker e es v f full =
       let all : List Expr = e ∷ es in
       let keyed = has_keys_alone maker in
+      let may = may_of keyed e v.0 f.0 (right_when e (not keyed || is_key (type_of e)) v.0 f.1.1.0) in
       let row : Ty → Ty = λ t. if may_hold keyed t && all_of t all then made maker (types.more t types.none) else unknown in
       ap (λ t. is_full (row t)) (seen_is e v.0.within)
       ∙ chosen_full (may_hold keyed (type_of e) && all_of (type_of e) all) (made maker (types.more (type_of e) types.none))
-      (and_from (may_hold keyed (type_of e)) (all_of (type_of e) all) (may_of keyed e v.0 f.0 (right_when e (not keyed || is_key (type_of e)) v.0 f.1.1.0)) (elements_of keyed e all v.0 v f)) full
+      (and_from (may_hold keyed (type_of e)) (all_of (type_of e) all) may (elements_of keyed e all v.0 v f)) (full may)
 
-  one_part : (t : Ty) → is_full t ≡ true → (is_full t && true) ≡ true
-  one_part t f = and_from (is_full t) true f refl
+  -- a vector of what may stand in one, and a set of types of keys
+  row_of_parts : (t : Ty) → is_full t ≡ true → may_hold false t ≡ true → is_full (made maker_is.Vector (types.more t types.none)) ≡ true
+  row_of_parts t f may = vector_full t (and_parts (has_value t) true (and_parts (is_known t) (has_value t && true) may).1).0 f
 
-  row_values : (maker : Maker) (span : Span) (es : List Expr) → HoldsAll only k m es → ClearAll es → Fine (row_tests m (has_keys_alone maker) span (exprs es)) → ((t : Ty) → is_full t ≡ true → is_full (made maker (types.more t types.none)) ≡ true) → Values es × (is_full (row_type maker es) ≡ true)
+  set_of_keys : (t : Ty) → is_full t ≡ true → may_hold true t ≡ true → is_full (made maker_is.Set (types.more t types.none)) ≡ true
+  set_of_keys t f may = set_full t (and_parts (has_value t) (is_key t) (and_parts (is_known t) (has_value t && is_key t) may).1).1 f
+
+  row_values : (maker : Maker) (span : Span) (es : List Expr) → HoldsAll only k m es → ClearAll es → Fine (row_tests m (has_keys_alone maker) span (exprs es)) → ((t : Ty) → is_full t ≡ true → may_hold (has_keys_alone maker) t ≡ true → is_full (made maker (types.more t types.none)) ≡ true) → Values es × (is_full (row_type maker es) ≡ true)
   row_values maker span [] h c f full = never (sym f.0)
   row_values maker span (e ∷ es) h c f full =
       let v = elements_values (has_keys_alone maker) e (e ∷ es) h c f in
@@ -129,13 +142,13 @@ module _ (only : OneOp → Bool) (k : Known) (m : ℕ) where
   pub vector_holds : (span : Span) (es : List Expr) → HoldsAll only k m es → Holds only k m (row_at span maker_is.Vector many_is.Vector es)
   vector_holds span es h c =
       let t = row_type maker_is.Vector es in
-      let v = row_values maker_is.Vector span es h (parts_of span t many_is.Vector es c) (first_fine only k m (row_at span maker_is.Vector many_is.Vector es) c) one_part in
+      let v = row_values maker_is.Vector span es h (parts_of span t many_is.Vector es c) (first_fine only k m (row_at span maker_is.Vector many_is.Vector es) c) row_of_parts in
       many_good span t many_is.Vector es (whole_all es v.0) refl v.1
 
   pub set_holds : (span : Span) (es : List Expr) → HoldsAll only k m es → Holds only k m (row_at span maker_is.Set many_is.Set es)
   set_holds span es h c =
       let t = row_type maker_is.Set es in
-      let v = row_values maker_is.Set span es h (parts_of span t many_is.Set es c) (first_fine only k m (row_at span maker_is.Set many_is.Set es) c) one_part in
+      let v = row_values maker_is.Set span es h (parts_of span t many_is.Set es c) (first_fine only k m (row_at span maker_is.Set many_is.Set es) c) set_of_keys in
       many_good span t many_is.Set es (whole_all es v.0) refl v.1
 
   -- maps
@@ -158,12 +171,13 @@ module _ (only : OneOp → Bool) (k : Known) (m : ℕ) where
       let all : List Expr = e ∷ d ∷ es in
       let s = type_of e in
       let t = type_of d in
+      let keyed = right_when e (is_key s) v.0 f.1.1.0 in
       let map_by : Ty → Ty → Ty = λ k v. if are_entries k v all then made maker_is.Map (types.more k (types.more v types.none)) else unknown in
       ap (λ k. is_full (map_by k (seen d))) (seen_is e v.0.within)
       ∙ ap (λ v. is_full (map_by s v)) (seen_is d v.1.0.within)
       ∙ chosen_full (are_entries s t all) (made maker_is.Map (types.more s (types.more t types.none)))
-      (and_from (may_hold true s) (may_hold false t && all_in_turn true s t all) (may_of true e v.0 f.0 (right_when e (is_key s) v.0 f.1.1.0)) (and_from (may_hold false t) (all_in_turn true s t all) (may_of false d v.1.0 f.1.1.1.1.0 refl) (entries_of true e d all v.0 v.1.0 v f)))
-      (and_from (is_full s) (is_full t && true) (full_of e v.0) (one_part t (full_of d v.1.0)))
+      (and_from (may_hold true s) (may_hold false t && all_in_turn true s t all) (may_of true e v.0 f.0 keyed) (and_from (may_hold false t) (all_in_turn true s t all) (may_of false d v.1.0 f.1.1.1.1.0 refl) (entries_of true e d all v.0 v.1.0 v f)))
+      (keyed_full s t keyed (ap not (valued_by d f.1.1.1.1.0)) (full_of e v.0) (full_of d v.1.0))
 
   map_values : (span : Span) (es : List Expr) → HoldsAll only k m es → ClearAll es → Fine (map_tests m span (exprs es)) → Values es × (is_full (map_type es) ≡ true)
   map_values span [] h c f = never (sym f.0)

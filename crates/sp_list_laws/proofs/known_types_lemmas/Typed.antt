@@ -17,7 +17,6 @@ use Rattle.sp_typed.specs.Exprs.{Expr, Exprs, leaf, type_of}
 use Rattle.sp_typed.specs.Exprs as expr
 use Rattle.sp_typed.specs.Nodes.{holds, all_hold, word_leaf, is_word, is_sound, IsWhole}
 use Rattle.sp_typed.proofs.Everywhere.{holds_everywhere}
-use Rattle.sp_typing.specs.declared.places.Place.{Place}
 use Rattle.sp_typing.specs.declared.places.Place.TheVariants as place_is
 use Rattle.sp_typing.specs.Contexts.{Around}
 use Rattle.sp_operands.specs.Operands.{unknown}
@@ -32,7 +31,7 @@ use Rattle.sp_list_laws.specs.known_types.Full.{is_full, is_right, is_unknown}
 use Rattle.sp_list_laws.specs.known_types.Trees.{is_expr, are_exprs, are_pairs}
 use Rattle.sp_list_laws.specs.known_types.Clear.{names_path}
 use Rattle.sp_list_laws.specs.known_types.Given.{may_be, is_named, IsKnown}
-use Rattle.sp_list_laws.proofs.known_types_lemmas.Full.{never, full_is_known}
+use Rattle.sp_list_laws.proofs.known_types_lemmas.Full.{never, full_is_known, plain_valued, vector_full, set_full, keyed_full}
 use Rattle.sp_list_laws.proofs.known_types_lemmas.Tests.{Fine, Clear, Holds, first_fine, first_names, right_of, is_whole, not_misplaced}
 use Rattle.sp_list_laws.proofs.known_types_lemmas.Kept.{HoldsAll, HoldsPairs, led_holds}
 use Rattle.sp_list_laws.proofs.known_types_lemmas.Nodes.{chosen_full, unary_holds, size_holds, cast_holds, binary_holds, choice_holds, member_holds, set_member_holds, index_holds}
@@ -81,9 +80,12 @@ module _ (g : Around) (only : OneOp → Bool) (k : Known) (m : ℕ) (is_type is_
   named_holds (leaf h) b c = (refl, stands_known g.result m (leaf h) h.op h.ty b (first_names only k m (leaf h) c) (first_fine only k m (leaf h) c))
   named_holds _ b c = never b
 
-  -- a type that is written
-  full_type : (place : Place) (t : Tree) → is_type t ≡ true → is_none (g.written place t).misplaced ≡ true → (is_full (g.type_in place t) && true) ≡ true
-  full_type place t is p = and_from (is_full (g.type_in place t)) true (known.type_in place t is p) refl
+  -- what is made of a type that is written
+  vector_type : (t : Tree) → is_type t ≡ true → is_none (g.written place_is.Value t).misplaced ≡ true → is_full (made_of maker_is.Vector (g.type_in place_is.Value t ∷ [])) ≡ true
+  vector_type t is p = vector_full (g.type_in place_is.Value t) (plain_valued (g.type_in place_is.Value t) (known.kept t is p)) (known.type_in place_is.Value t is p)
+
+  set_type : (t : Tree) → is_type t ≡ true → is_none (g.written place_is.Key t).misplaced ≡ true → is_full (made_of maker_is.Set (g.type_in place_is.Key t ∷ [])) ≡ true
+  set_type t is p = set_full (g.type_in place_is.Key t) (known.key t is p) (known.type_in place_is.Key t is p)
 
   mutual
     pub typed_holds : (t : Tree) → is_expr is_type is_path t ≡ true → Holds only k m (typed g t)
@@ -104,10 +106,10 @@ module _ (g : Around) (only : OneOp → Bool) (k : Known) (m : ℕ) (is_type is_
     typed_holds (node (form_is.Expr expr_is.Map) span ts) is = pairs_hold only k m span (pairs_typed g ts) (pairs_hold_in ts is)
     typed_holds (node (form_is.Expr expr_is.EmptyVector) span (more t none)) is =
         let e = typed g (node (form_is.Expr expr_is.EmptyVector) span (more t none)) in
-        λ c. (refl, inl (empty_full (made_of maker_is.Vector (g.type_in place_is.Value t ∷ [])) (full_type place_is.Value t is (not_misplaced m (g.written place_is.Value t).misplaced (first_fine only k m e c)))))
+        λ c. (refl, inl (empty_full (made_of maker_is.Vector (g.type_in place_is.Value t ∷ [])) (vector_type t is (not_misplaced m (g.written place_is.Value t).misplaced (first_fine only k m e c)))))
     typed_holds (node (form_is.Expr expr_is.EmptySet) span (more t none)) is =
         let e = typed g (node (form_is.Expr expr_is.EmptySet) span (more t none)) in
-        λ c. (refl, inl (empty_full (made_of maker_is.Set (g.type_in place_is.Key t ∷ [])) (full_type place_is.Key t is (not_misplaced m (g.written place_is.Key t).misplaced (first_fine only k m e c)))))
+        λ c. (refl, inl (empty_full (made_of maker_is.Set (g.type_in place_is.Key t ∷ [])) (set_type t is (not_misplaced m (g.written place_is.Key t).misplaced (first_fine only k m e c)))))
     typed_holds (node (form_is.Expr expr_is.EmptyMap) span (more s (more t none))) is =
         let e = typed g (node (form_is.Expr expr_is.EmptyMap) span (more s (more t none))) in
         let are = and_parts (is_type s) (is_type t) is in
@@ -117,7 +119,7 @@ module _ (g : Around) (only : OneOp → Bool) (k : Known) (m : ℕ) (is_type is_
         let p = none_else first second (not_misplaced m (or_else first second) (first_fine only k m e c)) in
         let u = g.type_in place_is.Key s in
         let v = g.type_in place_is.Value t in
-        (refl, inl (empty_full (made_of maker_is.Map (u ∷ v ∷ [])) (and_from (is_full u) (is_full v && true) (known.type_in place_is.Key s are.0 p.0) (full_type place_is.Value t are.1 p.1))))
+        (refl, inl (empty_full (made_of maker_is.Map (u ∷ v ∷ [])) (keyed_full u v (known.key s are.0 p.0) (plain_valued v (known.kept t are.1 p.1)) (known.type_in place_is.Key s are.0 p.0) (known.type_in place_is.Value t are.1 p.1))))
         )
     typed_holds (node (form_is.Expr (expr_is.TypedNumber w)) span (more n none)) is = λ c. (refl, inl (int_full w))
     typed_holds (node (form_is.Expr expr_is.Cast) span (more t (more e none))) is =

@@ -83,7 +83,7 @@ use Rattle.sp_list_laws.specs.known_constants.Given.{asked}
 use Rattle.sp_list_laws.proofs.known_constants_lemmas.Fine.{inside as parts_fine, first, rest, formed}
 use Rattle.sp_list_laws.specs.known_members.Given.{can_read, is_read}
 use Rattle.sp_list_laws.proofs.known_members_lemmas.Shapes.{field_parts}
-use Rattle.sp_list_laws.proofs.known_members_lemmas.Readings.{contained_full}
+use Rattle.sp_list_laws.proofs.known_members_lemmas.Readings.{IsValued, contained_full}
 use Rattle.sp_list_laws.proofs.known_members_lemmas.Contexts.{FullMembers}
 use Rattle.sp_list_laws.proofs.known_members_lemmas.Fields.{AllFull, v, last, IsGood, element_good, is_conversion, base_full, behind_full}
 use Rattle.sp_list_laws.proofs.known_units_lemmas.Closed.{base_closed, conversion_closed}
@@ -370,11 +370,16 @@ module _ (list : List Tree) (a : Answers list) (formed_list : list_all is_formed
   -- types
   base_typed : (x : Tree) → is_of group_is.Bases x ≡ true → Fine x → Good (base_read g worth x).spec → is_full (base_read g worth x).ty ≡ true
   base_typed x of h good =
-      base_full list a formed_list unbroken n m ps full any_members (told a.stored) (λ i u e. e) answers x of h good (base_closed list count (told a.stored) stored_full g worth x)
+      (base_full list a formed_list unbroken n m ps full any_members (told a.stored) (λ i u e. e) answers x of h good (base_closed list count (told a.stored) stored_full g worth x)).0
+
+  base_valued : (x : Tree) → is_of group_is.Bases x ≡ true → Fine x → Good (base_read g worth x).spec → IsValued (base_read g worth x)
+  base_valued x of h good =
+      (base_full list a formed_list unbroken n m ps full any_members (told a.stored) (λ i u e. e) answers x of h good (base_closed list count (told a.stored) stored_full g worth x)).1
 
   counted_typed : (x : Tree) (counts : Trees) → is_of group_is.Bases x ≡ true → Fine x → Good (counted_read g worth x counts).spec → is_full (counted_read g worth x counts).ty ≡ true
   counted_typed x counts of h good =
-      contained_full g worth (trees.span_of x) counts (base_read g worth x) (base_typed x of h (element_good list a formed_list unbroken n m ps (trees.span_of x) counts (base_read g worth x) good))
+      let base_good = element_good list a formed_list unbroken n m ps (trees.span_of x) counts (base_read g worth x) good in
+      contained_full g worth k m (trees.span_of x) counts (base_read g worth x) good.0 (base_valued x of h base_good) (base_typed x of h base_good)
 
   converted_typed : (of_field : Bool) (x : Tree) (counts ts : Trees) → is_of group_is.Bases x ≡ true → Fine x → Good (counted_read g worth x counts).spec → (kind : Kind) (t : Ty) → are_of group_is.Attributes ts ≡ true → AreFine list f m ts
       → none_hold (all_tests (attribute_tests k m kind t) (attributes g worth (record { kind = (counted_read g worth x counts).kind; read = (counted_read g worth x counts).ty; stored = converted g (counted_read g worth x counts).ty (conversion ts); of_field = of_field }) ts)) ≡ true
@@ -394,7 +399,7 @@ module _ (list : List Tree) (a : Answers list) (formed_list : list_all is_formed
       record {
         read = counted_typed x counts of h good;
         stored = stored;
-        rows = counted_elements g worth x counts (base_typed x of h (element_good list a formed_list unbroken n m ps (trees.span_of x) counts (base_read g worth x) good));
+        rows = counted_elements g worth x counts (counted_typed x counts of h good);
         whole = λ e. spec_whole r.spec good.2 (counted_kinds g worth x counts ∙ e);
       }
 
@@ -402,7 +407,7 @@ module _ (list : List Tree) (a : Answers list) (formed_list : list_all is_formed
   pub elements_typed : (x : Tree) (counts : Trees) → is_of group_is.Bases x ≡ true → Fine x → are_of group_is.Counts counts ≡ true → AreFine list f m counts → Good (counted_read g worth x counts).spec → is_some_tree counts ≡ true
       → is_full (element_of (counted_read g worth x counts).ty) ≡ true
   elements_typed x counts of h of_counts fine good some =
-      counted_elements g worth x counts (base_typed x of h (element_good list a formed_list unbroken n m ps (trees.span_of x) counts (base_read g worth x) good)) (counted_rows g worth x counts of_counts fine.0 some)
+      counted_elements g worth x counts (counted_typed x counts of h good) (counted_rows g worth x counts of_counts fine.0 some)
 
   -- what is read
   base_known : (x : Tree) → is_of group_is.Bases x ≡ true → Fine x → Good (base_read g worth x).spec → HasRules (base_read g worth x).spec → Known_ (base_read g worth x)

@@ -2,7 +2,7 @@
 -- has brackets is one.
 use Rattle.std.specs.Prelude.{ℕ, Bool, true, false}
 use Rattle.std.proofs.Common.{◌≡◌, refl, sym, ap, ◌∙◌, Option, Some, None, List}
-use Rattle.std.proofs.lemmas.Bool.{and_parts, and_from}
+use Rattle.std.proofs.lemmas.Bool.{and_parts}
 use Rattle.sp_base.specs.declared.places.Span.{Span}
 use Rattle.sp_ast.specs.Trees.{Tree, Trees, absent, row, node, none, more}
 use Rattle.sp_ast.specs.Trees as trees
@@ -15,6 +15,7 @@ use Rattle.sp_ast.specs.declared.forms.BaseForm.TheVariants as base_is
 use Rattle.sp_ast.specs.declared.forms.TypeForm.TheVariants as type_is
 use Rattle.sp_types.specs.declared.words.Word.{Word}
 use Rattle.sp_types.specs.declared.words.Word.TheVariants as word_is
+use Rattle.sp_types.specs.declared.words.Maker.TheVariants as maker_is
 use Rattle.sp_types.specs.Types.{Ty, word, made}
 use Rattle.sp_typed.specs.declared.words.LeafOp.{LeafOp}
 use Rattle.sp_typed.specs.declared.words.LeafOp.TheVariants as leaf_is
@@ -32,7 +33,7 @@ use Rattle.sp_typing_units.specs.Readings.{constant_read, constant_of_type, name
 use Rattle.sp_hook_rows.specs.HookRows.{is_some_tree}
 use Rattle.sp_typing_units.specs.Kinds.{list_kind, kind_of}
 use Rattle.sp_list_laws.specs.known_types.Full.{is_full}
-use Rattle.sp_list_laws.proofs.known_types_lemmas.Full.{never}
+use Rattle.sp_list_laws.proofs.known_types_lemmas.Full.{never, vector_first}
 use Rattle.sp_list_laws.proofs.known_members_lemmas.Shapes.{no_first}
 
 -- a row of elements
@@ -40,6 +41,15 @@ abbrev pub is_row : Kind → Bool
 is_row kind_is.Open = true
 is_row kind_is.Counted = true
 is_row _ = false
+
+-- elements of a vector
+abbrev is_vector : Ty → Bool
+is_vector (made maker_is.Vector ts) = true
+is_vector _ = false
+
+elements_full : (t : Ty) → is_vector t ≡ true → is_full t ≡ true → is_full (element_of t) ≡ true
+elements_full (made maker_is.Vector ts) e full = vector_first ts full
+elements_full _ e full = never e
 
 -- a reading whose kind is told by it, and that is of no elements
 abbrev IsOne : Read → Type 0
@@ -121,11 +131,13 @@ module _ (g : Around) (v : Values) where
   abbrev Elements : Read → Type 0
   Elements r = is_row r.kind ≡ true → is_full (element_of r.ty) ≡ true
 
-  contained_elements : (at : Span) (counts : Trees) (r : Read) → is_full r.ty ≡ true → Elements r → Elements (contained g at counts r)
-  contained_elements at none r full e = e
-  contained_elements at (more (node form_is.Count span (more c none)) ts) r full e =
-      contained_elements at ts (container g at span (present c) r) (and_from (is_full r.ty) true full refl) (λ row_. full)
-  contained_elements at (more x ts) r full e = contained_elements at ts r full e
+  abbrev IsVector : Read → Type 0
+  IsVector r = is_row r.kind ≡ true → is_vector r.ty ≡ true
+
+  contained_vector : (at : Span) (counts : Trees) (r : Read) → IsVector r → IsVector (contained g at counts r)
+  contained_vector at none r e = e
+  contained_vector at (more (node form_is.Count span (more c none)) ts) r e = contained_vector at ts (container g at span (present c) r) (λ row_. refl)
+  contained_vector at (more x ts) r e = contained_vector at ts r e
 
   base_one : (t : Tree) → IsOne (base_read g v t)
   base_one (node (form_is.Base base_is.Type) at (more t none)) = type_one at t (g.type_in Whole t)
@@ -142,8 +154,10 @@ module _ (g : Around) (v : Values) where
   pub counted_kinds : (t : Tree) (counts : Trees) → kind_of (counted_read g v t counts).spec ≡ (counted_read g v t counts).kind
   counted_kinds t counts = contained_kind (trees.span_of t) counts (base_read g v t) (base_one t).0
 
-  pub counted_elements : (t : Tree) (counts : Trees) → is_full (base_read g v t).ty ≡ true → Elements (counted_read g v t counts)
-  counted_elements t counts full = contained_elements (trees.span_of t) counts (base_read g v t) full (λ h. never (sym (base_one t).1 ∙ h))
+  pub counted_elements : (t : Tree) (counts : Trees) → is_full (counted_read g v t counts).ty ≡ true → Elements (counted_read g v t counts)
+  counted_elements t counts full row_ =
+      let r = counted_read g v t counts in
+      elements_full r.ty (contained_vector (trees.span_of t) counts (base_read g v t) (λ h. never (sym (base_one t).1 ∙ h)) row_) full
 
   -- what has brackets is a row
   counted_row : (o : Option Tree) → is_row (counting o) ≡ true

@@ -22,8 +22,8 @@ use Rattle.sp_checked_list.specs.Settled.{Answers}
 use Rattle.sp_checked_list.specs.Lists.{typed_of}
 use Rattle.sp_checked_list.specs.Rules.{Breaks}
 use Rattle.sp_bodies.specs.Globals.{globals_of}
-use Rattle.sp_list_laws.specs.known_types.Full.{is_full, are_full}
-use Rattle.sp_list_laws.proofs.known_types_lemmas.Full.{never}
+use Rattle.sp_list_laws.specs.known_types.Full.{have_values, is_full, are_full}
+use Rattle.sp_list_laws.proofs.known_types_lemmas.Full.{never, vector_first, set_first, map_first, map_second}
 use Rattle.sp_list_laws.specs.known_values.Values.{is_of, are_of, all_of, all_in, fits}
 use Rattle.sp_list_laws.proofs.known_constants_lemmas.Places.{constant_typed, constant_fits}
 use Rattle.sp_list_laws.proofs.known_constants_lemmas.Rounds.{constant_answered}
@@ -43,16 +43,14 @@ mutual
   value_so (word word_is.Bytes) (bytes b) f e = refl
   value_so (word word_is.String) (str b) f e = refl
   value_so (word (word_is.Enum x)) (enum k n) f e = e
-  value_so (made maker_is.Tuple ts) (tuple vs) f e = members_so ts vs f e
-  value_so (made maker_is.Vector (types.more t types.none)) (vector vs) f e = items_so t types.none vs (and_parts (is_full t) true f).0 e
+  value_so (made maker_is.Tuple ts) (tuple vs) f e = members_so ts vs (and_parts (have_values ts) (are_full ts) f).1 e
+  value_so (made maker_is.Vector (types.more t types.none)) (vector vs) f e = items_so t types.none vs (vector_first (types.more t types.none) f) e
   value_so (made maker_is.Vector types.none) (vector vs) f e = never f
   value_so (made maker_is.Vector (types.more t (types.more u us))) (vector vs) f e = never f
-  value_so (made maker_is.Set (types.more t types.none)) (set vs) f e = items_so t types.none vs (and_parts (is_full t) true f).0 e
+  value_so (made maker_is.Set (types.more t types.none)) (set vs) f e = items_so t types.none vs (set_first (types.more t types.none) f) e
   value_so (made maker_is.Set types.none) (set vs) f e = never f
   value_so (made maker_is.Set (types.more t (types.more u us))) (set vs) f e = never f
-  value_so (made maker_is.Map (types.more s (types.more t types.none))) (map es) f e =
-      let p = and_parts (is_full s) (is_full t && true) f in
-      entries_so s t es p.0 (and_parts (is_full t) true p.1).0 e
+  value_so (made maker_is.Map (types.more s (types.more t types.none))) (map es) f e = entries_so s t es (map_first s t f) (map_second (types.more s (types.more t types.none)) f) e
   value_so (made maker_is.Map types.none) (map es) f e = never f
   value_so (made maker_is.Map (types.more s types.none)) (map es) f e = never f
   value_so (made maker_is.Map (types.more s (types.more t (types.more u us)))) (map es) f e = never f

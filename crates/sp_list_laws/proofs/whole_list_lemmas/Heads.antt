@@ -44,6 +44,8 @@ module _ (g : Around) (only : OneOp → Bool) (k : Known) (m : ℕ) (is_type is_
     current = known.current;
     names_types = known.names_types;
     type_in = known.type_in;
+    kept = known.kept;
+    key = known.key;
     member = known.member;
     method = known.method;
     gives = known.gives;
@@ -59,6 +61,8 @@ module _ (g : Around) (only : OneOp → Bool) (k : Known) (m : ℕ) (is_type is_
     current = known.current;
     names_types = known.names_types;
     type_in = known.type_in;
+    kept = known.kept;
+    key = known.key;
     member = known.member;
     method = known.method;
     gives = known.gives;
@@ -74,6 +78,8 @@ module _ (g : Around) (only : OneOp → Bool) (k : Known) (m : ℕ) (is_type is_
     current = λ span. f;
     names_types = known.names_types;
     type_in = known.type_in;
+    kept = known.kept;
+    key = known.key;
     member = known.member;
     method = known.method;
     gives = known.gives;

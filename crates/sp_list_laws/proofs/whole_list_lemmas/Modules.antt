@@ -45,7 +45,7 @@ use Rattle.std.proofs.lemmas.Bool.{and_from}
 use Rattle.sp_list_laws.specs.known_bodies.Decided.{Decides}
 use Rattle.sp_list_laws.specs.whole_list.Known.{HasType, AreKnown}
 use Rattle.sp_list_laws.specs.whole_list.Types.{is_type}
-use Rattle.sp_list_laws.proofs.whole_list_lemmas.Types.{type_full, each_has, type_named}
+use Rattle.sp_list_laws.proofs.whole_list_lemmas.Types.{type_full, type_kept, type_key, each_has, type_named}
 
 pub none_found : {A X : Type 0} (a : A) → None ≡ Some a → X
 none_found a e = absurd (let b : ⊥ = (cc) in b)
@@ -203,6 +203,8 @@ module _ (list : List Tree) (facts : Facts) where
     current = λ span. refl;
     names_types = λ place t is. type_named list facts.answers m t is;
     type_in = λ place t is placed. type_full list facts.answers m place t is placed (each_has list facts.answers m types (mentions_in list m t));
+    kept = λ t is placed. type_kept list facts.answers m t placed;
+    key = λ t is placed. type_key list facts.answers m t placed;
     member = λ t name found e may. and_from (is_member_op found.op) (is_full found.ty) (member_op list facts.stored t name found e) (members t name found e may);
     method = λ t name span ts found e. method_op t name span ts found e;
     gives = λ t name span ts found e full. method_full t name span ts found e full;

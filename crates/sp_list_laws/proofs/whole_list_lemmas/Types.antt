@@ -24,8 +24,8 @@ use Rattle.sp_typing.specs.declared.places.Place.{Place}
 use Rattle.sp_typing.specs.declared.places.Place.TheVariants as place_is
 use Rattle.sp_typing.specs.Places.{suits}
 use Rattle.sp_around.specs.Written.{nothing_at, unnamed_in, unnamed_among, names_type, unless, type_at, misplaced_inside, misplaced_in, misplaced_among}
-use Rattle.sp_list_laws.specs.known_types.Full.{has_parts, is_full, are_full}
-use Rattle.sp_list_laws.proofs.known_types_lemmas.Full.{never, full_are_known}
+use Rattle.sp_list_laws.specs.known_types.Full.{have_values, is_full, are_full}
+use Rattle.sp_list_laws.proofs.known_types_lemmas.Full.{never, full_are_known, plain_valued, are_valued, vector_full, set_full, keyed_full}
 use Rattle.sp_list_laws.proofs.known_types_lemmas.Nodes.{chosen_full}
 use Rattle.sp_list_laws.specs.whole_list.Known.{HasType}
 use Rattle.sp_list_laws.specs.whole_list.Types.{means_something, is_type, are_types}
@@ -59,9 +59,14 @@ bitfield_full None e = never e
 bitfield_full (Some n) e = refl
 
 -- what is made of full types that may stand in it
-whole_full : (maker : Maker) (us : Tys) → has_parts maker us ≡ true → are_full us ≡ true → may_hold maker us ≡ true → is_full (whole_type maker us) ≡ true
-whole_full maker us parts full holds_ =
-    chosen_full (are_known us && may_hold maker us) (made maker us) (and_from (are_known us) (may_hold maker us) (full_are_known us full) holds_) (and_from (has_parts maker us) (are_full us) parts full)
+whole_full : (maker : Maker) (us : Tys) → are_full us ≡ true → may_hold maker us ≡ true → is_full (made maker us) ≡ true → is_full (whole_type maker us) ≡ true
+whole_full maker us full holds_ whole =
+    chosen_full (are_known us && may_hold maker us) (made maker us) (and_from (are_known us) (may_hold maker us) (full_are_known us full) holds_) whole
+
+-- what suits a place is what stands there
+suiting : (P : Ty → Type 0) (b : Bool) (t : Ty) → b ≡ true → P t → P (if b then t else unknown)
+suiting P true t e p = p
+suiting P false t e p = never e
 
 module _ (list : List Tree) (f : ℕ → Option Ty) where
   meaning_full : (meaning : Meaning) → means_something meaning ≡ true → names_type list meaning ≡ true → ((g : ℕ) → meaning ≡ meaning_is.Declaration g → HasType list f g) → is_full (meaning_type f meaning) ≡ true
@@ -96,19 +101,20 @@ module _ (list : List Tree) (f : ℕ → Option Ty) where
       inside_full (node (form_is.Type type_is.Void) span none) is placed has = refl
       inside_full (node (form_is.Type (type_is.Int w)) span none) is placed has = int_full w
       inside_full (node (form_is.Type type_is.Tuple) span ts) is placed has =
-          whole_full maker_is.Tuple (types_in list f m ts) refl (types_full ts is placed has) (all_plain ts placed)
+          let us = types_in list f m ts in
+          let full = types_full ts is placed has in
+          let plain = all_plain ts placed in
+          whole_full maker_is.Tuple us full plain (and_from (have_values us) (are_full us) (are_valued us plain) full)
       inside_full (node (form_is.Type type_is.Vector) span (more t none)) is placed has =
           let s = suited place_is.Value t placed in
           let u = type_in list f m t in
-          whole_full maker_is.Vector (types.more u types.none) refl
-          (and_from (is_full u) true (inside_full t is s.0 (each_left (HasType list f) (mentions_in list m t) [] has)) refl)
-          (and_from (is_plain u) true s.1 refl)
+          let full = inside_full t is s.0 (each_left (HasType list f) (mentions_in list m t) [] has) in
+          whole_full maker_is.Vector (types.more u types.none) (and_from (is_full u) true full refl) (and_from (is_plain u) true s.1 refl) (vector_full u (plain_valued u s.1) full)
       inside_full (node (form_is.Type type_is.Set) span (more t none)) is placed has =
           let s = suited place_is.Key t placed in
           let u = type_in list f m t in
-          whole_full maker_is.Set (types.more u types.none) refl
-          (and_from (is_full u) true (inside_full t is s.0 (each_left (HasType list f) (mentions_in list m t) [] has)) refl)
-          s.1
+          let full = inside_full t is s.0 (each_left (HasType list f) (mentions_in list m t) [] has) in
+          whole_full maker_is.Set (types.more u types.none) (and_from (is_full u) true full refl) s.1 (set_full u s.1 full)
       inside_full (node (form_is.Type type_is.Map) span (more k (more v none))) is placed has =
           let both = none_else (misplaced_in list f m place_is.Key k) (misplaced_in list f m place_is.Value v) placed in
           let key = suited place_is.Key k both.0 in
@@ -117,11 +123,12 @@ module _ (list : List Tree) (f : ℕ → Option Ty) where
           let behind = each_right (HasType list f) (mentions_in list m k) (mentions_in list m v ++ []) has in
           let s = type_in list f m k in
           let u = type_in list f m v in
-          whole_full maker_is.Map (types.more s (types.more u types.none)) refl
-          (and_from (is_full s) (is_full u && true)
-          (inside_full k are.0 key.0 (each_left (HasType list f) (mentions_in list m k) (mentions_in list m v ++ []) has))
-          (and_from (is_full u) true (inside_full v are.1 value.0 (each_left (HasType list f) (mentions_in list m v) [] behind)) refl))
+          let full_key = inside_full k are.0 key.0 (each_left (HasType list f) (mentions_in list m k) (mentions_in list m v ++ []) has) in
+          let full_value = inside_full v are.1 value.0 (each_left (HasType list f) (mentions_in list m v) [] behind) in
+          whole_full maker_is.Map (types.more s (types.more u types.none))
+          (and_from (is_full s) (is_full u && true) full_key (and_from (is_full u) true full_value refl))
           (and_from (is_key s) (is_plain u && true) key.1 (and_from (is_plain u) true value.1 refl))
+          (keyed_full s u key.1 (plain_valued u value.1) full_key full_value)
       inside_full (node (form_is.Type type_is.Bitfield) span ts) is placed has = bitfield_full (bitfield_number list m span.from) is
       inside_full (node (form_is.Type type_is.Enum) span ts) is placed has = never placed
       inside_full (node (form_is.Type type_is.Unit) span ts) is placed has = never placed
@@ -141,6 +148,13 @@ module _ (list : List Tree) (f : ℕ → Option Ty) where
     type_full place t is placed has =
         let s = suited place t placed in
         chosen_full (suits place (type_in list f m t)) (type_in list f m t) s.1 (inside_full t is s.0 has)
+
+    -- where a value is kept it is of a plain type, and where a key is it is of a type of keys
+    pub type_kept : (t : Tree) → is_none (misplaced_in list f m place_is.Value t) ≡ true → is_plain (type_at list f m place_is.Value t) ≡ true
+    type_kept t placed = (let s = (suited place_is.Value t placed).1 in suiting (λ u. is_plain u ≡ true) (is_plain (type_in list f m t)) (type_in list f m t) s s)
+
+    pub type_key : (t : Tree) → is_none (misplaced_in list f m place_is.Key t) ≡ true → is_key (type_at list f m place_is.Key t) ≡ true
+    type_key t placed = (let s = (suited place_is.Key t placed).1 in suiting (λ u. is_key u ≡ true) (is_key (type_in list f m t)) (type_in list f m t) s s)
 
     -- where each declaration of a type has a full one, so have all that a type mentions
     pub each_has : ((g : ℕ) → HasType list f g) → (ns : List ℕ) → Each (HasType list f) ns

@@ -2,7 +2,7 @@
 use Rattle.std.specs.Prelude.{ℕ, ◌≡◌, Bool, true, false, ◌&&◌, ◌||◌, List, Some, is_none, IsTrue, IsFalse}
 use Rattle.sp_base.specs.declared.places.Span.{Span}
 use Rattle.sp_ast.specs.Trees.{Tree}
-use Rattle.sp_types.specs.Types.{Ty}
+use Rattle.sp_types.specs.Types.{Ty, is_plain, is_key}
 use Rattle.sp_typed.specs.declared.words.LeafOp.{LeafOp}
 use Rattle.sp_typed.specs.declared.words.LeafOp.TheVariants as leaf_is
 use Rattle.sp_typed.specs.declared.words.OneOp.{OneOp}
@@ -12,6 +12,7 @@ use Rattle.sp_typed.specs.declared.words.ManyOp.TheVariants as many_is
 use Rattle.sp_typed.specs.Exprs.{Expr, leaf, exprs, type_of}
 use Rattle.sp_typed.specs.Nodes.{holds, all_hold}
 use Rattle.sp_typing.specs.declared.places.Place.{Place}
+use Rattle.sp_typing.specs.declared.places.Place.TheVariants.{Value, Key}
 use Rattle.sp_typing.specs.declared.context.Member.{Member}
 use Rattle.sp_typing.specs.declared.context.Callable.{Callable}
 use Rattle.sp_typing.specs.Contexts.{Around}
@@ -67,8 +68,9 @@ is_decided c = is_constant c || is_not_constant c
 
 -- All that can be named is known: what the paths are that one test lets through, and what `self` and `$$`; the types that are
 -- written and that another test lets through: each name in them names something, and where each part may stand where it does,
--- they are full; the members that may be taken of a value, and what methods of values of full types give; what stands for
--- arguments that were left out; and whether an index is constant, where no rule is broken in it.
+-- they are full, plain where a value is kept, and of a type of keys where a key is; the members that may be taken of a value, and
+-- what methods of values of full types give; what stands for arguments that were left out; and whether an index is constant, where
+-- no rule is broken in it.
 pub record IsKnown (g : Around) (only : OneOp → Bool) (k : Known) (m : ℕ) (is_type is_path : Tree → Bool) : Type 0 where
   pub path : (span : Span) (path : Tree) → IsTrue (is_path path) → IsTrue (is_named g.result (g.path span path))
   pub named : (span : Span) (path : Tree) → IsTrue (is_path path) → IsTrue (is_named g.result (g.named span path))
@@ -76,6 +78,8 @@ pub record IsKnown (g : Around) (only : OneOp → Bool) (k : Known) (m : ℕ) (i
   pub current : (span : Span) → IsTrue (is_named g.result (g.current span))
   pub names_types : (place : Place) (t : Tree) → IsTrue (is_type t) → IsTrue (is_none (g.written place t).unnamed)
   pub type_in : (place : Place) (t : Tree) → IsTrue (is_type t) → IsTrue (is_none (g.written place t).misplaced) → IsTrue (is_full (g.type_in place t))
+  pub kept : (t : Tree) → IsTrue (is_type t) → IsTrue (is_none (g.written Value t).misplaced) → IsTrue (is_plain (g.type_in Value t))
+  pub key : (t : Tree) → IsTrue (is_type t) → IsTrue (is_none (g.written Key t).misplaced) → IsTrue (is_key (g.type_in Key t))
   pub member : (t : Ty) (name : List ℕ) (found : Member) → g.member t name ≡ Some found → IsTrue (only found.op) → IsTrue (is_member found)
   pub method : (t : Ty) (name : List ℕ) (span : Span) (ts : List Ty) (found : Callable) → g.method t name span ts ≡ Some found → IsTrue (is_method_op found.op)
   pub gives : (t : Ty) (name : List ℕ) (span : Span) (ts : List Ty) (found : Callable) → g.method t name span ts ≡ Some found → IsTrue (is_full t) → IsTrue (is_full found.ty)

@@ -47,6 +47,25 @@ map_without_values = refl
 row_of_unknown : is_full (made maker_is.Vector (types.more unknown types.none)) ≡ false
 row_of_unknown = refl
 
+-- vectors of void and of a sink, a set of vectors, and a map from units; a vector of units, and a tuple of one
+row_of_void : is_full (made maker_is.Vector (types.more (word word_is.Void) types.none)) ≡ false
+row_of_void = refl
+
+row_of_sinks : is_full (made maker_is.Vector (types.more (word word_is.Sink) types.none)) ≡ false
+row_of_sinks = refl
+
+set_of_rows : is_full (made maker_is.Set (types.more (made maker_is.Vector (types.more byte types.none)) types.none)) ≡ false
+set_of_rows = refl
+
+map_from_units : is_full (made maker_is.Map (types.more (word (word_is.Unit 0)) (types.more byte types.none))) ≡ false
+map_from_units = refl
+
+row_of_units : is_full (made maker_is.Vector (types.more (word (word_is.Unit 0)) types.none)) ≡ true
+row_of_units = refl
+
+tuple_with_unit : is_full (made maker_is.Tuple (types.more (word (word_is.Unit 0)) (types.more byte types.none))) ≡ true
+tuple_with_unit = refl
+
 -- `True`, `f(True)` and `f(M)`, where M is no expression
 abbrev expr : ExprForm → List Tree → Tree
 expr form parts = tree (form_is.Expr form) here parts
@@ -149,6 +168,8 @@ all_is_known = record {
   current = λ span. refl;
   names_types = λ place t is. refl;
   type_in = λ place t is placed. refl;
+  kept = λ t is placed. refl;
+  key = λ t is placed. refl;
   member = λ t name found at may. none_found found at;
   method = λ t name span ts found at. none_found found at;
   gives = λ t name span ts found at full. none_found found at;
