@@ -22,7 +22,7 @@ use Rattle.sp_running.specs.States.{State, Gives, Result, ends}
 use Rattle.sp_running.specs.Types.{number_value, zero_value}
 use Rattle.sp_bodies.specs.Globals.{Globals, Layout}
 use Rattle.sp_bodies.specs.Exprs.{known, leaf_means}
-use Rattle.sp_law_constants.specs.Constants.{ConstantsGive, has_value, leaf_stands}
+use Rattle.sp_law_constants.specs.Constants.{GivesAt, has_value, leaf_stands}
 use Rattle.sp_law_constants.proofs.Told.{Evaluation, Told}
 use Rattle.sp_law_constants.proofs.Truths.{always}
 
@@ -69,52 +69,52 @@ module _ (U : Type 0) where
   empty_told ranges (made maker_is.Tuple ts) = inr (Ok (zero_value ranges (made maker_is.Tuple ts)), λ st. refl)
   empty_told ranges (word x) = inr (Ok (zero_value ranges (word x)), λ st. refl)
 
-  module _ (k : Known) (globals : Globals) (agree : ConstantsGive k globals) (call : ℕ → List Val → State → Result) (layout : Layout) where
+  module _ (k : Known) (globals : Globals) (call : ℕ → List Val → State → Result) (layout : Layout) where
     abbrev Means : LeafOp → Ty → Evaluation
     Means op t = leaf_means globals call layout op t
 
-    constant_told : (n : ℕ) (t : Ty) (o : Outcome) → k.constant n ≡ o → U ⊎ (has_value o ≡ true) → Told U (used o) (Means (leaf_is.Constant n) t)
-    constant_told n t (Value v) e h = λ st. ap (λ s. known s (λ o st. known o (λ v st. ends (Gives v) st) st) st) (agree.constants n v e)
-    constant_told n t Error e (inl u) = inl u
-    constant_told n t Error e (inr h) = cc
-    constant_told n t NotConstant e (inl u) = inl u
-    constant_told n t NotConstant e (inr h) = cc
-    constant_told n t (Regex text) e (inl u) = u
-    constant_told n t (Regex text) e (inr h) = cc
-    constant_told n t Unknown e (inl u) = inl u
-    constant_told n t Unknown e (inr h) = cc
+    constant_told : (n : ℕ) (t : Ty) (o : Outcome) → k.constant n ≡ o → GivesAt k globals (leaf_is.Constant n) → U ⊎ (has_value o ≡ true) → Told U (used o) (Means (leaf_is.Constant n) t)
+    constant_told n t (Value v) e i h = λ st. ap (λ s. known s (λ o st. known o (λ v st. ends (Gives v) st) st) st) (i v e)
+    constant_told n t Error e i (inl u) = inl u
+    constant_told n t Error e i (inr h) = cc
+    constant_told n t NotConstant e i (inl u) = inl u
+    constant_told n t NotConstant e i (inr h) = cc
+    constant_told n t (Regex text) e i (inl u) = u
+    constant_told n t (Regex text) e i (inr h) = cc
+    constant_told n t Unknown e i (inl u) = inl u
+    constant_told n t Unknown e i (inr h) = cc
 
-    label_told : (owner n : ℕ) (t : Ty) (o : Outcome) → k.label owner n ≡ o → U ⊎ (has_value o ≡ true) → Told U (used o) (Means (leaf_is.Label owner n) t)
-    label_told owner n t (Value v) e h = λ st. ap (λ v. ends (Gives v) st) (agree.labels owner n v e)
-    label_told owner n t Error e (inl u) = inl u
-    label_told owner n t Error e (inr h) = cc
-    label_told owner n t NotConstant e (inl u) = inl u
-    label_told owner n t NotConstant e (inr h) = cc
-    label_told owner n t (Regex text) e (inl u) = u
-    label_told owner n t (Regex text) e (inr h) = cc
-    label_told owner n t Unknown e (inl u) = inl u
-    label_told owner n t Unknown e (inr h) = cc
+    label_told : (owner n : ℕ) (t : Ty) (o : Outcome) → k.label owner n ≡ o → GivesAt k globals (leaf_is.Label owner n) → U ⊎ (has_value o ≡ true) → Told U (used o) (Means (leaf_is.Label owner n) t)
+    label_told owner n t (Value v) e i h = λ st. ap (λ v. ends (Gives v) st) (i v e)
+    label_told owner n t Error e i (inl u) = inl u
+    label_told owner n t Error e i (inr h) = cc
+    label_told owner n t NotConstant e i (inl u) = inl u
+    label_told owner n t NotConstant e i (inr h) = cc
+    label_told owner n t (Regex text) e i (inl u) = u
+    label_told owner n t (Regex text) e i (inr h) = cc
+    label_told owner n t Unknown e i (inl u) = inl u
+    label_told owner n t Unknown e i (inr h) = cc
 
-    pub leaf_told : (t : Ty) (op : LeafOp) → U ⊎ (leaf_stands k op ≡ true) → Told U (leaf_value k t op) (Means op t)
-    leaf_told t leaf_is.True h = λ st. refl
-    leaf_told t leaf_is.False h = λ st. refl
-    leaf_told t (leaf_is.Number n) h = literal_told t n
-    leaf_told t (leaf_is.TypedNumber n) h = literal_told t n
-    leaf_told t (leaf_is.Text text) h = λ st. refl
-    leaf_told t (leaf_is.Bytes b) h = λ st. refl
-    leaf_told t (leaf_is.Regex text) (inl u) = u
-    leaf_told t (leaf_is.Regex text) (inr h) = cc
-    leaf_told t (leaf_is.Empty written) h = empty_told globals.ranges t
-    leaf_told t (leaf_is.Constant n) h = constant_told n t (k.constant n) refl h
-    leaf_told t (leaf_is.Label owner label) h = label_told owner label t (k.label owner label) refl h
-    leaf_told t (leaf_is.Nothing name) (inl u) = inl u
-    leaf_told t (leaf_is.Nothing name) (inr h) = cc
-    leaf_told t (leaf_is.Itself s) h = tt
-    leaf_told t (leaf_is.Current s) h = tt
-    leaf_told t (leaf_is.Local n) h = tt
-    leaf_told t (leaf_is.Parameter n s) h = tt
-    leaf_told t (leaf_is.Function n) h = tt
-    leaf_told t (leaf_is.TypeName w) h = tt
-    leaf_told t leaf_is.Decoder h = tt
-    leaf_told t leaf_is.Module h = tt
-    leaf_told t leaf_is.Name h = tt
+    pub leaf_told : (t : Ty) (op : LeafOp) → GivesAt k globals op → U ⊎ (leaf_stands k op ≡ true) → Told U (leaf_value k t op) (Means op t)
+    leaf_told t leaf_is.True i h = λ st. refl
+    leaf_told t leaf_is.False i h = λ st. refl
+    leaf_told t (leaf_is.Number n) i h = literal_told t n
+    leaf_told t (leaf_is.TypedNumber n) i h = literal_told t n
+    leaf_told t (leaf_is.Text text) i h = λ st. refl
+    leaf_told t (leaf_is.Bytes b) i h = λ st. refl
+    leaf_told t (leaf_is.Regex text) i (inl u) = u
+    leaf_told t (leaf_is.Regex text) i (inr h) = cc
+    leaf_told t (leaf_is.Empty written) i h = empty_told globals.ranges t
+    leaf_told t (leaf_is.Constant n) i h = constant_told n t (k.constant n) refl i h
+    leaf_told t (leaf_is.Label owner label) i h = label_told owner label t (k.label owner label) refl i h
+    leaf_told t (leaf_is.Nothing name) i (inl u) = inl u
+    leaf_told t (leaf_is.Nothing name) i (inr h) = cc
+    leaf_told t (leaf_is.Itself s) i h = tt
+    leaf_told t (leaf_is.Current s) i h = tt
+    leaf_told t (leaf_is.Local n) i h = tt
+    leaf_told t (leaf_is.Parameter n s) i h = tt
+    leaf_told t (leaf_is.Function n) i h = tt
+    leaf_told t (leaf_is.TypeName w) i h = tt
+    leaf_told t leaf_is.Decoder i h = tt
+    leaf_told t leaf_is.Module i h = tt
+    leaf_told t leaf_is.Name i h = tt

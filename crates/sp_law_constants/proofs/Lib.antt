@@ -4,3 +4,6 @@ pub mod Leaves
 pub mod Rows
 pub mod Means
 pub mod Agreement
+pub mod Labels
+pub mod NamedLabels
+pub mod Declarations

@@ -27,18 +27,19 @@ use Rattle.sp_typed.specs.declared.words.ManyOp.TheVariants as many_is
 use Rattle.sp_typed.specs.Exprs.{Expr, Exprs, leaf, one, two, three, many, none, more, is_minus, is_number, number_leaf}
 use Rattle.sp_typed.specs.Nodes.{holds, all_hold}
 use Rattle.sp_constants.specs.declared.outcome.Outcome.{Outcome}
-use Rattle.sp_constants.specs.declared.outcome.Outcome.TheVariants.{Value, Unknown}
+use Rattle.sp_constants.specs.declared.outcome.Outcome.TheVariants.{Value, Error, Unknown}
 use Rattle.sp_constants.specs.Known.{Known}
 use Rattle.sp_constants.specs.Outcomes.{of_one, values, answered}
 use Rattle.sp_constants.specs.Operations.{operated, operated_on, sized, cast_to, integer_type, negative_literal, indexed, member, or_error, or_unknown}
 use Rattle.sp_constants.specs.Values.{leaf_number, number_in, one_value, two_value, binary_value, many_value, value_of, all_values}
+use Rattle.sp_declared_values.specs.Leaves.{Holds, HoldsAll}
 use Rattle.sp_running.specs.States.{State, Result, got}
 use Rattle.sp_running.specs.Values.{item_at, size_value}
 use Rattle.sp_running.specs.Types.{number_value, plain_type}
 use Rattle.sp_bodies.specs.Globals.{Globals, Layout}
 use Rattle.sp_bodies.specs.Exprs.{negative, unless_literal, one_means, two_means, many_means, expr_means, all_got, offset_local, is_self, receiver_means}
 use Rattle.sp_bodies.specs.Exprs as bodies
-use Rattle.sp_law_constants.specs.Constants.{ConstantsGive, stands, ValuesAreMeant, ErrorsAreMeant}
+use Rattle.sp_law_constants.specs.Constants.{AlwaysGives, AlwaysFails, ConstantsGive, GivesAt, stands, ValuesAreMeant, ErrorsAreMeant}
 use Rattle.sp_law_constants.proofs.Told.{Evaluation, Told, Tells, told_same, if_told, one_told, two_told}
 use Rattle.sp_law_constants.proofs.Truths.{always, three_told, and_told, or_told}
 use Rattle.sp_law_constants.proofs.Leaves.{negative_told, leaf_told}
@@ -153,7 +154,7 @@ module _ (U : Type 0) where
   signed_told t true s n o m h (inr e) = told_same U (negative_literal t n) (always (number_value t true n)) (λ st. unless_literal s m st) (λ st. ap (λ s. unless_literal s m st) e.1) (negative_told U t n)
   signed_told t false s n o m h (inr e) = cc
 
-  module _ (k : Known) (globals : Globals) (agree : ConstantsGive k globals) (call : ℕ → List Val → State → Result) (layout : Layout) where
+  module _ (k : Known) (globals : Globals) (call : ℕ → List Val → State → Result) (layout : Layout) where
     abbrev Means : Expr → Evaluation
     Means e = expr_means globals call layout e
 
@@ -172,38 +173,68 @@ module _ (U : Type 0) where
     row_told (many_is.OfSink m) es h = tt
     row_told many_is.NoCall es h = tt
 
+    abbrev Given : Expr → Type 0
+    Given e = Holds (GivesAt k globals) e
+
     mutual
-      pub means_told : (e : Expr) → U ⊎ (holds (stands k) e ≡ true) → Told U (value_of k e) (Means e)
-      means_told (leaf h) s = leaf_told U k globals agree call layout h.ty h.op s
-      means_told (one h a) s =
+      pub means_told : (e : Expr) → Given e → U ⊎ (holds (stands k) e ≡ true) → Told U (value_of k e) (Means e)
+      means_told (leaf h) i s = leaf_told U k globals call layout h.ty h.op i s
+      means_told (one h a) i s =
           signed_told h.ty (is_minus h.op && is_number a) (bodies.negative_literal h a) (number_in a) (one_value h.ty h.op (value_of k a)) (λ st. got (λ v st. one_means h.op h.ty v st) (Means a st))
-          (part_told h.op h.ty (value_of k a) (Means a) (means_told a (right true (holds (stands k) a) s))) (is_negative h a)
-      means_told (two h a b) s =
+          (part_told h.op h.ty (value_of k a) (Means a) (means_told a i (right true (holds (stands k) a) s))) (is_negative h a)
+      means_told (two h a b) i s =
           let r = right true (holds (stands k) a && holds (stands k) b) s in
-          parts_told h.op (value_of k a) (value_of k b) (Means a) (Means b) (means_told a (left (holds (stands k) a) (holds (stands k) b) r)) (means_told b (right (holds (stands k) a) (holds (stands k) b) r))
-      means_told (three h c a b) s =
+          parts_told h.op (value_of k a) (value_of k b) (Means a) (Means b) (means_told a i.0 (left (holds (stands k) a) (holds (stands k) b) r)) (means_told b i.1 (right (holds (stands k) a) (holds (stands k) b) r))
+      means_told (three h c a b) i s =
           let r = right true (holds (stands k) c && (holds (stands k) a && holds (stands k) b)) s in
           let q = right (holds (stands k) c) (holds (stands k) a && holds (stands k) b) r in
           three_told U (value_of k c) (value_of k a) (value_of k b) (Means c) (Means a) (Means b)
-          (means_told c (left (holds (stands k) c) (holds (stands k) a && holds (stands k) b) r))
-          (means_told a (left (holds (stands k) a) (holds (stands k) b) q)) (means_told b (right (holds (stands k) a) (holds (stands k) b) q))
-      means_told (many h es) s = row_told h.op es (all_told es (right true (all_hold (stands k) es) s))
+          (means_told c i.0 (left (holds (stands k) c) (holds (stands k) a && holds (stands k) b) r))
+          (means_told a i.1 (left (holds (stands k) a) (holds (stands k) b) q)) (means_told b i.2 (right (holds (stands k) a) (holds (stands k) b) q))
+      means_told (many h es) i s = row_told h.op es (all_told es i (right true (all_hold (stands k) es) s))
 
-      all_told : (es : Exprs) → U ⊎ (all_hold (stands k) es ≡ true) → RowTold U globals call layout (worst_of (all_values k es)) (values (all_values k es)) es
-      all_told none s = no_rows U globals call layout
-      all_told (more e es) s =
+      all_told : (es : Exprs) → HoldsAll (GivesAt k globals) es → U ⊎ (all_hold (stands k) es ≡ true) → RowTold U globals call layout (worst_of (all_values k es)) (values (all_values k es)) es
+      all_told none i s = no_rows U globals call layout
+      all_told (more e es) i s =
           row_more U globals call layout e es (value_of k e) (all_values k es) (values (all_values k es))
-          (means_told e (left (holds (stands k) e) (all_hold (stands k) es) s)) (all_told es (right (holds (stands k) e) (all_hold (stands k) es) s))
+          (means_told e i.0 (left (holds (stands k) e) (all_hold (stands k) es) s)) (all_told es i.1 (right (holds (stands k) e) (all_hold (stands k) es) s))
 
--- values in any case; errors where all that is named has a value
+module _ (k : Known) (globals : Globals) where
+  -- values in any case, where that of each leaf is given; errors where all that is named has a value
+  pub value_meant : (call : ℕ → List Val → State → Result) (layout : Layout) (e : Expr) (v : Val) → Holds (GivesAt k globals) e → value_of k e ≡ Value v → AlwaysGives v (expr_means globals call layout e)
+  value_meant call layout e v i is =
+      subst (λ o. Told (Unit {0}) o (expr_means globals call layout e)) is (means_told (Unit {0}) k globals call layout e i (inl tt))
+
+  without_doubt : {A : Type 0} → ⊥ ⊎ A → A
+  without_doubt (inl u) = absurd u
+  without_doubt (inr a) = a
+
+  error_meant : (call : ℕ → List Val → State → Result) (layout : Layout) (e : Expr) → Holds (GivesAt k globals) e → holds (stands k) e ≡ true → value_of k e ≡ Error
+      → (kind : PKind) × AlwaysFails kind (expr_means globals call layout e)
+  error_meant call layout e i s is =
+      without_doubt (subst (λ o. Told ⊥ o (expr_means globals call layout e)) is (means_told ⊥ k globals call layout e i (inr s)))
+
+  -- what is given of all constants and labels is given at each leaf
+  module _ (agree : ConstantsGive k globals) where
+    given_at : (op : LeafOp) → GivesAt k globals op
+    given_at (leaf_is.Constant n) = λ v e. agree.constants n v e
+    given_at (leaf_is.Label owner n) = λ v e. agree.labels owner n v e
+    given_at _ = tt
+
+    mutual
+      given : (e : Expr) → Holds (GivesAt k globals) e
+      given (leaf h) = given_at h.op
+      given (one h a) = given a
+      given (two h a b) = (given a, given b)
+      given (three h c a b) = (given c, given a, given b)
+      given (many h es) = all_given es
+
+      all_given : (es : Exprs) → HoldsAll (GivesAt k globals) es
+      all_given none = tt
+      all_given (more e es) = (given e, all_given es)
+
 pub values_are_meant : ValuesAreMeant
-values_are_meant k globals agree call layout e v is =
-    subst (λ o. Told (Unit {0}) o (expr_means globals call layout e)) is (means_told (Unit {0}) k globals agree call layout e (inl tt))
-
-without_doubt : {A : Type 0} → ⊥ ⊎ A → A
-without_doubt (inl u) = absurd u
-without_doubt (inr a) = a
+values_are_meant k globals agree call layout e v is = value_meant k globals call layout e v (given k globals agree e) is
 
 pub errors_are_meant : ErrorsAreMeant
-errors_are_meant k globals agree call layout e s is =
-    without_doubt (subst (λ o. Told ⊥ o (expr_means globals call layout e)) is (means_told ⊥ k globals agree call layout e (inr s)))
+errors_are_meant k globals agree call layout e s is = error_meant k globals call layout e (given k globals agree e) s is

@@ -27,6 +27,12 @@ pub record ConstantsGive (k : Known) (globals : Globals) : Type 0 where
   pub constants : (n : ℕ) (v : Val) → k.constant n ≡ Value v → slice_get globals.constants n ≡ Some (Some v)
   pub labels : (owner n : ℕ) (v : Val) → k.label owner n ≡ Value v → label_value globals owner n ≡ v
 
+-- the same of what a leaf names
+abbrev pub GivesAt : Known → Globals → LeafOp → Type 0
+GivesAt k globals (leaf_is.Constant n) = (v : Val) → k.constant n ≡ Value v → slice_get globals.constants n ≡ Some (Some v)
+GivesAt k globals (leaf_is.Label owner n) = (v : Val) → k.label owner n ≡ Value v → label_value globals owner n ≡ v
+GivesAt k globals _ = Unit {0}
+
 -- What the checker takes for a value, that a body has for it: whatever calls do, and wherever the body keeps what it sees.
 abbrev pub ValuesAreMeant : Type 0
 ValuesAreMeant =

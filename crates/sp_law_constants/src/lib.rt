@@ -3,7 +3,9 @@
 #![tactic(auto)]
 
 mod constants;
+mod declared;
 mod lists;
 
 pub use constants::constants_are_meant;
+pub use declared::declared_are_meant;
 pub use lists::lists_agree;

@@ -3,3 +3,4 @@ pub mod Fine
 pub mod Twice
 pub mod OpenConversions
 pub mod EndlessFields
+pub mod ToldFields

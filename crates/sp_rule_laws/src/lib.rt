@@ -9,6 +9,6 @@ mod ends;
 mod names;
 
 pub use answers::answers_are_there;
-pub use conversions::conversions_are_endless;
+pub use conversions::{conversions_are_endless, told_is_endless};
 pub use ends::bodies_give_results;
 pub use names::names_come_twice;

@@ -1,0 +1,42 @@
+-- What a list of modules declares with a value, and what that means in bodies of its typed list.
+use Rattle.std.specs.Prelude.{ℕ, ◌≡◌, List, length, Option, Some, slice_get}
+use Rattle.sp_ast.specs.Trees.{Tree}
+use Rattle.sp_value.specs.Val.{Val}
+use Rattle.sp_types.specs.Types.{Ty}
+use Rattle.sp_typed_units.specs.declared.declarations.Constant.{Constant}
+use Rattle.sp_typed_units.specs.declared.declarations.ConstantValue.TheVariants as constant_is
+use Rattle.sp_typed_units.specs.declared.declarations.Typed.{Typed}
+use Rattle.sp_solver.specs.Rounds.{IsSettled}
+use Rattle.sp_dependencies.specs.Tries.{tries}
+use Rattle.sp_typing.specs.Typing.{typed, to_maybe}
+use Rattle.sp_constants.specs.declared.outcome.Outcome.TheVariants.{Value}
+use Rattle.sp_constants.specs.Values.{value_of}
+use Rattle.sp_declared_values.specs.declared.answer.Answer.{Answer}
+use Rattle.sp_declared_values.specs.Valued.{valued, needs}
+use Rattle.sp_declared_values.specs.Answers.{gives, known_values, here}
+use Rattle.sp_declared_values.specs.TypedRows.{typed_constants, typed_enums}
+use Rattle.sp_running.specs.States.{State, Result}
+use Rattle.sp_bodies.specs.Globals.{Layout, globals_of}
+use Rattle.sp_bodies.specs.Exprs.{expr_means}
+use Rattle.sp_law_constants.specs.Constants.{AlwaysGives}
+
+-- these are the answers of the constants and labels of a list of modules, and its typed list has them
+pub record AreTyped (list : List Tree) (f : ℕ → Option Ty) (known : ℕ → Option Answer) (t : Typed) : Type 0 where
+  pub settled : IsSettled (tries (length (valued list f)) (needs list f) (gives list f)) known
+  pub constants_are : t.constants ≡ typed_constants list f known
+  pub enums_are : t.enums ≡ typed_enums list f known
+
+-- An expression of a module that has a value by these answers, with a target or without one, has it in the bodies of the list.
+abbrev pub ExpressionsAreMeant : Type 0
+ExpressionsAreMeant =
+    (list : List Tree) (f : ℕ → Option Ty) (known : ℕ → Option Answer) (t : Typed) → AreTyped list f known t →
+    (call : ℕ → List Val → State → Result) (layout : Layout) (m : ℕ) (target : Option Ty) (tree : Tree) (v : Val) →
+    (let e = to_maybe target (typed (here list f known m) tree) in
+    value_of (known_values list f known) e ≡ Value v → AlwaysGives v (expr_means (globals_of t) call layout e))
+
+-- The value with which a constant stands in the typed list is what its expression gives in the bodies of the list.
+abbrev pub ConstantsAreMeant : Type 0
+ConstantsAreMeant =
+    (list : List Tree) (f : ℕ → Option Ty) (known : ℕ → Option Answer) (t : Typed) → AreTyped list f known t →
+    (call : ℕ → List Val → State → Result) (layout : Layout) (n : ℕ) (c : Constant) (v : Val) →
+    slice_get t.constants n ≡ Some c → c.value ≡ constant_is.Value v → AlwaysGives v (expr_means (globals_of t) call layout c.expr)

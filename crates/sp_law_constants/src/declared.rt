@@ -1,0 +1,9 @@
+// What declared constants mean in bodies. This function does nothing.
+ghost use Rattle.sp_law_constants.specs.Declared.{ExpressionsAreMeant, ConstantsAreMeant};
+
+/// The value of an expression of a module by the answers of constants and labels is what evaluating it in a body of the list gives; and
+/// so is the value with which a constant stands in the typed list.
+pub fn declared_are_meant()
+    ensures expressions { ExpressionsAreMeant }
+    ensures constants { ConstantsAreMeant }
+{}
