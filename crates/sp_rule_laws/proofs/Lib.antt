@@ -1,3 +1,5 @@
 pub mod Rounds
 pub mod Fine
 pub mod Twice
+pub mod Openings
+pub mod Beginnings

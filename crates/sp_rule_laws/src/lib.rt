@@ -1,12 +1,14 @@
 //! Laws on the rules of the checker, in words of their own: each list of modules has answers, a body that ends well never runs past its end, a
-//! name of a unit comes twice by where both stand.
+//! name of a unit comes twice by where both stand, and each node of a tree that is read begins at a token.
 //! There is no code here.
 #![tactic(auto)]
 
 mod answers;
 mod ends;
 mod names;
+mod places;
 
 pub use answers::answers_are_there;
 pub use ends::bodies_give_results;
 pub use names::names_come_twice;
+pub use places::trees_begin_at_tokens;
