@@ -3,3 +3,5 @@ pub mod Fine
 pub mod Twice
 pub mod Openings
 pub mod Beginnings
+pub mod Typed
+pub mod Named

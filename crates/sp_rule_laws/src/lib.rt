@@ -11,4 +11,4 @@ mod places;
 pub use answers::answers_are_there;
 pub use ends::bodies_give_results;
 pub use names::names_come_twice;
-pub use places::trees_begin_at_tokens;
+pub use places::{expressions_begin_at_tokens, trees_begin_at_tokens};
