@@ -4,3 +4,7 @@ pub mod Twice
 pub mod OpenConversions
 pub mod EndlessFields
 pub mod ToldFields
+pub mod Openings
+pub mod Beginnings
+pub mod Typed
+pub mod Named

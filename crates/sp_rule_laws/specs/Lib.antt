@@ -3,3 +3,5 @@ pub mod Ends
 pub mod Names
 pub mod Conversions
 pub mod ToldConversions
+pub mod Places
+pub mod Spans

@@ -1,0 +1,9 @@
+use Rattle.sp_rule_laws.proofs.Typed.{typed_placed}
+use Rattle.sp_rule_laws.proofs.Named.{module_places}
+use Rattle.sp_rule_laws.proofs.places.expressions_begin_at_tokens.Goals as goal
+
+pub returns-clause-expressions : goal.returns-clause-expressions
+returns-clause-expressions c = λ tokens g t names b. typed_placed tokens g names t b
+
+pub returns-clause-names : goal.returns-clause-names
+returns-clause-names c = module_places
