@@ -4,6 +4,7 @@ ghost use Rattle.sp_ast.specs.Trees.{trees};
 ghost use Rattle.sp_ast.specs.Views.{optional_tree};
 ghost use Rattle.sp_typed.specs.Exprs.{exprs};
 ghost use Rattle.sp_typed.specs.Stmts.{block, no_stmts, print, switch, case_row};
+ghost use Rattle.sp_typed.specs.StmtViews.{stmt_of};
 ghost use Rattle.sp_typed.specs.declared.stmt_words.ValuedOp.TheVariants as valued_is;
 ghost use Rattle.sp_typing.specs.Contexts.{Around};
 ghost use Rattle.sp_operands.specs.Literals.{taken};
@@ -19,11 +20,18 @@ use sp_typing::Context;
 use sp_typing_stmts::{Scope, text_in, valued_in, values_in};
 use std::alloc::Global;
 
+/// A statement of this first level. One that would be too high is want of memory.
+pub(crate) fn made(node: StmtNode) -> Result<Stmt, NoMemory>
+    ensures { IfOk result (λ s. s ≡ stmt_of node) }
+{
+    Ok(Stmt::new(node)?)
+}
+
 /// A block without statements.
 pub(crate) fn nothing(alloc: Global) -> Result<Stmt, NoMemory>
     ensures { IfOk result (λ s. s ≡ block no_stmts) }
 {
-    Ok(Stmt::new(StmtNode::Block(Vec::new(alloc)))?)
+    made(StmtNode::Block(Vec::new(alloc)))
 }
 
 /// A `switch`, with the slot in which its subject is kept.
@@ -37,7 +45,7 @@ pub(crate) fn switch_of(
     ensures { IfOk result (λ s. s ≡ switch slot subject (case_row cases.items) otherwise) }
 {
     let otherwise = or_drop!(Box::new(alloc, otherwise); subject, cases);
-    Ok(Stmt::new(StmtNode::Switch(slot, subject, cases, otherwise))?)
+    made(StmtNode::Switch(slot, subject, cases, otherwise))
 }
 
 /// The values of a case: literals take the type of the subject.
@@ -69,7 +77,7 @@ pub(crate) fn print_in<C: Context>(
         (trees values.now)).1) }
 {
     let all = values_in(alloc, context, scope, values)?;
-    Ok(Stmt::new(StmtNode::Print(span, all))?)
+    made(StmtNode::Print(span, all))
 }
 
 /// `assert e : "text";`

@@ -7,7 +7,7 @@ ghost use Rattle.sp_typing.specs.Contexts.{Around};
 ghost use Rattle.sp_typing_stmts.specs.Statements.{typed_stmt, typed_stmts, typed_branch, typed_branches, typed_case, typed_cases, typed_body};
 ghost use Rattle.sp_typing_bodies.specs.inside.Forms.{block_tree, if_tree, while_tree, for_tree, switch_tree, has_stmts, plain_case, plain_cases};
 
-use crate::others::{all_taken, assert_in, nothing, print_in, switch_of};
+use crate::others::{all_taken, assert_in, made, nothing, print_in, switch_of};
 use sp_ast::{
     BlockKind, BranchKind, CaseKind, ExprKind, Members, NameKind, Ref, StmtKind, StmtView,
 };
@@ -62,7 +62,7 @@ fn block_typed<C: Context>(
     let mark = scope.mark();
     let list = stmts_typed(alloc, body, context, in_loop, scope, &block.statements())?;
     scope.close(mark);
-    Ok(Stmt::new(StmtNode::Block(list))?)
+    made(StmtNode::Block(list))
 }
 
 /// What is done where no condition holds, or no case has the value.
@@ -155,7 +155,7 @@ fn if_typed<C: Context>(
     );
     scope.close(mark);
     let boxed = or_drop!(Box::new(alloc, other); list);
-    Ok(Stmt::new(StmtNode::If(list, boxed))?)
+    made(StmtNode::If(list, boxed))
 }
 
 /// `while (c) s`
@@ -178,7 +178,7 @@ fn while_typed<C: Context>(
     let inner = or_drop!(typed_stmt(alloc, body, context, true, scope, inner); condition);
     scope.close(mark);
     let boxed = or_drop!(Box::new(alloc, inner); condition);
-    Ok(Stmt::new(StmtNode::While(condition, boxed))?)
+    made(StmtNode::While(condition, boxed))
 }
 
 /// `for (x in e) s`
@@ -207,7 +207,7 @@ fn for_typed<C: Context>(
     let stmt = or_drop!(typed_stmt(alloc, body, context, true, scope, inner); head, sequence);
     scope.close(mark);
     let boxed = or_drop!(Box::new(alloc, stmt); head, sequence);
-    Ok(Stmt::new(StmtNode::For(head, sequence, boxed))?)
+    made(StmtNode::For(head, sequence, boxed))
 }
 
 /// `case a, b: s`

@@ -54,14 +54,14 @@ cases_typed-loop-case-preserved g t c =
 pub block_typed-returns-clause-stmt : goal.block_typed-returns-clause-stmt
 block_typed-returns-clause-stmt g t c =
     let around = g.C.Context.around c.args.context.now in
-    ok_is c.new.result (block (stmts c.in_ok-list.list.items)) (typed_stmt c.args.body.now around c.args.in_loop c.args.scope.now (block_tree c.args.block.now)).0
+    ok_is c.made.result (block (stmts c.in_ok-list.list.items)) (typed_stmt c.args.body.now around c.args.in_loop c.args.scope.now (block_tree c.args.block.now)).0
     (block_is c.args.body.now around c.args.in_loop c.args.scope.now c.args.block.now (span_of c.args.block.now) c.statements.result c.in_ok-list.list.items c.statements.ensures c.in_ok-list.ensures.stmts)
-    c.new.ensures
+    c.made.ensures
 
 pub block_typed-returns-clause-scope : goal.block_typed-returns-clause-scope
 block_typed-returns-clause-scope g t c =
     let around = g.C.Context.around c.args.context.now in
-    on_ok c.new.result
+    on_ok c.made.result
     (block_scope c.args.body.now around c.args.in_loop c.args.scope.now c.stmts_typed.new.scope c.close.new.self c.args.block.now (span_of c.args.block.now) c.statements.result c.mark-mark.result c.statements.ensures c.mark-mark.ensures c.close.ensures c.in_ok-list.ensures.scope)
 
 pub branch_typed-returns-2-clause-scope : goal.branch_typed-returns-2-clause-scope
@@ -72,19 +72,19 @@ branch_typed-returns-2-clause-scope g t c =
 pub if_typed-returns-3-clause-scope : goal.if_typed-returns-3-clause-scope
 if_typed-returns-3-clause-scope g t c =
     let around = g.C.Context.around c.args.context.now in
-    on_ok c.new-2.result
+    on_ok c.made.result
     (if_scope c.args.body.now around c.args.in_loop c.args.scope.now c.branches_typed.new.scope c.otherwise_typed.new.scope c.close.new.self c.args.branches.now c.args.otherwise.now c.mark-mark.result c.mark-mark.ensures c.in_ok-list.ensures.scope c.in-Ok-or_drop.ensures.scope c.close.ensures)
 
 pub while_typed-returns-3-clause-scope : goal.while_typed-returns-3-clause-scope
 while_typed-returns-3-clause-scope g t c =
     let around = g.C.Context.around c.args.context.now in
-    on_ok c.new-2.result
+    on_ok c.made.result
     (while_scope c.args.body.now around c.args.scope.now c.value_in.new.scope c.typed_stmt.new.scope c.close.new.self c.args.condition.now c.args.inner.now c.mark-mark.result c.mark-mark.ensures c.in_ok-condition.ensures.scope c.in-Ok-or_drop.ensures.scope c.close.ensures)
 
 pub for_typed-returns-6-clause-scope : goal.for_typed-returns-6-clause-scope
 for_typed-returns-6-clause-scope g t c =
     let around = g.C.Context.around c.args.context.now in
-    on_ok c.new-2.result
+    on_ok c.made.result
     (for_scope c.args.body.now around c.args.scope.now c.value_in.new.scope c.loop_head.new.scope c.typed_stmt.new.scope c.close.new.self c.args.name.now c.args.sequence.now c.args.inner.now c.in_ok-sequence.sequence c.in-Ok-or_drop.field-0 c.in-Ok-or_drop-ty.field-0 c.mark-mark.result c.mark-mark.ensures c.in_ok-sequence.ensures.expr c.in_ok-sequence.ensures.scope c.in-Ok-or_drop.ensures c.in-Ok-or_drop-ty.ensures c.in-Ok-or_drop-head.ensures.scope c.in-Ok-or_drop-stmt.ensures.scope c.close.ensures)
 
 pub case_typed-returns-2-clause-scope : goal.case_typed-returns-2-clause-scope
