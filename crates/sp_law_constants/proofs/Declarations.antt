@@ -134,7 +134,7 @@ module _ (list : List Tree) (f : ℕ → Option Ty) (known : ℕ → Option Answ
     given_at (leaf_is.Label owner n) h = λ v e. ap (λ es. bodies.label_value (record globals { labels = bodies.enum_labels es }) owner n) it.enums_are ∙ label_told list f known it.settled owner n v h e
     given_at _ h = tt
 
-    expression : (call : ℕ → List Val → State → Result) (layout : Layout) (m : ℕ) (target : Option Ty) (tree : Tree) (v : Val)
+    pub expression : (call : ℕ → List Val → State → Result) (layout : Layout) (m : ℕ) (target : Option Ty) (tree : Tree) (v : Val)
         → value_of (known_values list f known) (to_maybe target (typed (here list f known m) tree)) ≡ Value v → AlwaysGives v (expr_means globals call layout (to_maybe target (typed (here list f known m) tree)))
     expression call layout m target tree v e =
         let x = to_maybe target (typed (here list f known m) tree) in

@@ -21,7 +21,7 @@ use Rattle.sp_constants.specs.Labels.{label_value as labelled, next_label}
 use Rattle.sp_declared_values.specs.declared.answer.Answer.{Answer}
 use Rattle.sp_declared_values.specs.declared.valued.Valued.{Valued}
 use Rattle.sp_declared_values.specs.declared.valued.Valued.TheVariants as valued_is
-use Rattle.sp_declared_values.specs.Valued.{number_tree, constants, label_of, labels_from, declared_labels, labels_before, labels, valued, needs}
+use Rattle.sp_declared_values.specs.Valued.{number_tree, constants, label_of, labels_from, declared_labels, labels_before, labels, own_place, valued, needs}
 use Rattle.sp_declared_values.specs.Answers.{answer_at, value_or, label_value, answer_of, gives}
 use Rattle.sp_declared_values.specs.Laws.{within}
 use Rattle.sp_declared_values.specs.TypedRows.{shown_number, or_past, own_number, number_at, labels_of_enum, declared_enum, own_enums, library_rows, typed_enums}
@@ -179,24 +179,47 @@ module _ (list : List Tree) where
     value_some None v e = cc
     value_some (Some a) v e = (a, refl, e)
 
-    -- the value of a label of an enum of the list is one of that enum
-    own_value : (k n : ℕ) (v : Val) → n < length (own_labels list k) → value_or (known (length (constants list f) + length (labels_before list k) + n)) ≡ Value v → IsOf (library_enums + k) v
+    -- where a label of an enum of the list stands
+    abbrev pub place : ℕ → ℕ → ℕ
+    place k n = length (constants list f) + length (labels_before list k) + n
+
+    pub entry_place : (k n : ℕ) → n < length (own_labels list k) → slice_get (valued list f) (place k n) ≡ slice_get (declared_labels (library_enums + k) (declaration_of list (slice_get (all_of sort_is.Enum list) k))) n
     unfolding own_row
-    own_value k n v lt e =
-        let many = length (constants list f) in
+    entry_place k n lt =
         let first = length (labels_before list k) in
-        let p = many + first + n in
-        let here = value_some (known p) v e in
         let g = enum_there k n (slice_get (all_of sort_is.Enum list) k) refl lt in
         let k_lt = found_below (all_of sort_is.Enum list) k g.0 g.1 in
-        let o = declaration_of list (slice_get (all_of sort_is.Enum list) k) in
-        let count = as_many (library_enums + k) o in
-        let entry = declared_entry (library_enums + k) o n lt in
-        let sum : p ≡ many + (first + n) = omega arith in
-        let at : slice_get (valued list f) p ≡ Some entry.0 =
-        ap (slice_get (valued list f)) sum ∙ skip (constants list f) (labels list) (first + n) ∙ placed (length (all_of sort_is.Enum list)) k n k_lt (omega (arith, lt, count)) ∙ entry.1 in
-        let same = answer_is p here.0 (within list f k n lt) here.1 in
-        entry_value (library_enums + k) p entry.0 v entry.2 (ap (λ o. (answer_of list f known p o).value) (sym at) ∙ ap (λ (a : Answer). a.value) same ∙ here.2)
+        let count = as_many (library_enums + k) (declaration_of list (slice_get (all_of sort_is.Enum list) k)) in
+        let sum : place k n ≡ length (constants list f) + (first + n) = omega arith in
+        ap (slice_get (valued list f)) sum ∙ skip (constants list f) (labels list) (first + n) ∙ placed (length (all_of sort_is.Enum list)) k n k_lt (omega (arith, lt, count))
+
+    pub answered_at : (k n : ℕ) (v : Val) → n < length (own_labels list k) → value_or (known (place k n)) ≡ Value v → (answer_of list f known (place k n) (slice_get (valued list f) (place k n))).value ≡ Value v
+    answered_at k n v lt e =
+        let here = value_some (known (place k n)) v e in
+        let same = answer_is (place k n) here.0 (within list f k n lt) here.1 in
+        ap (λ (a : Answer). a.value) same ∙ here.2
+
+    -- the value of a label of an enum of the list is one of that enum
+    own_value : (k n : ℕ) (v : Val) → n < length (own_labels list k) → value_or (known (place k n)) ≡ Value v → IsOf (library_enums + k) v
+    own_value k n v lt e =
+        let entry = declared_entry (library_enums + k) (declaration_of list (slice_get (all_of sort_is.Enum list) k)) n lt in
+        let at = entry_place k n lt ∙ entry.1 in
+        entry_value (library_enums + k) (place k n) entry.0 v entry.2 (ap (λ o. (answer_of list f known (place k n) o).value) (sym at) ∙ answered_at k n v lt e)
+
+    if_placed : (p : ℕ) (c : Bool) (v : Val) → c ≡ true → value_or (answer_at known (if c then Some p else None)) ≡ Value v → value_or (known p) ≡ Value v
+    if_placed p true v t e = e
+    if_placed p false v t e = cc
+
+    pub own_answer : (k n : ℕ) (v : Val) → n < length (own_labels list k) → label_value list f known (library_enums + k) n ≡ Value v → value_or (known (place k n)) ≡ Value v
+    own_answer k n v lt e = by (nat_lt (library_enums + k) library_enums) refl e
+      where
+        by : (b : Bool) → nat_lt (library_enums + k) library_enums ≡ b → (if b then Value (enum (library_enums + k) n) else value_or (answer_at known (if b then None else own_place list f (library_enums + k - library_enums) n))) ≡ Value v
+            → value_or (known (place k n)) ≡ Value v
+        by true is e = absurd (let z : ⊥ = grind (arith, nat_tests) in z)
+        by false is e =
+            let same : library_enums + k - library_enums ≡ k = omega arith in
+            let inside : nat_lt n (length (own_labels list k)) ≡ true = grind (arith, nat_tests) in
+            if_placed (place k n) (nat_lt n (length (own_labels list k))) v inside (subst (λ j. value_or (answer_at known (own_place list f j n)) ≡ Value v) same e)
 
     -- and the typed list has its number
     number_kept : (past : LabelNumber) (n : ℕ) (l : LabelNumber) → l ≡ number_is.Number n → number_of (or_past past l) ≡ n
@@ -266,25 +289,17 @@ module _ (list : List Tree) where
     unfolding IsOf
     label_told owner n v there e = by (nat_lt owner library_enums) refl there e
       where
-        own : (k : ℕ) → library_enums + k ≡ owner → n < length (own_labels list k) → IsOf (library_enums + k) v → enum owner (told_number owner n) ≡ v
-        own k is lt of =
+        own : (k : ℕ) → library_enums + k ≡ owner → n < length (own_labels list k) → enum owner (told_number owner n) ≡ v
+        own k is lt =
+            let value = ap (λ o. label_value list f known o n) is ∙ e in
+            let of = own_value k n v lt (own_answer k n v lt value) in
             let same : enum (library_enums + k) of.0 ≡ v = sym of.1 in
-            let value = ap (λ o. label_value list f known o n) is ∙ e ∙ ap Value of.1 in
-            subst (λ o. enum o (told_number o n) ≡ v) is (ap (enum (library_enums + k)) (own_told k n of.0 lt value) ∙ same)
-
-        place : (k p : ℕ) (c : Bool) → c ≡ true → value_or (answer_at known (if c then Some p else None)) ≡ Value v → value_or (known p) ≡ Value v
-        place k p true t e = e
-        place k p false t e = cc
+            subst (λ o. enum o (told_number o n) ≡ v) is (ap (enum (library_enums + k)) (own_told k n of.0 lt (value ∙ ap Value of.1)) ∙ same)
 
         by : (b : Bool) → nat_lt owner library_enums ≡ b → n < (if b then length (library_labels owner) else length (own_labels list (owner - library_enums)))
-            → (if b then Value (enum owner n) else value_or (answer_at known (if b then None else (if nat_lt n (length (own_labels list (owner - library_enums))) then Some (length (constants list f) + length (labels_before list (owner - library_enums)) + n) else None)))) ≡ Value v
+            → (if b then Value (enum owner n) else value_or (answer_at known (if b then None else own_place list f (owner - library_enums) n))) ≡ Value v
             → enum owner (told_number owner n) ≡ v
         by true is lt e =
             let below : owner < 4 = grind (arith, nat_tests) in
             ap (enum owner) (library_told owner n below lt) ∙ (let z : enum owner n ≡ v = cc in z)
-        by false is lt e =
-            let k = owner - library_enums in
-            let same : library_enums + k ≡ owner = grind (arith, nat_tests) in
-            let inside : nat_lt n (length (own_labels list k)) ≡ true = grind (arith, nat_tests) in
-            let p = length (constants list f) + length (labels_before list k) + n in
-            own k same lt (own_value k n v lt (place k p (nat_lt n (length (own_labels list k))) inside e))
+        by false is lt e = (let same : library_enums + (owner - library_enums) ≡ owner = grind (arith, nat_tests) in own (owner - library_enums) same lt)

@@ -7,3 +7,4 @@ pub mod Agreement
 pub mod Labels
 pub mod NamedLabels
 pub mod Declarations
+pub mod LabelNumbers

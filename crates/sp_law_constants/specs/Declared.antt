@@ -1,10 +1,15 @@
 -- What a list of modules declares with a value, and what that means in bodies of its typed list.
 use Rattle.std.specs.Prelude.{ℕ, ◌≡◌, List, length, Option, Some, slice_get}
 use Rattle.sp_ast.specs.Trees.{Tree}
-use Rattle.sp_value.specs.Val.{Val}
+use Rattle.sp_numbers.specs.declared.width.Width.{Width}
+use Rattle.sp_value.specs.Val.{Val, uint}
 use Rattle.sp_types.specs.Types.{Ty}
+use Rattle.sp_typed.specs.Exprs.{Expr}
 use Rattle.sp_typed_units.specs.declared.declarations.Constant.{Constant}
 use Rattle.sp_typed_units.specs.declared.declarations.ConstantValue.TheVariants as constant_is
+use Rattle.sp_typed_units.specs.declared.declarations.Enum.{Enum}
+use Rattle.sp_typed_units.specs.declared.declarations.Label.{Label}
+use Rattle.sp_typed_units.specs.declared.declarations.LabelNumber.TheVariants as number_is
 use Rattle.sp_typed_units.specs.declared.declarations.Typed.{Typed}
 use Rattle.sp_solver.specs.Rounds.{IsSettled}
 use Rattle.sp_dependencies.specs.Tries.{tries}
@@ -40,3 +45,11 @@ ConstantsAreMeant =
     (list : List Tree) (f : ℕ → Option Ty) (known : ℕ → Option Answer) (t : Typed) → AreTyped list f known t →
     (call : ℕ → List Val → State → Result) (layout : Layout) (n : ℕ) (c : Constant) (v : Val) →
     slice_get t.constants n ≡ Some c → c.value ≡ constant_is.Value v → AlwaysGives v (expr_means (globals_of t) call layout c.expr)
+
+-- The number with which a label stands there is that of the unsigned integer which the number that is written for it gives.
+abbrev pub LabelsAreMeant : Type 0
+LabelsAreMeant =
+    (list : List Tree) (f : ℕ → Option Ty) (known : ℕ → Option Answer) (t : Typed) → AreTyped list f known t →
+    (call : ℕ → List Val → State → Result) (layout : Layout) (owner k : ℕ) (x : Enum) (l : Label) (e : Expr) (n : ℕ) →
+    slice_get t.enums owner ≡ Some x → slice_get x.labels k ≡ Some l → l.expr ≡ Some e → l.number ≡ number_is.Number n →
+    (w : Width) × AlwaysGives (uint w n) (expr_means (globals_of t) call layout e)
