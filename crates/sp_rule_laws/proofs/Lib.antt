@@ -5,3 +5,4 @@ pub mod Openings
 pub mod Beginnings
 pub mod Typed
 pub mod Named
+pub mod Tested

@@ -1,5 +1,6 @@
 //! Laws on the rules of the checker, in words of their own: each list of modules has answers, a body that ends well never runs past its end, a
-//! name of a unit comes twice by where both stand, and each node of a tree that is read begins at a token.
+//! name of a unit comes twice by where both stand, and each node of a tree that is read begins at a token, as
+//! does what the rules tell of expressions.
 //! There is no code here.
 #![tactic(auto)]
 
@@ -11,4 +12,4 @@ mod places;
 pub use answers::answers_are_there;
 pub use ends::bodies_give_results;
 pub use names::names_come_twice;
-pub use places::{expressions_begin_at_tokens, trees_begin_at_tokens};
+pub use places::{expressions_begin_at_tokens, tests_begin_at_tokens, trees_begin_at_tokens};

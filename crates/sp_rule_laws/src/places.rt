@@ -1,6 +1,6 @@
 // Where trees and typed expressions begin in the text. These functions do nothing.
 ghost use Rattle.sp_rule_laws.specs.Places.{TreesBeginAtTokens, ModulesBeginAtTokens};
-ghost use Rattle.sp_rule_laws.specs.Spans.{ExpressionsBeginAtTokens, ModulesPlaceNames};
+ghost use Rattle.sp_rule_laws.specs.Spans.{ExpressionsBeginAtTokens, ModulesPlaceNames, TestsBeginAtTokens};
 
 /// Each node of a tree that is built of a run of tokens begins where one of them begins, and so does each node of a module's tree:
 /// no place that is told of a tree lies between tokens, or behind the last.
@@ -14,4 +14,9 @@ pub fn trees_begin_at_tokens()
 pub fn expressions_begin_at_tokens()
     ensures expressions { ExpressionsBeginAtTokens }
     ensures names { ModulesPlaceNames }
+{}
+
+/// The place of each test at a node of an expression begins at a token, where the nodes of the expression do.
+pub fn tests_begin_at_tokens()
+    ensures { TestsBeginAtTokens }
 {}
