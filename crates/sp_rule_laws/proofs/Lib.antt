@@ -6,3 +6,4 @@ pub mod Beginnings
 pub mod Typed
 pub mod Named
 pub mod Tested
+pub mod Inner

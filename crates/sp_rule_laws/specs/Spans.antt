@@ -13,13 +13,19 @@ use Rattle.sp_typed.specs.declared.words.OneOp.TheVariants as one_is
 use Rattle.sp_typed.specs.declared.words.ManyOp.{ManyOp}
 use Rattle.sp_typed.specs.declared.words.ManyOp.TheVariants as many_is
 use Rattle.sp_typed.specs.declared.words.Written.{Written}
+use Rattle.sp_typed.specs.declared.words.Standing.{Standing}
 use Rattle.sp_typed.specs.Exprs.{Expr, leaf, one, two, three, many, exprs, span_of}
 use Rattle.sp_typed.specs.Nodes.{nodes, holds, all_hold}
+use Rattle.sp_typed_units.specs.declared.declarations.Parameter.{Parameter}
 use Rattle.sp_typing.specs.declared.places.Place.{Place}
 use Rattle.sp_typing.specs.declared.context.Member.{Member}
 use Rattle.sp_typing.specs.declared.context.Callable.{Callable}
 use Rattle.sp_typing.specs.Contexts.{Around}
 use Rattle.sp_typing.specs.Typing.{typed}
+use Rattle.sp_surroundings.specs.Decorators.{with_current, with_self}
+use Rattle.sp_surroundings.specs.Parameters.{with_parameters}
+use Rattle.sp_typing_stmts.specs.Scopes.{Local}
+use Rattle.sp_typing_stmts.specs.Visible.{with_locals}
 use Rattle.sp_around.specs.Arounds.{Facts, around}
 use Rattle.sp_body_rules.specs.Known.{Known}
 use Rattle.sp_body_rules.specs.ExprTests.{expr_tests}
@@ -85,6 +91,15 @@ ExpressionsBeginAtTokens =
 -- What stands round the expressions of a module is such.
 abbrev pub ModulesPlaceNames : Type 0
 ModulesPlaceNames = (tokens : List Token) (list : List Tree) (facts : Facts) (m : ℕ) → NamesPlaced tokens (around list facts m)
+
+-- So is what stands in it with `$$`, `self`, parameters or locals.
+abbrev pub InnerPlaceNames : Type 0
+InnerPlaceNames =
+    (tokens : List Token) (g : Around) → NamesPlaced tokens g
+    → ((t : Ty) (standing : Standing) → NamesPlaced tokens (with_current t standing g))
+    × ((t : Ty) (standing : Standing) → NamesPlaced tokens (with_self t standing g))
+    × ((first : ℕ) (hides : Bool) (ps : List Parameter) → NamesPlaced tokens (with_parameters first hides ps g))
+    × ((ls : List Local) → NamesPlaced tokens (with_locals ls g))
 
 -- The place of each of some tests begins at a token.
 abbrev pub tests_placed : List Token → List (Bool × Fault) → Bool
