@@ -1,6 +1,6 @@
 -- What stands round the expressions of a module places names where they are written.
 use Rattle.std.specs.Prelude.{ℕ, Bool, true, false, ◌&&◌, ◌||◌, ◌==◌, if◌then◌else◌, List, [], ◌∷◌, Option, Some, None, slice_get}
-use Rattle.std.proofs.Common.{◌≡◌, refl, subst}
+use Rattle.std.proofs.Common.{◌≡◌, zero, suc, get_or, refl, subst}
 use Rattle.std.proofs.lemmas.Bool.{and_parts, and_from}
 use Rattle.sp_base.specs.declared.places.Span.{Span}
 use Rattle.sp_lex.specs.declared.tokens.Token.{Token}
@@ -23,7 +23,7 @@ use Rattle.sp_typing.specs.declared.context.Callable.{Callable}
 use Rattle.sp_typing.specs.Typing.{or_else}
 use Rattle.sp_names.specs.Types.{type_in}
 use Rattle.sp_around.specs.Members.{UnitMember, unit_members, numbered, kinds_of, range_number, bitfield_width, bitfield_tree}
-use Rattle.sp_around.specs.Written.{names_type, unless, or_itself, misplaced_inside, misplaced_among, misplaced_in, written_in}
+use Rattle.sp_around.specs.Written.{name_span, names_type, unless, or_itself, misplaced_inside, misplaced_among, misplaced_in, written_in}
 use Rattle.sp_typed.specs.declared.words.ManyOp.{ManyOp}
 use Rattle.sp_typed.specs.declared.words.ManyOp.TheVariants as many_is
 use Rattle.sp_typed.specs.Exprs.{Expr, exprs}
@@ -32,7 +32,7 @@ use Rattle.sp_names.specs.declared.sort.DeclSort.{DeclSort}
 use Rattle.sp_names.specs.declared.sort.DeclSort.TheVariants as sort_is
 use Rattle.sp_names.specs.declared.sort.Meaning.{Meaning}
 use Rattle.sp_names.specs.declared.sort.Meaning.TheVariants as meaning_is
-use Rattle.sp_names.specs.Declarations.{sort_at}
+use Rattle.sp_names.specs.Declarations.{list_of, sort_at}
 use Rattle.sp_names.specs.Names.{path_means}
 use Rattle.sp_words.specs.declared.methods.Method.{Method}
 use Rattle.sp_words.specs.declared.methods.Method.TheVariants as method_is
@@ -60,6 +60,23 @@ module _ (tokens : List Token) where
   tree_placed read.absent b = refl
   tree_placed (row ts) b = refl
 
+  -- a name of a path
+  part_begins : (ts : Trees) (k : ℕ) → all_begin_at tokens ts ≡ true → begins_at tokens (get_or (list_of ts) k read.absent) ≡ true
+  part_begins none zero b = refl
+  part_begins none (suc k) b = refl
+  part_begins (more t ts) zero b = (and_parts (begins_at tokens t) (all_begin_at tokens ts) b).0
+  part_begins (more t ts) (suc k) b = part_begins ts k (and_parts (begins_at tokens t) (all_begin_at tokens ts) b).1
+
+  no_part : (k : ℕ) → At (read.span_of (get_or [] k read.absent))
+  no_part zero = refl
+  no_part (suc k) = refl
+
+  name_placed : (path : Tree) (k : ℕ) → begins_at tokens path ≡ true → At (name_span path k)
+  name_placed (node form_is.Path span ts) k b = tree_placed (get_or (list_of ts) k read.absent) (part_begins ts k (and_parts (begins_token tokens span.from) (all_begin_at tokens ts) b).1)
+  name_placed (node _ span ts) k b = no_part k
+  name_placed (row ts) k b = no_part k
+  name_placed read.absent k b = no_part k
+
   type_leaf_placed : (o : Option Ty) → leaf_placed tokens (type_leaf o) ≡ true
   type_leaf_placed None = refl
   type_leaf_placed (Some (word word_is.Decoder)) = refl
@@ -71,12 +88,12 @@ module _ (tokens : List Token) where
   declared_placed list f constant span g sort_is.Function at = at
   declared_placed list f constant span g _ at = and_from (leaf_placed tokens (type_leaf (f g))) (is_placed tokens span) (type_leaf_placed (f g)) at
 
-  meaning_placed : (list : List Tree) (f : ℕ → Option Ty) (constant : ℕ → Ty) (span : Span) (path : Tree) (w : Meaning) → At span → holds p (meaning_at list f constant span path w) ≡ true
-  meaning_placed list f constant span path (meaning_is.Declaration g) at = declared_placed list f constant span g (sort_at list g) at
-  meaning_placed list f constant span path (meaning_is.LibraryEnum n) at = at
-  meaning_placed list f constant span path (meaning_is.Label owner label) at = at
-  meaning_placed list f constant span path meaning_is.Decoder at = at
-  meaning_placed list f constant span path (meaning_is.Nothing k) at = at
+  meaning_placed : (list : List Tree) (f : ℕ → Option Ty) (constant : ℕ → Ty) (span : Span) (path : Tree) (w : Meaning) → At span → begins_at tokens path ≡ true → holds p (meaning_at list f constant span path w) ≡ true
+  meaning_placed list f constant span path (meaning_is.Declaration g) at b = declared_placed list f constant span g (sort_at list g) at
+  meaning_placed list f constant span path (meaning_is.LibraryEnum n) at b = at
+  meaning_placed list f constant span path (meaning_is.Label owner label) at b = at
+  meaning_placed list f constant span path meaning_is.Decoder at b = at
+  meaning_placed list f constant span path (meaning_is.Nothing k) at b = and_from (is_placed tokens (name_span path k)) (is_placed tokens span) (name_placed path k b) at
 
   either_placed : (b : Bool) (s t : Span) → At s → At t → At (if b then s else t)
   either_placed true s t i j = i
@@ -85,7 +102,7 @@ module _ (tokens : List Token) where
   path_placed : (list : List Tree) (f : ℕ → Option Ty) (constant : ℕ → Ty) (m : ℕ) (span : Span) (path : Tree) → At span → begins_at tokens path ≡ true → holds p (path_at list f constant m span path) ≡ true
   path_placed list f constant m span path i j =
       let w = path_means list f m path in
-      meaning_placed list f constant (slice_of list span path w) path w (either_placed (means_value list w) span (read.span_of path) i (tree_placed path j))
+      meaning_placed list f constant (slice_of list span path w) path w (either_placed (means_value list w) span (read.span_of path) i (tree_placed path j)) j
 
   abbrev AllAt : List Expr → Type 0
   AllAt es = all_hold p (exprs es) ≡ true

@@ -29,6 +29,7 @@ use Rattle.sp_rules.specs.Faults.{at as fault_at}
 use Rattle.sp_body_rules.specs.Known.{Known}
 use Rattle.sp_body_rules.specs.Values.{knows, value_span, value_tests, wrong, object_tests, right_tests, condition_tests, misplaced_at, written_tests}
 use Rattle.sp_body_rules.specs.ExprTests.{leaf_tests, negates, takes_no_cast, one_op_tests, disagreeing, disagree, index_tests, two_op_tests, unlike, choice_tests, all_value_tests, element_tests, elements_tests, row_tests, entries_tests, map_tests, argument_tests, connects, call_tests, receiver_tests, method_tests, many_op_tests, expr_tests}
+use Rattle.sp_list_rules.specs.Names.{leaf_names, expr_names, exprs_names}
 use Rattle.sp_rule_laws.specs.Spans.{is_placed, option_placed, leaf_placed, one_placed, many_placed, op_placed, node_placed, tests_placed}
 
 module _ (tokens : List Token) where
@@ -216,6 +217,30 @@ module _ (tokens : List Token) where
     many_are (many_is.OfUnit method name) span es own at i = method_are (many_is.OfUnit method name) span es own at i
     many_are (many_is.OfSink method) span es own at i = method_are (many_is.OfSink method) span es own at i
     many_are many_is.NoCall span es own at i = uncalled_are span es i
+
+    -- names
+    leaf_named : (op : LeafOp) → leaf_placed tokens op ≡ true → Are (leaf_names m op)
+    leaf_named (leaf_is.Nothing name) i = single name i
+    leaf_named _ i = refl
+
+    mutual
+      pub names_are : (e : Expr) → holds p e ≡ true → Are (expr_names m e)
+      names_are (leaf h) i = leaf_named h.op (and_parts (leaf_placed tokens h.op) (is_placed tokens h.span) i).0
+      names_are (one h a) i = names_are a (and_parts (p (one h a)) (holds p a) i).1
+      names_are (two h a b) i =
+          let q = and_parts (holds p a) (holds p b) (and_parts (p (two h a b)) (holds p a && holds p b) i).1 in
+          joined (expr_names m a) (expr_names m b) (names_are a q.0) (names_are b q.1)
+      names_are (three h a b c) i =
+          let q = and_parts (holds p a) (holds p b && holds p c) (and_parts (p (three h a b c)) (holds p a && (holds p b && holds p c)) i).1 in
+          let r = and_parts (holds p b) (holds p c) q.1 in
+          joined (expr_names m a) (expr_names m b ++ expr_names m c) (names_are a q.0) (joined (expr_names m b) (expr_names m c) (names_are b r.0) (names_are c r.1))
+      names_are (many h es) i = all_names_are es (and_parts (p (many h es)) (all_hold p es) i).1
+
+      all_names_are : (es : Exprs) → all_hold p es ≡ true → Are (exprs_names m es)
+      all_names_are none i = refl
+      all_names_are (more e es) i =
+          let q = and_parts (holds p e) (all_hold p es) i in
+          joined (expr_names m e) (exprs_names m es) (names_are e q.0) (all_names_are es q.1)
 
     abbrev test : Expr → Bool
     test n = tests_placed tokens (expr_tests k m n)

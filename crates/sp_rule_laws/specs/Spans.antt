@@ -29,6 +29,7 @@ use Rattle.sp_typing_stmts.specs.Visible.{with_locals}
 use Rattle.sp_around.specs.Arounds.{Facts, around}
 use Rattle.sp_body_rules.specs.Known.{Known}
 use Rattle.sp_body_rules.specs.ExprTests.{expr_tests}
+use Rattle.sp_list_rules.specs.Names.{expr_names}
 use Rattle.sp_rule_laws.specs.Places.{begins_token, begins_at}
 
 -- whether a slice of the text begins at a token, or is the empty one at its front, where what stands for no tree is
@@ -43,9 +44,10 @@ option_placed tokens (Some span) = is_placed tokens span
 abbrev pub written_placed : List Token → Written → Bool
 written_placed tokens w = is_placed tokens w.span && option_placed tokens w.misplaced
 
--- The slices that a node tells beside its own: what is misplaced in a type that is written, a type behind `cast`, a member that there
+-- The slices that a node tells beside its own: a name that names nothing, what is misplaced in a type that is written, a type behind `cast`, a member that there
 -- isn't, the path behind `new`, and the name of a method of units.
 abbrev pub leaf_placed : List Token → LeafOp → Bool
+leaf_placed tokens (leaf_is.Nothing name) = is_placed tokens name
 leaf_placed tokens (leaf_is.Empty w) = option_placed tokens w.misplaced
 leaf_placed tokens _ = true
 
@@ -110,3 +112,8 @@ abbrev pub TestsBeginAtTokens : Type 0
 TestsBeginAtTokens =
     (tokens : List Token) (k : Known) (m : ℕ) (e : Expr) → IsTrue (holds (node_placed tokens) e)
     → IsTrue (list_all (λ n. tests_placed tokens (expr_tests k m n)) (nodes e))
+
+-- So is it told of each name in it that names nothing.
+abbrev pub NamesBeginAtTokens : Type 0
+NamesBeginAtTokens =
+    (tokens : List Token) (m : ℕ) (e : Expr) → IsTrue (holds (node_placed tokens) e) → IsTrue (tests_placed tokens (expr_names m e))

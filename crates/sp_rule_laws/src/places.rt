@@ -1,6 +1,6 @@
 // Where trees and typed expressions begin in the text. These functions do nothing.
 ghost use Rattle.sp_rule_laws.specs.Places.{TreesBeginAtTokens, ModulesBeginAtTokens};
-ghost use Rattle.sp_rule_laws.specs.Spans.{ExpressionsBeginAtTokens, InnerPlaceNames, ModulesPlaceNames, TestsBeginAtTokens};
+ghost use Rattle.sp_rule_laws.specs.Spans.{ExpressionsBeginAtTokens, InnerPlaceNames, ModulesPlaceNames, NamesBeginAtTokens, TestsBeginAtTokens};
 
 /// Each node of a tree that is built of a run of tokens begins where one of them begins, and so does each node of a module's tree:
 /// no place that is told of a tree lies between tokens, or behind the last.
@@ -18,7 +18,9 @@ pub fn expressions_begin_at_tokens()
     ensures inner { InnerPlaceNames }
 {}
 
-/// The place of each test at a node of an expression begins at a token, where the nodes of the expression do.
+/// The place of each test at a node of an expression begins at a token, where the nodes of the expression do, and so does that of
+/// each name in it that names nothing.
 pub fn tests_begin_at_tokens()
-    ensures { TestsBeginAtTokens }
+    ensures nodes { TestsBeginAtTokens }
+    ensures names { NamesBeginAtTokens }
 {}
