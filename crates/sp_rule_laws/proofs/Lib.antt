@@ -8,3 +8,5 @@ pub mod Openings
 pub mod Beginnings
 pub mod Typed
 pub mod Named
+pub mod Tested
+pub mod Inner

@@ -5,6 +5,7 @@ use Rattle.std.proofs.lemmas.Bool.{and_parts, and_from}
 use Rattle.sp_base.specs.declared.places.Span.{Span}
 use Rattle.sp_words.specs.declared.operators.BinaryOp.{BinaryOp}
 use Rattle.sp_words.specs.declared.operators.UnaryOp.{UnaryOp}
+use Rattle.sp_words.specs.declared.operators.UnaryOp.TheVariants as unary_is
 use Rattle.sp_ast.specs.Trees.{Tree, Trees, row, node, none, more}
 use Rattle.sp_ast.specs.Trees as read
 use Rattle.sp_ast.specs.declared.forms.Form.TheVariants as form_is
@@ -15,6 +16,7 @@ use Rattle.sp_types.specs.declared.words.Maker.TheVariants as maker_is
 use Rattle.sp_types.specs.Types.{Ty, Tys, word, made, same, widens}
 use Rattle.sp_typed.specs.declared.words.LeafOp.{LeafOp}
 use Rattle.sp_typed.specs.declared.words.LeafOp.TheVariants as leaf_is
+use Rattle.sp_typed.specs.declared.words.OneOp.{OneOp}
 use Rattle.sp_typed.specs.declared.words.OneOp.TheVariants as one_is
 use Rattle.sp_typed.specs.declared.words.TwoOp.TheVariants as two_is
 use Rattle.sp_typed.specs.declared.words.ManyOp.{ManyOp}
@@ -30,14 +32,15 @@ use Rattle.sp_typed.specs.Nodes.{holds, all_hold}
 use Rattle.sp_operands.specs.Operands.{unknown, boolean, key_of, first_type, sort_of, result_type, second_type}
 use Rattle.sp_operands.specs.Literals.{can_take, taken, is_negative, seen, literal_word}
 use Rattle.sp_operands.specs.Wholes.{row_type, map_type, tuple_type}
+use Rattle.sp_typing.specs.declared.places.Place.{Place}
 use Rattle.sp_typing.specs.declared.places.Place.TheVariants as place_is
 use Rattle.sp_typing.specs.declared.context.Member.{Member}
 use Rattle.sp_typing.specs.declared.context.Callable.{Callable}
 use Rattle.sp_typing.specs.Contexts.{Around}
-use Rattle.sp_typing.specs.Typing.{typed, typed_all, pairs_typed, name_of, one_at, size_type, cast_type, signed_type, unary_op, choice_type, call_of, widened, to_target, to_maybe, each_to, alike, agreeing, leading, led, leading_half, in_turn, unary_at, joined, is_membership, binary_at, choice_at, member_at, set_op, set_member_at, part_at, item_of, item_at, index_at, no_call, callee_op, call_by, call_at, method_of, started, new_by}
+use Rattle.sp_typing.specs.Typing.{typed, typed_all, pairs_typed, or_else, name_of, one_at, size_type, cast_type, signed_type, unary_op, choice_type, call_of, widened, to_target, to_maybe, each_to, alike, agreeing, leading, led, leading_half, in_turn, unary_at, joined, is_membership, binary_at, choice_at, member_at, set_op, set_member_at, part_at, item_of, item_at, index_at, no_call, callee_op, call_by, call_at, method_of, started, new_by}
 use Rattle.sp_lex.specs.declared.tokens.Token.{Token}
 use Rattle.sp_rule_laws.specs.Places.{begins_token, begins_at, all_begin_at}
-use Rattle.sp_rule_laws.specs.Spans.{is_placed, node_placed, NamesPlaced}
+use Rattle.sp_rule_laws.specs.Spans.{is_placed, option_placed, written_placed, one_placed, many_placed, op_placed, node_placed, NamesPlaced}
 
 or_second : (a b : Bool) → b ≡ true → (a || b) ≡ true
 or_second true b e = refl
@@ -60,12 +63,32 @@ module _ (tokens : List Token) (g : Around) (names : NamesPlaced tokens g) where
   tree_placed (row ts) b = refl
 
   -- the first node of what is placed
+  first_holds : (e : Expr) → holds p e ≡ true → p e ≡ true
+  first_holds (leaf h) i = i
+  first_holds (one h a) i = (and_parts (p (one h a)) (holds p a) i).0
+  first_holds (two h a b) i = (and_parts (p (two h a b)) (holds p a && holds p b) i).0
+  first_holds (three h a b c) i = (and_parts (p (three h a b c)) (holds p a && (holds p b && holds p c)) i).0
+  first_holds (many h es) i = (and_parts (p (many h es)) (all_hold p es) i).0
+
   first_placed : (e : Expr) → holds p e ≡ true → At (span_of e)
-  first_placed (leaf h) i = i
-  first_placed (one h a) i = (and_parts (p (one h a)) (holds p a) i).0
-  first_placed (two h a b) i = (and_parts (p (two h a b)) (holds p a && holds p b) i).0
-  first_placed (three h a b c) i = (and_parts (p (three h a b c)) (holds p a && (holds p b && holds p c)) i).0
-  first_placed (many h es) i = (and_parts (p (many h es)) (all_hold p es) i).0
+  first_placed e i = (and_parts (op_placed tokens e) (is_placed tokens (span_of e)) (first_holds e i)).1
+
+  -- slices that operators tell
+  unary_placed : (op : UnaryOp) → one_placed tokens (unary_op op) ≡ true
+  unary_placed unary_is.Not = refl
+  unary_placed unary_is.Negate = refl
+  unary_placed unary_is.Complement = refl
+
+  set_placed : (op : OneOp) (name : Span) → At name → one_placed tokens (set_op op name) ≡ true
+  set_placed (one_is.Field k) name i = refl
+  set_placed _ name i = i
+
+  else_placed : (a b : Option Span) → option_placed tokens a ≡ true → option_placed tokens b ≡ true → option_placed tokens (or_else a b) ≡ true
+  else_placed None b i j = j
+  else_placed (Some span) b i j = i
+
+  misplaced_placed : (place : Place) (t : Tree) → begins_at tokens t ≡ true → option_placed tokens (g.written place t).misplaced ≡ true
+  misplaced_placed place t b = (let w = g.written place t in (and_parts (is_placed tokens w.span) (option_placed tokens w.misplaced) (names.written place t b)).1)
 
   retyped_placed : (t : Ty) (e : Expr) → holds p e ≡ true → holds p (retyped t e) ≡ true
   retyped_placed t (leaf h) i = i
@@ -172,7 +195,7 @@ module _ (tokens : List Token) (g : Around) (names : NamesPlaced tokens g) where
 
   -- nodes
   unary_is_so : (span : Span) (op : UnaryOp) (e : Expr) → At span → Is e → Is (unary_at span op e)
-  unary_is_so span op e at i = one_is_so (record { span = span; ty = signed_type op e; op = unary_op op }) e at i
+  unary_is_so span op e at i = one_is_so (record { span = span; ty = signed_type op e; op = unary_op op }) e (and_from (one_placed tokens (unary_op op)) (is_placed tokens span) (unary_placed op) at) i
 
   joined_is : (span : Span) (op : BinaryOp) (a b : Expr) → At span → Is a → Is b → Is (joined span op a b)
   joined_is span op a b at i j = two_is_so (record { span = span; ty = result_type (sort_of op) (seen a) (seen b); op = two_is.Binary op }) a b at i j
@@ -191,13 +214,14 @@ module _ (tokens : List Token) (g : Around) (names : NamesPlaced tokens g) where
       let y = (agreeing a b).1 in
       three_is_so (record { span = span; ty = choice_type x y }) c x y at h q.0 q.1
 
-  found_is : (span name : Span) (o : Option Member) (e : Expr) → At span → Is e → Is (member_at span name o e)
-  found_is span name None e n i = one_is_so (record { span = span; ty = unknown; op = one_is.NoMember name }) e n i
-  found_is span name (Some x) e n i = one_is_so (record { span = span; ty = x.ty; op = x.op }) e n i
+  found_is : (span name : Span) (o : Option Member) (e : Expr) → At name → ((x : Member) → o ≡ Some x → one_placed tokens x.op ≡ true) → At span → Is e → Is (member_at span name o e)
+  found_is span name None e named own n i = one_is_so (record { span = span; ty = unknown; op = one_is.NoMember name }) e (and_from (is_placed tokens name) (is_placed tokens span) named n) i
+  found_is span name (Some x) e named own n i = one_is_so (record { span = span; ty = x.ty; op = x.op }) e (and_from (one_placed tokens x.op) (is_placed tokens span) (own x refl) n) i
 
-  set_found_is : (span name : Span) (o : Option Member) (e : Expr) → At span → Is e → Is (set_member_at span name o e)
-  set_found_is span name None e n i = one_is_so (record { span = span; ty = boolean; op = one_is.NoMember name }) e n i
-  set_found_is span name (Some x) e n i = one_is_so (record { span = span; ty = boolean; op = set_op x.op name }) e n i
+  set_found_is : (span name : Span) (o : Option Member) (e : Expr) → At name → At span → Is e → Is (set_member_at span name o e)
+  set_found_is span name None e named n i = one_is_so (record { span = span; ty = boolean; op = one_is.NoMember name }) e (and_from (is_placed tokens name) (is_placed tokens span) named n) i
+  set_found_is span name (Some x) e named n i =
+      one_is_so (record { span = span; ty = boolean; op = set_op x.op name }) e (and_from (one_placed tokens (set_op x.op name)) (is_placed tokens span) (set_placed x.op name named) n) i
 
   item_is : (span : Span) (o : Option Ty) (n : ℕ) (a i : Expr) → At span → Is a → Is i → Is (item_of span o n a i)
   item_is span None n a i is q r = two_is_so (record { span = span; ty = unknown; op = two_is.Index }) a i is q r
@@ -218,15 +242,15 @@ module _ (tokens : List Token) (g : Around) (names : NamesPlaced tokens g) where
   no_call_is : (span : Span) (callee : Expr) (es : List Expr) → At span → Is callee → AllAre es → Is (no_call span callee es)
   no_call_is span callee es is i j = many_is_so (record { span = span; ty = unknown; op = many_is.NoCall }) (callee ∷ es) is (more_are callee es i j)
 
-  call_of_is : (span : Span) (op : ManyOp) (t : Ty) (es : List Expr) → At span → AllAre es → Is (call_of g span op t es)
-  call_of_is span op t es is j = many_is_so (record { span = span; ty = t; op = op }) (each_to (g.target op unknown) 0 es) is (each_is (g.target op unknown) 0 es j)
+  call_of_is : (span : Span) (op : ManyOp) (t : Ty) (es : List Expr) → many_placed tokens op ≡ true → At span → AllAre es → Is (call_of g span op t es)
+  call_of_is span op t es own is j = many_is_so (record { span = span; ty = t; op = op }) (each_to (g.target op unknown) 0 es) (and_from (many_placed tokens op) (is_placed tokens span) own is) (each_is (g.target op unknown) 0 es j)
 
   type_call_is : (span : Span) (w : Word) (callee : Expr) (es : List Expr) → At span → Is callee → AllAre es → Is (call_by g span (callee_op (leaf_is.TypeName w)) callee es)
-  type_call_is span (word_is.Enum n) callee es is i j = call_of_is span (many_is.Convert n) (word (word_is.Enum n)) es is j
+  type_call_is span (word_is.Enum n) callee es is i j = call_of_is span (many_is.Convert n) (word (word_is.Enum n)) es refl is j
   type_call_is span _ callee es is i j = no_call_is span callee es is i j
 
   leaf_call_is : (span : Span) (op : LeafOp) (callee : Expr) (es : List Expr) → At span → Is callee → AllAre es → Is (call_by g span (callee_op op) callee es)
-  leaf_call_is span (leaf_is.Function n) callee es is i j = call_of_is span (many_is.Call n) (g.result n) es is j
+  leaf_call_is span (leaf_is.Function n) callee es is i j = call_of_is span (many_is.Call n) (g.result n) es refl is j
   leaf_call_is span (leaf_is.TypeName w) callee es is i j = type_call_is span w callee es is i j
   leaf_call_is span _ callee es is i j = no_call_is span callee es is i j
 
@@ -237,18 +261,18 @@ module _ (tokens : List Token) (g : Around) (names : NamesPlaced tokens g) where
   call_is span (three h c a b) es is i j = no_call_is span (three h c a b) es is i j
   call_is span (many h fs) es is i j = no_call_is span (many h fs) es is i j
 
-  new_is : (span path : Span) (o : Option NewOf) (callee : Expr) (es : List Expr) → At span → Is callee → AllAre es → Is (new_by g span path o callee es)
-  new_is span path None callee es is i j = no_call_is span callee es is i j
-  new_is span path (Some u) callee es is i j = call_of_is span (many_is.New u path) (word word_is.New) es is j
+  new_is : (span path : Span) (o : Option NewOf) (callee : Expr) (es : List Expr) → At path → At span → Is callee → AllAre es → Is (new_by g span path o callee es)
+  new_is span path None callee es named is i j = no_call_is span callee es is i j
+  new_is span path (Some u) callee es named is i j = call_of_is span (many_is.New u path) (word word_is.New) es named is j
 
-  method_is : (span member at : Span) (o : Option Callable) (object : Expr) (es : List Expr) → At span → At member → Is object → AllAre es → Is (method_of g span member at o object es)
-  method_is span member at None object es is inner i j =
+  method_is : (span member at : Span) (o : Option Callable) (object : Expr) (es : List Expr) → At at → ((x : Callable) → o ≡ Some x → many_placed tokens x.op ≡ true) → At span → At member → Is object → AllAre es → Is (method_of g span member at o object es)
+  method_is span member at None object es named own is inner i j =
       let callee = one_at member unknown (one_is.NoMember at) object in
-      no_call_is span callee es is (one_is_so (record { span = member; ty = unknown; op = one_is.NoMember at }) object inner i) j
-  method_is span member at (Some x) object es is inner i j =
+      no_call_is span callee es is (one_is_so (record { span = member; ty = unknown; op = one_is.NoMember at }) object (and_from (is_placed tokens at) (is_placed tokens member) named inner) i) j
+  method_is span member at (Some x) object es named own is inner i j =
       let taken_as = each_to (g.target x.op (seen object)) 0 es in
       let left = g.left_out x.op span (length es) in
-      many_is_so (record { span = span; ty = x.ty; op = x.op }) (object ∷ (taken_as ++ left)) is (more_are object (taken_as ++ left) i (both_are taken_as left (each_is (g.target x.op (seen object)) 0 es j) (names.left_out x.op span (length es) is)))
+      many_is_so (record { span = span; ty = x.ty; op = x.op }) (object ∷ (taken_as ++ left)) (and_from (many_placed tokens x.op) (is_placed tokens span) (own x refl) is) (more_are object (taken_as ++ left) i (both_are taken_as left (each_is (g.target x.op (seen object)) 0 es j) (names.left_out x.op span (length es) is)))
 
   both_placed : (t u : Tree) (ts : Trees) → all_begin_at tokens (more t (more u ts)) ≡ true → (begins_at tokens t ≡ true) × (begins_at tokens u ≡ true) × (all_begin_at tokens ts ≡ true)
   both_placed t u ts b =
@@ -265,7 +289,7 @@ module _ (tokens : List Token) (g : Around) (names : NamesPlaced tokens g) where
     pub typed_placed : (t : Tree) → begins_at tokens t ≡ true → holds p (typed g t) ≡ true
     typed_placed (node (form_is.Expr expr_is.Path) span (more path none)) w =
         let o = root span (more path none) w in
-        names.path span path o.0 (tree_placed path (and_parts (begins_at tokens path) true o.1).0)
+        names.path span path o.0 (and_parts (begins_at tokens path) true o.1).0
     typed_placed (node (form_is.Expr expr_is.Itself) span none) w = names.itself span (root span none w).0
     typed_placed (node (form_is.Expr expr_is.Current) span none) w = names.current span (root span none w).0
     typed_placed (node (form_is.Expr expr_is.True) span none) w = (root span none w).0
@@ -291,19 +315,28 @@ module _ (tokens : List Token) (g : Around) (names : NamesPlaced tokens g) where
         let ps = pairs_typed g ts in
         let es = in_turn (leading_half false ps) (leading_half true ps) ps in
         many_is_so (record { span = span; ty = map_type es; op = many_is.Map }) es o.0 (turn_are (leading_half false ps) (leading_half true ps) ps (pairs_are ts o.1))
-    typed_placed (node (form_is.Expr expr_is.EmptyVector) span (more t none)) w = (root span (more t none) w).0
-    typed_placed (node (form_is.Expr expr_is.EmptySet) span (more t none)) w = (root span (more t none) w).0
-    typed_placed (node (form_is.Expr expr_is.EmptyMap) span (more s (more t none))) w = (root span (more s (more t none)) w).0
+    typed_placed (node (form_is.Expr expr_is.EmptyVector) span (more t none)) w =
+        let o = root span (more t none) w in
+        and_from (option_placed tokens (g.written place_is.Value t).misplaced) (is_placed tokens span) (misplaced_placed place_is.Value t (and_parts (begins_at tokens t) true o.1).0) o.0
+    typed_placed (node (form_is.Expr expr_is.EmptySet) span (more t none)) w =
+        let o = root span (more t none) w in
+        and_from (option_placed tokens (g.written place_is.Key t).misplaced) (is_placed tokens span) (misplaced_placed place_is.Key t (and_parts (begins_at tokens t) true o.1).0) o.0
+    typed_placed (node (form_is.Expr expr_is.EmptyMap) span (more s (more t none))) w =
+        let o = root span (more s (more t none)) w in
+        let q = both_placed s t none o.1 in
+        let first = (g.written place_is.Key s).misplaced in
+        let second = (g.written place_is.Value t).misplaced in
+        and_from (option_placed tokens (or_else first second)) (is_placed tokens span) (else_placed first second (misplaced_placed place_is.Key s q.0) (misplaced_placed place_is.Value t q.1)) o.0
     typed_placed (node (form_is.Expr (expr_is.TypedNumber int)) span (more n none)) w = (root span (more n none) w).0
     typed_placed (node (form_is.Expr expr_is.Cast) span (more t (more e none))) w =
         let o = root span (more t (more e none)) w in
-        one_is_so (record { span = span; ty = cast_type (g.type_in place_is.Whole t); op = one_is.Cast (g.written place_is.Whole t) }) (typed g e) o.0 (typed_placed e (both_placed t e none o.1).1)
+        one_is_so (record { span = span; ty = cast_type (g.type_in place_is.Whole t); op = one_is.Cast (g.written place_is.Whole t) }) (typed g e) (and_from (written_placed tokens (g.written place_is.Whole t)) (is_placed tokens span) (names.written place_is.Whole t (both_placed t e none o.1).0) o.0) (typed_placed e (both_placed t e none o.1).1)
     typed_placed (node (form_is.Expr expr_is.New) span (more path (more (row ts) none))) w =
         let o = root span (more path (more (row ts) none)) w in
         let q = both_placed path (row ts) none o.1 in
         let callee = g.named (read.span_of path) path in
         let path_at = tree_placed path q.0 in
-        new_is span (read.span_of path) (started callee) callee (typed_all g ts) o.0 (names.named (read.span_of path) path path_at path_at) (all_are ts q.1)
+        new_is span (read.span_of path) (started callee) callee (typed_all g ts) path_at o.0 (names.named (read.span_of path) path path_at q.0) (all_are ts q.1)
     typed_placed (node (form_is.Expr expr_is.Size) span (more e none)) w =
         let o = root span (more e none) w in
         one_is_so (record { span = span; ty = size_type; op = one_is.Size }) (typed g e) o.0 (typed_placed e (and_parts (begins_at tokens e) true o.1).0)
@@ -313,10 +346,10 @@ module _ (tokens : List Token) (g : Around) (names : NamesPlaced tokens g) where
         choice_is span (typed g c) (typed g x) (typed g y) o.0 (typed_placed c q.0) (typed_placed x q.1) (typed_placed y (and_parts (begins_at tokens y) true q.2).0)
     typed_placed (node (form_is.Expr expr_is.Member) span (more e (more name none))) w =
         let o = root span (more e (more name none)) w in
-        found_is span (read.span_of name) (g.member (seen (typed g e)) (name_of name)) (typed g e) o.0 (typed_placed e (both_placed e name none o.1).0)
+        found_is span (read.span_of name) (g.member (seen (typed g e)) (name_of name)) (typed g e) (tree_placed name (both_placed e name none o.1).1) (λ x found. names.member (seen (typed g e)) (name_of name) x found) o.0 (typed_placed e (both_placed e name none o.1).0)
     typed_placed (node (form_is.Expr expr_is.SetMember) span (more e (more name none))) w =
         let o = root span (more e (more name none)) w in
-        set_found_is span (read.span_of name) (g.member (seen (typed g e)) (name_of name)) (typed g e) o.0 (typed_placed e (both_placed e name none o.1).0)
+        set_found_is span (read.span_of name) (g.member (seen (typed g e)) (name_of name)) (typed g e) (tree_placed name (both_placed e name none o.1).1) o.0 (typed_placed e (both_placed e name none o.1).0)
     typed_placed (node (form_is.Expr expr_is.Index) span (more e (more i none))) w =
         let o = root span (more e (more i none)) w in
         let q = both_placed e i none o.1 in
@@ -326,7 +359,7 @@ module _ (tokens : List Token) (g : Around) (names : NamesPlaced tokens g) where
         let q = both_placed (node (form_is.Expr expr_is.Member) member (more e (more name none))) (row ts) none o.1 in
         let r = and_parts (begins_token tokens member.from) (all_begin_at tokens (more e (more name none))) q.0 in
         let place = read.span_of name in
-        method_is span member place (g.method (seen (typed g e)) (name_of name) place (map seen (typed_all g ts))) (typed g e) (typed_all g ts) o.0 (begun member r.0) (typed_placed e (both_placed e name none r.1).0) (all_are ts q.1)
+        method_is span member place (g.method (seen (typed g e)) (name_of name) place (map seen (typed_all g ts))) (typed g e) (typed_all g ts) (tree_placed name (both_placed e name none r.1).1) (λ x found. names.method (seen (typed g e)) (name_of name) place (map seen (typed_all g ts)) x found (tree_placed name (both_placed e name none r.1).1)) o.0 (begun member r.0) (typed_placed e (both_placed e name none r.1).0) (all_are ts q.1)
     typed_placed (node (form_is.Expr expr_is.Call) span (more callee (more (row ts) none))) w =
         let o = root span (more callee (more (row ts) none)) w in
         let q = both_placed callee (row ts) none o.1 in

@@ -1,5 +1,6 @@
 use Rattle.sp_rule_laws.proofs.Typed.{typed_placed}
 use Rattle.sp_rule_laws.proofs.Named.{module_places}
+use Rattle.sp_rule_laws.proofs.Inner.{current_places, self_places, parameters_place, locals_place}
 use Rattle.sp_rule_laws.proofs.places.expressions_begin_at_tokens.Goals as goal
 
 pub returns-clause-expressions : goal.returns-clause-expressions
@@ -7,3 +8,6 @@ returns-clause-expressions c = λ tokens g t names b. typed_placed tokens g name
 
 pub returns-clause-names : goal.returns-clause-names
 returns-clause-names c = module_places
+
+pub returns-clause-inner : goal.returns-clause-inner
+returns-clause-inner c = λ tokens g names. (current_places tokens g names, self_places tokens g names, parameters_place tokens g names, locals_place tokens g names)
