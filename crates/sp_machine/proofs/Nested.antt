@@ -35,7 +35,7 @@ use Rattle.sp_machine.specs.Safe.{IsSafe}
 use Rattle.sp_machine.specs.Ran.{Advanced}
 use Rattle.sp_machine.specs.InPlace.{IsStored, IsSlot, IsPut, behind, with_slot}
 use Rattle.sp_machine.specs.Inside.{is_push, IsPutInside, HasPlace, IsOpened, IsShut, CanPut}
-use Rattle.sp_machine.proofs.InPlace.{set_twice, given_up}
+use Rattle.sp_machine.proofs.InPlace.{set_twice, length_set, given_up}
 use Rattle.sp_machine.proofs.Safety.{safe_can}
 use Rattle.sp_machine.proofs.Spots.{past_error, with_item_at}
 use Rattle.sp_machine.proofs.Running.{safe_on, advanced, advanced_put, further_on}
@@ -73,11 +73,6 @@ entry_by es k v x (Some e) h = put_twice entry_key (k, x) (e.0, v) es (found_sam
 
 entry_twice : (es : List (Val × Val)) (k v x : Val) → with_key entry_key (k, x) (with_value_in es k v) ≡ with_key entry_key (k, x) es
 entry_twice es k v x = entry_by es k v x (found entry_key k es) refl
-
-length_set : {A : Type 0} (xs : List A) (n : ℕ) (x : A) → length (slice_set xs n x) ≡ length xs
-length_set [] n x = refl
-length_set (y ∷ ys) zero x = refl
-length_set (y ∷ ys) (suc n) x = ap (λ m. suc m) (length_set ys n x)
 
 -- a container takes the same at a key, whatever it has there
 item_twice : (vs : Vals) (n : ℕ) (h x : Val) → (if nat_lt n (length (list_of (vals_of (slice_set (list_of vs) n h)))) then Ok (vector (vals_of (slice_set (list_of (vals_of (slice_set (list_of vs) n h))) n x))) else Err Index)
@@ -120,14 +115,14 @@ keyed_answers _ _ s x = absurd s
 
 -- an item or a value was taken out, and the slot gave up its own value; or there is no such place
 pub opened_within : (c k : Val) (i : ℕ) (slot : Slot) (before after : State) (emptied : Val) → IsSpot c k (Within i) → IsPlace emptied k → ((x : Val) → with_at emptied k x ≡ with_at c k x)
-    → IsSlot slot after → after ≡ with_slot slot void before → IsOpened c k slot before after emptied
-opened_within c k i slot before after emptied s place same there e =
-    record { place = place; same = same; answers = within_answers c k i s; there = there; stores = λ v. ap (λ st. with_slot slot v st) e ∙ given_up slot v void before }
+    → IsSlot slot before → IsSlot slot after → after ≡ with_slot slot void before → IsOpened c k slot before after emptied
+opened_within c k i slot before after emptied s place same was there e =
+    record { place = place; same = same; answers = within_answers c k i s; was = was; there = there; stores = λ v. ap (λ st. with_slot slot v st) e ∙ given_up slot v void before }
 
 pub opened_keyed : (c k : Val) (slot : Slot) (before after : State) (emptied : Val) → IsSpot c k Keyed → IsPlace emptied k → ((x : Val) → with_at emptied k x ≡ with_at c k x)
-    → IsSlot slot after → after ≡ with_slot slot void before → IsOpened c k slot before after emptied
-opened_keyed c k slot before after emptied s place same there e =
-    record { place = place; same = same; answers = keyed_answers c k s; there = there; stores = λ v. ap (λ st. with_slot slot v st) e ∙ given_up slot v void before }
+    → IsSlot slot before → IsSlot slot after → after ≡ with_slot slot void before → IsOpened c k slot before after emptied
+opened_keyed c k slot before after emptied s place same was there e =
+    record { place = place; same = same; answers = keyed_answers c k s; was = was; there = there; stores = λ v. ap (λ st. with_slot slot v st) e ∙ given_up slot v void before }
 
 pub shut : (c k : Val) → IsSpot c k Past → IsShut c k
 shut c k s = λ x. past_error c k x s
@@ -138,7 +133,7 @@ put_open : (c k : Val) (slot : Slot) (before mid : State) (emptied v : Val) (at 
 put_open c k slot before mid emptied v at vs fs after is h =
     let t = is.answers v in
     let g : IsPut slot at (Goes [] (At at (t.0 ∷ vs) fs mid)) after = subst (λ r. IsPut slot at (put r at vs fs mid) after) (is.same v ∙ t.1) h in
-    subst (λ r. IsPut slot at (put r at vs fs before) after) (sym t.1) (g.0, g.1 ∙ ap (λ st. At (behind slot at) vs fs st) (is.stores t.0))
+    subst (λ r. IsPut slot at (put r at vs fs before) after) (sym t.1) (g.0, is.was, g.2 ∙ ap (λ st. At (behind slot at) vs fs st) (is.stores t.0))
 
 -- and where there is no such place, the put is an error
 put_shut : (c k : Val) (slot : Slot) (v : Val) (at : ℕ) (vs : List Val) (fs : List Frame) (st : State) → IsShut c k

@@ -161,11 +161,11 @@ module _ (p : Plain) (w : Held) (is_ended : Bool) where
   advanced_put turns slot at old before after (Goes [] (At pc (v ∷ vs) fs st)) safe e stored put =
       let there = At (behind slot at) vs fs (with_slot slot v st) in
       let one = subst (λ q. step p (reads_of w is_ended) before ≡ Goes [] (At q (v ∷ vs) fs st)) put.0 e in
-      let rest = stores p (reads_of w is_ended) slot at v vs fs st stored in
+      let rest = stores p (reads_of w is_ended) slot at v vs fs st stored put.1 in
       let fewer = falls_on turns before (At at (v ∷ vs) fs st) [] safe one in
       let h = came_along turns old (At at (v ∷ vs) fs st) there [] (safe_on before (At at (v ∷ vs) fs st) [] safe one) rest in
       let less = h.1 in
-      subst (λ d. Advanced p (reads_of w is_ended) w old old before d stop_is.GoesOn) (sym put.1) (record { events = []; told = sym (append-nil old); comes = next one rest; safe = h.0 }, omega (arith, fewer, less))
+      subst (λ d. Advanced p (reads_of w is_ended) w old old before d stop_is.GoesOn) (sym put.2) (record { events = []; told = sym (append-nil old); comes = next one rest; safe = h.0 }, omega (arith, fewer, less))
   advanced_put turns slot at old before after (Goes [] (Ending how fs st)) safe e stored put =
       subst (λ d. Advanced p (reads_of w is_ended) w old old before d stop_is.GoesOn) (sym put) (advanced turns stop_is.GoesOn old old before (Ending how fs st) safe (subst (Does stop_is.GoesOn old old before (Ending how fs st)) (sym e) (sym (append-nil old), refl)))
   advanced_put turns slot at old before after _ safe e stored put = absurd put

@@ -46,6 +46,7 @@ pub record IsOpened (c k : Val) (slot : Slot) (before after : State) (emptied : 
   pub place : IsPlace emptied k
   pub same : (x : Val) → with_at emptied k x ≡ with_at c k x
   pub answers : (x : Val) → (w : Val) × (with_at c k x ≡ Ok w)
+  pub was : IsSlot slot before
   pub there : IsSlot slot after
   pub stores : (v : Val) → with_slot slot v after ≡ with_slot slot v before
 

@@ -5,6 +5,7 @@ ghost use Rattle.sp_words.specs.Methods.{arity, changes};
 ghost use Rattle.sp_words.specs.declared.methods.Method.TheVariants as of;
 ghost use Rattle.sp_words.specs.declared.operators.BinaryOp.TheVariants as is_op;
 ghost use Rattle.sp_value.specs.Val.{void};
+ghost use Rattle.sp_value.specs.Parts.{instance_in};
 ghost use Rattle.sp_value.specs.Changes.{IsSet, IsKeyed, IsVector, items_of, with_member, without_key};
 ghost use Rattle.sp_operators.specs.Operands.{are_joined, takes};
 ghost use Rattle.sp_operators.specs.Operators.{added, binary};
@@ -17,7 +18,8 @@ ghost use Rattle.sp_code.specs.Machine.{At, Goes, act, put, put_all};
 ghost use Rattle.sp_code.specs.Programs.{plain_of};
 ghost use Rattle.sp_machine.specs.declared.machine.Mode.TheVariants.{Running};
 ghost use Rattle.sp_machine.specs.Plain.{state_of, plain, reads_of};
-ghost use Rattle.sp_machine.specs.InPlace.{IsStored, IsSlot, IsPut, behind, with_slot, may_change};
+ghost use Rattle.sp_machine.specs.InPlace.{IsStored, IsSlot, IsPut, behind, load_of, owner_of, with_slot, may_change};
+ghost use Rattle.sp_machine.specs.declared.in_place.Owner.TheVariants as owner_is;
 
 use crate::machine::Machine;
 use crate::rows::{Spot, spot_of};
@@ -29,12 +31,23 @@ use sp_value::{Level, Value};
 use sp_window::Window;
 use sp_words::{BinaryOp, Method};
 
+/// Whose a member is.
+#[derive(Clone, Copy)]
+pub(crate) enum Owner {
+    /// the unit at hand
+    Own,
+    /// the unit that a local names
+    Local(u32),
+    /// the unit that a parameter of the unit at hand names
+    Parameter(u32),
+}
+
 /// Where code stores a value.
 #[derive(Clone, Copy)]
 pub(crate) enum Slot {
     Local(u32),
-    /// a member of the unit at hand
-    Member(u32),
+    /// a unit's member
+    Member(Owner, u32),
 }
 
 /// Whether an instruction can change a container, or joins bytes or texts.
@@ -109,10 +122,23 @@ impl Machine {
     {
         match p.code.get(at) {
             Some(Instr::Store(l)) => self.local_slot(*l),
-            Some(Instr::SelfUnit) => match p.code.get(at + 1) {
-                Some(Instr::SetField(m)) => self.member_slot(*m),
-                _ => None,
-            },
+            Some(Instr::SelfUnit) => self.member_from(p, at, Owner::Own),
+            Some(Instr::Load(l)) => self.member_from(p, at, Owner::Local(*l)),
+            Some(Instr::Param(n)) => self.member_from(p, at, Owner::Parameter(*n)),
+            _ => None,
+        }
+    }
+
+    /// The slot of an owner's member in which the code stores, which gives the owner at this address.
+    #[inline(always)]
+    fn member_from(&self, p: &Program, at: usize, owner: Owner) -> Option<Slot>
+        requires within { at < length p.now.code.items }
+        requires owner { slice_get p.now.code.items at ≡ Some (load_of owner) }
+        ensures { IfSome result (λ slot. IsStored p.now.code.items at slot × IsSlot slot (state_of self.now)
+            × (at + 1 + 1 < 2 ^ 64)) }
+    {
+        match p.code.get(at + 1) {
+            Some(Instr::SetField(m)) => self.member_slot(owner, *m),
             _ => None,
         }
     }
@@ -128,19 +154,35 @@ impl Machine {
         }
     }
 
+    /// The number of the unit whose a member is.
     #[inline(always)]
-    fn member_slot(&self, m: u32) -> Option<Slot>
-        ensures { IfSome result (λ slot. (slot ≡ slot_is.Member m) × IsSlot slot (state_of self.now)) }
+    fn unit_of(&self, owner: Owner) -> Option<usize>
+        ensures { result ≡ instance_in (owner_of owner (state_of self.now)) }
     {
-        if self.own < self.instances.len()
-            && (m as usize) < self.instances[self.own].member_count()
-        {
-            Some(Slot::Member(m))
-        } else {
-            None
+        match owner {
+            Owner::Own => Some(self.own),
+            Owner::Local(l) => match self.locals.get(l as usize) {
+                Some(local) => local.as_unit(),
+                None => None,
+            },
+            Owner::Parameter(n) => self.parameter_unit(n),
         }
     }
 
+    #[tactic(auto, using(crate::proofs::InPlace::is_there))]
+    #[inline(always)]
+    fn member_slot(&self, owner: Owner, m: u32) -> Option<Slot>
+        ensures { IfSome result (λ slot. (slot ≡ slot_is.Member owner m) × IsSlot slot (state_of self.now)) }
+    {
+        match self.unit_of(owner) {
+            Some(n) if n < self.instances.len() && (m as usize) < self.instances[n].member_count() => {
+                Some(Slot::Member(owner, m))
+            }
+            _ => None,
+        }
+    }
+
+    #[tactic(auto, using(crate::proofs::InPlace::slot_stays, crate::proofs::InPlace::has_number, crate::proofs::InPlace::member_there, crate::proofs::InPlace::sets_there))]
     #[inline(always)]
     pub(crate) fn set_slot(&mut self, slot: Slot, value: Value)
         requires there { IsSlot slot (state_of self.old) }
@@ -150,7 +192,10 @@ impl Machine {
     {
         match slot {
             Slot::Local(l) => self.locals[l as usize] = value,
-            Slot::Member(m) => self.instances[self.own].set_member(m as usize, value),
+            Slot::Member(owner, m) => match self.unit_of(owner) {
+                Some(n) => self.instances[n].set_member(m as usize, value),
+                None => unreachable!(),
+            },
         }
     }
 
@@ -166,7 +211,7 @@ impl Machine {
         self.set_slot(slot, value);
         match slot {
             Slot::Local(_) => self.pc += 2,
-            Slot::Member(_) => self.pc += 3,
+            Slot::Member(_, _) => self.pc += 3,
         }
     }
 

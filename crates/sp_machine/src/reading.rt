@@ -95,6 +95,7 @@ impl Machine {
     }
 
     /// Gives the integer at the place, whose bytes are there, and stores it at once.
+    #[tactic(auto, using(crate::proofs::InPlace::slot_behind))]
     #[inline(always)]
     pub(crate) fn read_in(
         &mut self,

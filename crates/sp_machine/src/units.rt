@@ -2,6 +2,7 @@
 ghost use Rattle.std.specs.Prelude.{◌≡◌, ◌+◌, ◌-◌, ◌<◌, ◌^◌, ◌∷◌, [], length, OnOk, IfOk, is_some};
 ghost use Rattle.sp_numbers.specs.declared.width.Width.TheVariants.{W64};
 ghost use Rattle.sp_value.specs.Val.{bool, uint, unit};
+ghost use Rattle.sp_value.specs.Parts.{instance_in};
 ghost use Rattle.sp_running.specs.States.{instance_of, parameter_of, member_of, put_member, start_of};
 ghost use Rattle.sp_code.specs.Can.{top, second, below_top, HasMember, IsInstance};
 ghost use Rattle.sp_code.specs.Machine.{At, push_set, landed};
@@ -25,6 +26,14 @@ impl Machine {
     {
         let value = copy_of(&self.instances[self.own].parameters()[n as usize])?;
         self.push_next(value)
+    }
+
+    /// The number of the unit that a parameter of the unit at hand names.
+    pub(crate) fn parameter_unit(&self, n: u32) -> Option<usize>
+        ensures { result ≡ instance_in (parameter_of (state_of self.now) n) }
+    {
+        let own = self.instances.get(self.own)?;
+        own.parameters().get(n as usize)?.as_unit()
     }
 
     #[inline(always)]
