@@ -1,5 +1,5 @@
 -- What a container takes at a key where its value was taken out, and the steps that change a container inside another one.
-use Rattle.std.proofs.Common.{◌≡◌, ℕ, zero, suc, ◌+◌, ◌<◌, ◌≤◌, List, [], ◌∷◌, length, Option, Some, None, Ok, Err, refl, sym, ap, ◌∙◌, subst, append-nil, arith}
+use Rattle.std.proofs.Common.{◌≡◌, ℕ, ◌+◌, ◌<◌, ◌≤◌, List, [], ◌∷◌, length, Option, Some, None, Ok, Err, refl, sym, ap, ◌∙◌, subst, append-nil, arith}
 use Rattle.std.specs.Prelude.{Bool, true, false, slice_get, slice_set, nat_lt, if◌then◌else◌}
 use Rattle.std.specs.Option.{option_map_or}
 use Rattle.std.specs.Ordering.{match_ordering}
@@ -22,12 +22,13 @@ use Rattle.sp_running.specs.States.{Reading, State, error_at, Failed}
 use Rattle.sp_running.specs.Reads.{Ask, Read}
 use Rattle.sp_running.specs.Values.{with_at}
 use Rattle.sp_code.specs.declared.instr.Instr.TheVariants.{SetIndex, AddKey, DeleteKey, Lib}
-use Rattle.sp_code.specs.Can.{below_top, IsPlace}
+use Rattle.sp_code.specs.Can.{top, second, third, below_top, IsPlace}
 use Rattle.sp_code.specs.Machine.{Frame, Plain, Config, At, Ending, Next, Goes, Waits, Over, step, act, put}
 use Rattle.sp_code.specs.Turns.{Turns}
 use Rattle.sp_machine.specs.declared.machine.Machine.{Machine}
 use Rattle.sp_machine.specs.declared.machine.Stop.TheVariants as stop_is
 use Rattle.sp_machine.specs.declared.in_place.Slot.{Slot}
+use Rattle.sp_machine.specs.declared.rows.Spot.{Spot}
 use Rattle.sp_machine.specs.declared.rows.Spot.TheVariants.{Within, Past, Keyed}
 use Rattle.sp_machine.specs.Plain.{state_of, reads_of, Does}
 use Rattle.sp_machine.specs.Rows.{IsSpot}
@@ -156,11 +157,33 @@ put_behind m n slot v w k c ws vs emptied after same e is opened h =
     (subst (λ x. IsPut slot (m.pc + 1 + 1) (put (with_at emptied k x) (m.pc + 1 + 1) vs m.stack (state_of n)) after) is
     (subst (λ q. IsPut slot (q.pc + 1 + 1) (put (with_at emptied k w) (q.pc + 1 + 1) q.operands q.stack (state_of n)) after) same h))
 
+-- so is a put in a container that has a place for the key
+pub put_placed : (m n : Machine) (slot : Slot) (inner i x v k c : Val) (ops vs : List Val) (emptied : Val) (after : Config) → n ≡ record m { operands = vs; locals = n.locals; instances = n.instances }
+    → ops ≡ x ∷ i ∷ inner ∷ k ∷ c ∷ vs → with_at inner i x ≡ Ok v → IsOpened c k slot (state_of m) (state_of n) emptied
+    → IsPut slot (n.pc + 1 + 1) (put (with_at emptied k v) (n.pc + 1 + 1) n.operands n.stack (state_of n)) after
+    → IsPutInside slot (m.pc + 1) (put (with_at (third ops) (second ops) (top ops)) (m.pc + 1) (below_top (below_top (below_top ops))) m.stack (state_of m)) after
+put_placed m n slot inner i x v k c ops vs emptied after same e taken opened h =
+    subst (λ l. IsPutInside slot (m.pc + 1) (put (with_at (third l) (second l) (top l)) (m.pc + 1) (below_top (below_top (below_top l))) m.stack (state_of m)) after) (sym e)
+    (subst (λ r. IsPutInside slot (m.pc + 1) (put r (m.pc + 1) (k ∷ c ∷ vs) m.stack (state_of m)) after) (sym taken)
+    (put_behind m n slot v v k c (k ∷ c ∷ vs) vs emptied after same refl refl opened h))
+
 pub fails_inside : (slot : Slot) (at : ℕ) (v k c : Val) (ws vs : List Val) (fs : List Frame) (st : State) (after : Config) → ws ≡ k ∷ c ∷ vs → IsShut c k
     → after ≡ Ending (Failed (error_at Index st)) fs st → IsPutInside slot at (Goes [] (At at (v ∷ ws) fs st)) after
 fails_inside slot at v k c ws vs fs st after e is same =
     subst (λ l. IsPutInside slot at (Goes [] (At at (v ∷ l) fs st)) after) (sym e)
     (refl, subst (λ d. IsPut slot (at + 1) (put (with_at c k v) (at + 1) vs fs st) d) (sym same) (put_shut c k slot v (at + 1) vs fs st is))
+
+-- a container that has a place for a key takes a value there
+taken_at : (c k x : Val) (spot : Spot) → IsSpot c k spot → (spot ≡ Past → ⊥) → (w : Val) × (with_at c k x ≡ Ok w)
+taken_at c k x Past s past = absurd (past refl)
+taken_at c k x (Within i) s past = within_answers c k i s x
+taken_at c k x Keyed s past = keyed_answers c k s x
+
+-- so what is put there in turn has a place below
+pub has_place : (c k x : Val) (spot : Spot) (at : ℕ) (vs : List Val) (fs : List Frame) (st : State) → IsSpot c k spot → (spot ≡ Past → ⊥) → CanPut at (put (with_at c k x) at vs fs st) → HasPlace vs
+has_place c k x spot at vs fs st s past can =
+    let taken = taken_at c k x spot s past in
+    subst (λ r. CanPut at (put r at vs fs st)) taken.1 can refl
 
 module _ (p : Plain) (reads : Reading → Ask → Read) where
   -- what each of these instructions needs below its own operands

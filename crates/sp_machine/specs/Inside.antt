@@ -7,19 +7,21 @@ use Rattle.sp_value.specs.Val.{Val}
 use Rattle.sp_running.specs.States.{State}
 use Rattle.sp_running.specs.Values.{with_at}
 use Rattle.sp_code.specs.declared.instr.Instr.{Instr}
-use Rattle.sp_code.specs.declared.instr.Instr.TheVariants.{Lib, AddKey, DeleteKey}
+use Rattle.sp_code.specs.declared.instr.Instr.TheVariants.{Lib, SetIndex, AddKey, DeleteKey}
 use Rattle.sp_code.specs.Can.{top, second, IsPlace}
 use Rattle.sp_code.specs.Machine.{Next, Goes, Config, At, Ending, put}
 use Rattle.sp_machine.specs.declared.in_place.Slot.{Slot}
 use Rattle.sp_machine.specs.InPlace.{IsSlot, with_slot, IsPut}
 
--- an instruction that changes a container and gives nothing beside it
+-- a method that changes a container and gives nothing beside it
 abbrev pub is_push : Method → Bool
 is_push PushBack = true
 is_push m = false
 
+-- an instruction that gives a changed container and nothing beside it
 abbrev pub changes_inside : Instr → Bool
 changes_inside (Lib m) = is_push m
+changes_inside SetIndex = true
 changes_inside AddKey = true
 changes_inside DeleteKey = true
 changes_inside i = false

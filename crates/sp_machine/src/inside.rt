@@ -1,7 +1,7 @@
 // Changes in place of a container inside another one. What an instruction gives is put at its key and stored at once, where the code behind
 // it does so. Before the change the slot gives up its own value, and the other container what it has at the key, so that neither of the
 // two has a second owner.
-ghost use Rattle.std.specs.Prelude.{◌≡◌, ◌+◌, ◌<◌, ◌≤◌, ◌^◌, ◌∷◌, [], List, length, take, drop, true, slice_get, IsTrue, Some, OnOk, IfOk, IfSome, MatchOption};
+ghost use Rattle.std.specs.Prelude.{◌≡◌, ◌≢◌, ◌+◌, ◌<◌, ◌≤◌, ◌^◌, ◌∷◌, [], List, length, take, drop, true, slice_get, IsTrue, Ok, Some, OnOk, IfOk, IfSome, MatchOption};
 ghost use Rattle.sp_base.specs.declared.kinds.PKind.TheVariants as error_is;
 ghost use Rattle.sp_events.specs.declared.event.What.{What};
 ghost use Rattle.sp_words.specs.Methods.{arity};
@@ -12,7 +12,7 @@ ghost use Rattle.sp_methods.specs.Methods.{method, suits};
 ghost use Rattle.sp_running.specs.States.{Failed, error_at};
 ghost use Rattle.sp_running.specs.Values as values;
 ghost use Rattle.sp_code.specs.declared.instr.Instr.TheVariants as does;
-ghost use Rattle.sp_code.specs.Can.{Can, top, second, below_top, IsPlace};
+ghost use Rattle.sp_code.specs.Can.{Can, top, second, third, below_top, IsPlace};
 ghost use Rattle.sp_code.specs.Machine.{At, Ending, Goes, act, put, put_all};
 ghost use Rattle.sp_code.specs.Programs.{plain_of};
 ghost use Rattle.sp_code.specs.Turns.{Turns};
@@ -49,10 +49,32 @@ fn changes_inside(instr: &Instr) -> bool
 {
     match instr {
         Instr::Lib(called) => is_push(*called),
+        Instr::SetIndex => true,
         Instr::AddKey => true,
         Instr::DeleteKey => true,
         _ => false,
     }
+}
+
+/// A container with a value at a key for which it has a place.
+#[tactic(auto, using(crate::proofs::Spots::with_item_at))]
+fn filled(container: Value, key: Value, x: Value, spot: Spot) -> Result<Value, NoMemory>
+    requires { IsSpot container key spot }
+    ensures { IfOk result (λ value. spot ≢ Spot.Past → values.with_at container key x ≡ Ok value) }
+{
+    let mut changed = container;
+    match spot {
+        Spot::Past => {
+            drop(key);
+            drop(x);
+        }
+        Spot::Within(i) => {
+            or_drop!(changed.set_item(i, x); changed, key);
+            drop(key);
+        }
+        Spot::Keyed => or_drop!(changed.insert(key, x); changed),
+    }
+    Ok(changed)
 }
 
 /// Takes what a container has at a key away.
@@ -227,6 +249,48 @@ impl Machine {
         }
     }
 
+    #[tactic(auto, using(crate::proofs::Nested::has_place, crate::proofs::Spots::past_error))]
+    fn set_index_inside(&mut self, slot: Slot) -> Result<(), NoMemory>
+        requires running { self.old.mode ≡ Running }
+        requires within { self.old.pc + 1 + 1 + 1 + 1 < 2 ^ 64 }
+        requires there { IsSlot slot (state_of self.old) }
+        requires operands { 2 < length self.old.operands }
+        requires place { IsPlace (third self.old.operands) (second self.old.operands) }
+        requires below { CanPut (self.old.pc + 1) (put
+            (values.with_at (third self.old.operands) (second self.old.operands) (top self.old.operands)) (self.old.pc + 1)
+            (below_top (below_top (below_top self.old.operands))) self.old.stack (state_of self.old)) }
+        ensures { OnOk result (IsPutInside slot (self.old.pc + 1) (put
+            (values.with_at (third self.old.operands) (second self.old.operands) (top self.old.operands)) (self.old.pc + 1)
+            (below_top (below_top (below_top self.old.operands))) self.old.stack (state_of self.old)) (plain self.new)) }
+    {
+        let x = self.operands.pop();
+        let place = self.operands.pop();
+        let inner = self.operands.pop();
+        let spot = spot_of(&inner, &place);
+        if let Spot::Past = spot {
+            self.fails(PKind::Index);
+            drop(inner);
+            drop(place);
+            drop(x);
+            return Ok(());
+        }
+        let key = self.operands.pop();
+        let container = self.operands.pop();
+        match or_drop!(self.opened(container, &key, slot); key, inner, place, x) {
+            Some(emptied) => {
+                let all = or_drop!(filled(inner, place, x, spot); emptied, key);
+                self.put_open(emptied, key, all, slot)
+            }
+            None => {
+                drop(key);
+                drop(inner);
+                drop(place);
+                drop(x);
+                Ok(())
+            }
+        }
+    }
+
     #[tactic(auto, using(crate::proofs::Nested::put_inside, crate::proofs::Nested::fails_inside))]
     fn delete_key_inside(&mut self, slot: Slot) -> Result<(), NoMemory>
         requires running { self.old.mode ≡ Running }
@@ -302,6 +366,7 @@ impl Machine {
     {
         match instr {
             Instr::Lib(called) => self.call_inside(*called, slot),
+            Instr::SetIndex => self.set_index_inside(slot),
             Instr::AddKey => self.add_key_inside(slot),
             Instr::DeleteKey => self.delete_key_inside(slot),
             _ => unreachable!(),
