@@ -7,34 +7,35 @@ use crate::keys::{HookKey, parts_of};
 use crate::order::run_order;
 use indexmap::IndexMap;
 use sp_base::NoMemory;
+use sp_typed_units::Numbers;
 use std::alloc::Global;
 use std::marker::Model;
 
 /// The numbers of hooks by the parts of what they hang on.
 #[derive(Drop)]
 pub(crate) struct Buckets {
-    pub(crate) of: IndexMap<(u32, u32, u32), Vec<u32>>,
+    pub(crate) of: IndexMap<(u32, u32, u32), Numbers>,
 }
 
 /// The numbers of what is of these parts.
-fn find(table: &Buckets, parts: (u32, u32, u32)) -> &[u32]
-    ensures { result.now ≡ told table.now parts }
+fn find(table: &Buckets, parts: (u32, u32, u32)) -> Result<Numbers, NoMemory>
+    ensures { IfOk result (λ n. n ≡ told table.now parts) }
 {
     match table.of.get(&parts) {
-        Some(list) => list.as_slice(),
-        None => &[],
+        Some(numbers) => numbers.copy(),
+        None => Ok(Numbers::none()),
     }
 }
 
 /// The numbers of what is of these parts, moved.
-fn taken(alloc: Global, table: &mut Buckets, parts: (u32, u32, u32)) -> Vec<u32>
-    ensures list { result.items ≡ told table.old parts }
+fn taken(table: &mut Buckets, parts: (u32, u32, u32)) -> Numbers
+    ensures list { result ≡ told table.old parts }
     ensures left { (x : ℕ × ℕ × ℕ) → told table.new x
         ≡ cond (are_same parts x) [] (told table.old x) }
 {
     match table.of.swap_remove(&parts) {
-        Some(list) => list,
-        None => Vec::new(alloc),
+        Some(numbers) => numbers,
+        None => Numbers::none(),
     }
 }
 
@@ -48,9 +49,8 @@ fn add(
     ensures { OnOk result ((x : ℕ × ℕ × ℕ) → told table.new x
         ≡ cond (are_same x parts) (told table.old x ++ number ∷ []) (told table.old x)) }
 {
-    let mut list = taken(alloc, table, parts);
-    list.push(number)?;
-    table.of.insert(parts, list)?;
+    let numbers = taken(table, parts).and(alloc, number)?;
+    table.of.insert(parts, numbers)?;
     Ok(())
 }
 
@@ -139,9 +139,10 @@ impl HookTable {
         self.keys.is_empty()
     }
 
-    /// The numbers of the hooks that hang on something, in the order in which they run.
-    pub fn hooks(&self, key: HookKey) -> &[u32]
-        ensures { result.now ≡ hooks_of self.now.0 self.now.1 key }
+    /// The numbers of the hooks that hang on something, in the order in which they run. They are shared with the table, so that
+    /// nothing is copied however many ask.
+    pub fn hooks(&self, key: HookKey) -> Result<Numbers, NoMemory>
+        ensures { IfOk result (λ n. n ≡ hooks_of self.now.0 self.now.1 key) }
     {
         find(&self.buckets, parts_of(key))
     }

@@ -80,8 +80,8 @@ fn note_units<'a>(rows: &mut Vec<Option<&'a Field>>, units: &'a [Unit])
     }
 }
 
-/// For each body of a hook of a list, the field that has it, where a field has it. It is made in time that grows with the list, and
-/// no look-up hangs on how many there are.
+/// For each body of a hook of a list, the field that has it, where a field has it. It is made in time that grows with the list and the
+/// hooks of all its fields, which count for each field that shares them, and no look-up hangs on how many there are.
 #[derive(Drop)]
 pub struct HookedFields<'a> {
     pub list: &'a Typed,

@@ -2,6 +2,7 @@ pub mod Specs
 pub mod SpecHeights
 pub mod SpecViews
 pub mod Rares
+pub mod Numbers
 pub mod Parts
 pub mod PartViews
 pub mod Hooks

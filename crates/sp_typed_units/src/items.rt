@@ -1,5 +1,6 @@
 // Parts of units: fields and switches.
 use crate::attributes::Attribute;
+use crate::numbers::Numbers;
 use crate::rare::Rare;
 use crate::readings::Spec;
 use crate::rows::Row;
@@ -26,7 +27,7 @@ pub struct Field {
     /// What stands behind `->`.
     pub sink: Rare<Expr>,
     /// The numbers of its hooks in the list, in the order in which they run.
-    pub hooks: Row<u32>,
+    pub hooks: Numbers,
 }
 
 /// What an arm of a switch is chosen by.

@@ -6,6 +6,7 @@ mod attributes;
 mod declarations;
 mod hooks;
 mod items;
+mod numbers;
 mod rare;
 mod readings;
 mod rows;
@@ -18,6 +19,7 @@ pub use declarations::{
 };
 pub use hooks::unit_of;
 pub use items::{Arm, Field, Part, PartNode};
+pub use numbers::Numbers;
 pub use rare::Rare;
 pub use readings::{ReadOp, Reading, Spec, SpecNode, TokenOp, UnitOf};
 pub use rows::Row;

@@ -17,7 +17,7 @@ use sp_ast::{
 use sp_base::{NoMemory, Span, or_drop};
 use sp_operands::{seen, taken};
 use sp_typed::Expr;
-use sp_typed_units::{Arm, Field, Part, PartNode, Rare, Row};
+use sp_typed_units::{Arm, Field, Numbers, Part, PartNode, Rare, Row};
 use sp_types::Type;
 use sp_typing::Context;
 use sp_typing_exprs::typed_all;
@@ -36,7 +36,7 @@ pub trait FieldTable {
         ensures { result ≡ (fields self.now).taken at };
 
     /// The numbers of the hooks of the field at this place, in the order in which they run.
-    fn hooks(&self, alloc: Global, at: Span) -> Result<Row<u32>, NoMemory>
+    fn hooks(&self, at: Span) -> Result<Numbers, NoMemory>
         ensures { IfOk result (λ r. r ≡ (fields self.now).hooks at) };
 }
 
@@ -75,7 +75,7 @@ fn is_taken<F: FieldTable>(table: &F, name: &Option<Ref<'_, NameKind>>) -> bool
 struct Guards {
     condition: Rare<Expr>,
     sink: Rare<Expr>,
-    hooks: Row<u32>,
+    hooks: Numbers,
 }
 
 fn guards_of<C: Context, F: FieldTable>(
@@ -92,7 +92,7 @@ fn guards_of<C: Context, F: FieldTable>(
 {
     let condition = rarely_typed(alloc, context, &view.condition)?;
     let sink = or_drop!(rarely_typed(alloc, context, &view.sink); condition);
-    let hooks = or_drop!(table.hooks(alloc, place); condition, sink);
+    let hooks = or_drop!(table.hooks(place); condition, sink);
     Ok(Guards {
         condition,
         sink,

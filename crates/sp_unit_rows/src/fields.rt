@@ -13,38 +13,27 @@ use sp_ast::{Ref, UnitKind};
 use sp_base::{NoMemory, Span, or_drop};
 use sp_field_tables::{Places, UnitNames, taken_places};
 use sp_hook_order::{HookKey, HookTable};
-use sp_typed_units::Row;
+use sp_typed_units::Numbers;
 use sp_typing::Context;
 use sp_typing_units::{Constants, FieldTable};
 use std::alloc::Global;
 
-fn row_of(alloc: Global, list: &[u32]) -> Result<Row<u32>, NoMemory>
-    ensures { IfOk result (λ r. r ≡ list.now) }
-{
-    Ok(Row::from_vec(Vec::from_slice(alloc, list)?))
-}
-
 /// The hooks of what hangs on something.
-fn hooks_by(alloc: Global, hooks: &HookTable, key: Option<HookKey>) -> Result<Row<u32>, NoMemory>
+fn hooks_by(hooks: &HookTable, key: Option<HookKey>) -> Result<Numbers, NoMemory>
     ensures { IfOk result (λ r. r ≡ hooks_by hooks.now key) }
 {
     match key {
-        Some(key) => row_of(alloc, hooks.hooks(key)),
-        None => Ok(Row::new(alloc)),
+        Some(key) => hooks.hooks(key),
+        None => Ok(Numbers::none()),
     }
 }
 
 /// The hooks of the field at a place of a unit.
-fn field_hooks(
-    alloc: Global,
-    rows: &UnitRows<'_>,
-    unit: u32,
-    at: Span,
-) -> Result<Row<u32>, NoMemory>
+fn field_hooks(rows: &UnitRows<'_>, unit: u32, at: Span) -> Result<Numbers, NoMemory>
     ensures { IfOk result (λ r. r ≡ field_hooks rows.now.tables.now.0 rows.now.sites.now
         rows.now.hooks.now unit at) }
 {
-    hooks_by(alloc, rows.hooks, rows.keys.key(unit, at.from))
+    hooks_by(rows.hooks, rows.keys.key(unit, at.from))
 }
 
 /// What a unit knows of its fields.
@@ -71,8 +60,8 @@ impl<'a> FieldTable for UnitFields<'a> {
         self.places.has(at)
     }
 
-    fn hooks(&self, alloc: Global, at: Span) -> Result<Row<u32>, NoMemory> {
-        field_hooks(alloc, self.rows, self.unit, at)
+    fn hooks(&self, at: Span) -> Result<Numbers, NoMemory> {
+        field_hooks(self.rows, self.unit, at)
     }
 }
 

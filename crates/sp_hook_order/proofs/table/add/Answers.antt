@@ -7,7 +7,7 @@ use Rattle.sp_hook_order.proofs.table.add.Goals as goal
 
 pub returns : goal.returns
 returns c = λ x.
-    added c.args.parts x (told c.args.table.now) (get are_same c.taken-list.new.table.of x) (get are_same c.insert.new.self x) c.push.new.self c.args.number
-    (c.taken-list.ensures.left x)
+    added c.args.parts x (told c.args.table.now) (get are_same c.taken.new.table.of x) (get are_same c.insert.new.self x) c.in_ok-numbers.numbers c.args.number
+    (c.taken.ensures.left x)
     (c.in_ok-insert.ensures.updates.0 x)
-    (c.in_ok-push.ensures.items ∙ ap (λ l. l ++ c.args.number ∷ []) c.taken-list.ensures.list)
+    (c.in_ok-numbers.ensures ∙ ap (λ l. l ++ c.args.number ∷ []) c.taken.ensures.list)
