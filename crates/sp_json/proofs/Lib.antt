@@ -1,3 +1,4 @@
 mod Rows
+pub mod Pushes
 pub mod Written
 pub mod Texts

@@ -1,5 +1,5 @@
 -- What is written of a row, token by token, and members in the order of their names.
-use Rattle.std.specs.Prelude.{ℤ, pos, negsuc, max}
+use Rattle.std.specs.Prelude.{ℤ, pos, negsuc}
 use Rattle.std.proofs.Common.{◌≡◌, ◌≤◌, ◌<◌, ◌+◌, ◌==◌, ℕ, true, List, [], ◌∷◌, ◌++◌, length, drop, get_or, sym, ap, ◌∙◌, refl, arith, append_assoc}
 use Rattle.std.proofs.lemmas.Bool.{and_parts}
 use Rattle.std.proofs.lemmas.Cmp.{nat_list_cmp_total}
@@ -19,7 +19,7 @@ use Rattle.sp_events.specs.Tree.{TreeData, fields_of}
 use Rattle.sp_events.specs.TreeSizes.{tree_size, fields_size}
 use Rattle.sp_json.specs.Values.{tree_json, with_fields, with_ranges}
 use Rattle.sp_json.specs.Lines.{path_text}
-use Rattle.sp_json.specs.inside.Tokens.{lent, rise_from, in_order, with_entries, heaviest}
+use Rattle.sp_json.specs.inside.Tokens.{lent, rise_from, in_order, with_entries, total}
 
 -- an integer is written as it stands
 pub integer_text : (z : ℤ) → number_text (of_integer z) ≡ signed_decimal z
@@ -114,17 +114,17 @@ module _ {X : Type 0} where
   inserted_members json [] name v = refl
   inserted_members json (e ∷ es) name v = in_order-match_ordering json (by_name name e.0) _ _ _ ∙ rw (inserted_members json es name v)
 
-  heaviest-match_ordering : (weight : X → ℕ) (o : Ordering) (a b c : List (Lent X)) (most : ℕ) → heaviest weight (lent a) ≤ most → heaviest weight (lent b) ≤ most → heaviest weight (lent c) ≤ most
-      → heaviest weight (lent (match_ordering o a b c)) ≤ most
-  heaviest-match_ordering weight Ordering.Less a b c most p q r = p
-  heaviest-match_ordering weight Ordering.Equal a b c most p q r = q
-  heaviest-match_ordering weight Ordering.Greater a b c most p q r = r
+  total-match_ordering : (weight : X → ℕ) (o : Ordering) (a b c : List (Lent X)) (most : ℕ) → total weight (lent a) ≤ most → total weight (lent b) ≤ most → total weight (lent c) ≤ most
+      → total weight (lent (match_ordering o a b c)) ≤ most
+  total-match_ordering weight Ordering.Less a b c most p q r = p
+  total-match_ordering weight Ordering.Equal a b c most p q r = q
+  total-match_ordering weight Ordering.Greater a b c most p q r = r
 
-  pub inserted_weight : (weight : X → ℕ) (es : List (Lent X)) (name : Bor (List ℕ)) (v : Bor X) → heaviest weight (lent (insert_entry by_name es name v)) ≤ max (weight v.now) (heaviest weight (lent es))
+  pub inserted_weight : (weight : X → ℕ) (es : List (Lent X)) (name : Bor (List ℕ)) (v : Bor X) → total weight (lent (insert_entry by_name es name v)) ≤ weight v.now + total weight (lent es)
   inserted_weight weight [] name v = omega arith
   inserted_weight weight (e ∷ es) name v =
       let rest = inserted_weight weight es name v in
-      heaviest-match_ordering weight (by_name name e.0) ((name, v) ∷ e ∷ es) ((e.0, v) ∷ es) (e ∷ insert_entry by_name es name v) (max (weight v.now) (max (weight e.1.now) (heaviest weight (lent es))))
+      total-match_ordering weight (by_name name e.0) ((name, v) ∷ e ∷ es) ((e.0, v) ∷ es) (e ∷ insert_entry by_name es name v) (weight v.now + (weight e.1.now + total weight (lent es)))
       (omega arith) (omega arith) (omega arith)
 
 -- one more entry of a list is in the table
@@ -139,13 +139,13 @@ entry_put json xs i x old new name v ms lt is put_in named held so =
     ∙ ap (λ es. with_entries json es (in_order json (lent old))) (sym here) ∙ so
 
 pub entry_weighs : {X : Type 0} (weight : X → ℕ) (xs : List (List ℕ × X)) (i : ℕ) (x : List ℕ × X) (old new : List (Lent X)) (name : Bor (List ℕ)) (v : Bor X) (most : ℕ)
-    → i < length xs → x ≡ get_or xs i x → new ≡ insert_entry by_name old name v → v.now ≡ x.1 → max (heaviest weight (lent old)) (heaviest weight (drop i xs)) ≤ most
-    → max (heaviest weight (lent new)) (heaviest weight (drop (i + 1) xs)) ≤ most
+    → i < length xs → x ≡ get_or xs i x → new ≡ insert_entry by_name old name v → v.now ≡ x.1 → total weight (lent old) + total weight (drop i xs) ≤ most
+    → total weight (lent new) + total weight (drop (i + 1) xs) ≤ most
 entry_weighs weight xs i x old new name v most lt is put_in held so =
     let rest = drop (i + 1) xs in
     let here : drop i xs ≡ x ∷ rest = drop_more xs i x lt ∙ ap (λ y. y ∷ rest) (sym is) in
-    let left : heaviest weight (drop i xs) ≡ max (weight x.1) (heaviest weight rest) = ap (λ es. heaviest weight es) here in
-    let table : heaviest weight (lent new) ≡ heaviest weight (lent (insert_entry by_name old name v)) = ap (λ es. heaviest weight (lent es)) put_in in
+    let left : total weight (drop i xs) ≡ weight x.1 + total weight rest = ap (λ es. total weight es) here in
+    let table : total weight (lent new) ≡ total weight (lent (insert_entry by_name old name v)) = ap (λ es. total weight (lent es)) put_in in
     let one : weight v.now ≡ weight x.1 = ap weight held in
     let most_in = inserted_weight weight old name v in
     omega arith
@@ -160,12 +160,7 @@ pub ranges_are : (rs : List (List ℕ × ℕ)) (ms : Members) → with_entries (
 ranges_are [] ms = refl
 ranges_are (r ∷ rs) ms = ranges_are rs (put r.0 (number (unsigned r.1)) ms)
 
--- each tree in a table of fields is smaller than the unit
-pub fields_weigh : (fs : List (List ℕ × TreeData)) → heaviest (λ t. tree_size t + 1) fs ≤ fields_size (fields_of fs)
-fields_weigh [] = omega arith
+-- the trees of fields are as much as the unit
+pub fields_weigh : (fs : List (List ℕ × TreeData)) → total (λ t. tree_size t + 1) fs ≡ fields_size (fields_of fs)
+fields_weigh [] = refl
 fields_weigh (f ∷ fs) = omega (arith, fields_weigh fs)
-
--- the first of what is left, and the rest
-pub first_weighs : {X : Type 0} (weight : X → ℕ) (es left : List (Lent X)) (e : Lent X) (most : ℕ) → es ≡ e ∷ left → heaviest weight (lent es) ≤ most
-    → (weight e.1.now ≤ most) × (heaviest weight (lent left) ≤ most)
-first_weighs weight es left e most is le = let whole : heaviest weight (lent es) ≡ max (weight e.1.now) (heaviest weight (lent left)) = ap (λ xs. heaviest weight (lent xs)) is in (omega arith, omega arith)

@@ -6,7 +6,8 @@ ghost use Rattle.sp_json.specs.Lines.{path_text, text_member, members_of, event_
 ghost use Rattle.sp_json.specs.inside.Tokens.{value_tokens, object_rest};
 
 use crate::lines::path_name;
-use crate::trees::{write_bytes, write_tree, write_trees};
+use crate::trees::write_bytes;
+use crate::walk::{write_tree, write_trees};
 use json::Writer;
 use sp_base::{ByteList, ParseError, Text};
 use sp_events::{Event, Tree, Trees, What};

@@ -8,6 +8,7 @@ mod lines;
 mod order;
 mod trees;
 mod values;
+mod walk;
 
 pub use buffer::Lines;
 pub use lines::{line, report};

@@ -1,7 +1,7 @@
 // Values by name, in the byte order of the names.
 ghost use Rattle.std.specs.Prelude.{◌≡◌, ◌≤◌, ℕ, [], IfOk};
 ghost use Rattle.serde_json.specs.Data.{Data, no_members};
-ghost use Rattle.sp_json.specs.inside.Tokens.{lent, rise_from, in_order, with_entries, heaviest};
+ghost use Rattle.sp_json.specs.inside.Tokens.{lent, rise_from, in_order, with_entries, total};
 
 use sp_base::Text;
 use std::alloc::{AllocError, Global};
@@ -30,7 +30,7 @@ pub(crate) fn sorted<'a, T>(
     ensures members { IfOk result (λ table. (json : T → Data)
         → in_order json (lent table.entries) ≡ with_entries json entries.now no_members) }
     ensures weight { IfOk result (λ table. (weight : T → ℕ)
-        → heaviest weight (lent table.entries) ≤ heaviest weight entries.now) }
+        → total weight (lent table.entries) ≤ total weight entries.now) }
 {
     let mut table = BTreeMap::new(alloc);
     for (name, value) in entries {

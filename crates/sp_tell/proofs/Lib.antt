@@ -1,6 +1,7 @@
-mod Rows
+pub mod Begun
 pub mod Lists
+pub mod Moves
+pub mod Named
 pub mod Opens
-pub mod Sizes
+mod Rows
 pub mod Tables
-pub mod Units

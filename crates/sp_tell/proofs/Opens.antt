@@ -1,14 +1,14 @@
--- The units that are open: one more of them, and that they are no more than there are instances.
-use Rattle.std.proofs.Common.{◌≡◌, ℕ, ◌≤◌, ◌<◌, Bool, true, false, List, [], ◌∷◌, ◌++◌, length, reverse, refl, sym, subst, arith}
+-- The units that are open: that they are no more than there are instances.
+use Rattle.std.proofs.Common.{◌≡◌, ℕ, ◌≤◌, ◌<◌, Bool, true, false, List, [], ◌∷◌, length, refl, arith}
 use Rattle.std.specs.Prelude.{◌==◌, ◌||◌}
 use Rattle.std.specs.List.{AllByRecursion, IsDistinct, list_any}
 use Rattle.std.proofs.Math.Dec.{eqb}
 use Rattle.std.proofs.lemmas.Bool.Decides.{nat_tests}
-use Rattle.std.proofs.lemmas.List.{length-reverse, reverse-append}
 use Rattle.std.proofs.lemmas.Map.Steps.{length-le_from_distinct_below}
 use Rattle.sp_running.specs.States.{Instance}
 use Rattle.sp_running.specs.Scopes.{is_among}
 use Rattle.sp_tell.specs.Inside.{AreOpen}
+use Rattle.sp_tell.specs.Plans.{Form, tuple, vector, set, map, unit, left_behind}
 
 both_false : (a b : Bool) → (a || b) ≡ false → (a ≡ false) × (b ≡ false)
 both_false true b h = absurd (let wrong : true ≡ false = h in cc)
@@ -32,12 +32,14 @@ module _ (instances : List Instance) where
   below [] h q o = absurd (let wrong : false ≡ true = o in cc)
   below (n ∷ ns) h q o = below_first q n ns (q == n) refl h.0 (below ns h.2 q) o
 
-  pub few_open : (outer : List ℕ) → AreOpen instances (reverse outer) → length outer ≤ length instances
-  few_open outer h = omega (arith, length-reverse outer, length-le_from_distinct_below (reverse outer) (length instances) (distinct (reverse outer) h) (below (reverse outer) h))
+  pub few_open : (round : List ℕ) → AreOpen instances round → length round ≤ length instances
+  few_open round h = length-le_from_distinct_below round (length instances) (distinct round h) (below round h)
 
-  pub one_more : (outer : List ℕ) (n : ℕ) → AreOpen instances (reverse outer) → n < length instances → is_among n (reverse outer) ≡ false → AreOpen instances (reverse (outer ++ n ∷ []))
-  one_more outer n h i e = subst (AreOpen instances) (sym (reverse-append outer (n ∷ []))) (i, e, h)
-
-  -- where the same units are open
-  pub still_open : {outer now : List ℕ} → outer ≡ now → AreOpen instances (reverse outer) → AreOpen instances (reverse now)
-  still_open same h = subst (λ l. AreOpen instances (reverse l)) same h
+  -- those that are open behind what is made
+  pub open_behind : (form : Form) (round : List ℕ) → AreOpen instances round → AreOpen instances (left_behind form round)
+  open_behind tuple round h = h
+  open_behind vector round h = h
+  open_behind set round h = h
+  open_behind map round h = h
+  open_behind (unit x) [] h = h
+  open_behind (unit x) (n ∷ round) h = h.2

@@ -3,7 +3,7 @@ ghost use Rattle.std.specs.Prelude.{◌≡◌, IfOk};
 ghost use Rattle.sp_code.specs.Programs.{names_of};
 ghost use Rattle.sp_running.specs.Telling.{value_tree, value_trees};
 
-use crate::walk::{push_trees, tree_inside};
+use crate::walk::walk_value;
 use sp_base::NoMemory;
 use sp_code::Program;
 use sp_events::{Tree, Trees};
@@ -12,7 +12,7 @@ use sp_value::Value;
 use std::alloc::Global;
 
 /// A value as it is told: a unit with the members of its instance that are set, a label by its name, and a bitfield
-/// by the names of its ranges.
+/// by the names of its ranges. It takes no more of the machine's stack for a value that nests deeper.
 pub fn value_tree(
     alloc: Global,
     p: &Program,
@@ -21,8 +21,7 @@ pub fn value_tree(
 ) -> Result<Tree, NoMemory>
     ensures { IfOk result (λ tree. tree ≡ value_tree (names_of p.now) instances.now v.now) }
 {
-    let mut outer = Vec::new(alloc);
-    tree_inside(alloc, p, instances, &mut outer, v)
+    walk_value(alloc, p, instances, v)
 }
 
 /// Values as they are told, in order.
@@ -34,8 +33,9 @@ pub fn value_trees(
 ) -> Result<Trees, NoMemory>
     ensures { IfOk result (λ trees. trees ≡ value_trees (names_of p.now) instances.now values.now) }
 {
-    let mut outer = Vec::new(alloc);
     let mut trees = Vec::with_capacity(alloc, values.len())?;
-    push_trees(alloc, p, instances, &mut outer, values, &mut trees)?;
+    for v in values {
+        trees.push(walk_value(alloc, p, instances, v)?)?;
+    }
     Ok(Trees::new(trees))
 }

@@ -1,5 +1,5 @@
 -- What is written of a value token by token, and the members of entries by name.
-use Rattle.std.specs.Prelude.{ℕ, max, List, [], ◌∷◌, Bool, true, ◌&&◌, map}
+use Rattle.std.specs.Prelude.{ℕ, ◌+◌, List, [], ◌∷◌, Bool, true, ◌&&◌, map}
 use Rattle.std.specs.Ordering.{nat_cmp, is_lt}
 use Rattle.std.specs.Cmp.Lexicographic.{slice_cmp}
 use denote.Ref.{Bor}
@@ -40,7 +40,7 @@ module _ {X : Type 0} where
   with_entries json [] ms = ms
   with_entries json (e ∷ es) ms = with_entries json es (put e.0 (json e.1) ms)
 
-  -- the greatest weight of a value, or 0 where there is none
-  abbrev pub heaviest : (X → ℕ) → List (List ℕ × X) → ℕ
-  heaviest weight [] = 0
-  heaviest weight (e ∷ es) = max (weight e.1) (heaviest weight es)
+  -- the weights of the values of entries together
+  abbrev pub total : (X → ℕ) → List (List ℕ × X) → ℕ
+  total weight [] = 0
+  total weight (e ∷ es) = weight e.1 + total weight es
