@@ -15,7 +15,7 @@ use Rattle.sp_front.specs.inside.Follow.{IsClear, IsDue, IsFollowed, IsStuckBy, 
 use Rattle.sp_front.proofs.Missing.{missing_first, missing_later, missing_again, here_now, imported_name, clear_more, stop_split}
 
 -- one more is followed
-next_more : (files : Files) (dirs : List (List ℕ)) (es more : List Entry) (e : Entry) → AreNext files dirs es more → IsNext files dirs (es ++ more) e → AreNext files dirs es (more ++ e ∷ [])
+pub next_more : (files : Files) (dirs : List (List ℕ)) (es more : List Entry) (e : Entry) → AreNext files dirs es more → IsNext files dirs (es ++ more) e → AreNext files dirs es (more ++ e ∷ [])
 next_more files dirs es [] e are is = (subst (λ xs. IsNext files dirs xs e) (append-nil es) is, tt)
 next_more files dirs es (x ∷ more) e are is =
     (are.0, next_more files dirs (es ++ x ∷ []) more e are.1 (subst (λ xs. IsNext files dirs xs e) (sym (append_assoc es (x ∷ []) more)) is))
@@ -126,7 +126,7 @@ vain_stuck files dirs es now at i is Unread.ModulesFault followed due missing_is
 vain_stuck files dirs es now at i is Unread.NoMemory followed due missing_is vain = tt
 
 -- what stops a list behind imports that were followed stops it from the first
-next_all : (files : Files) (dirs : List (List ℕ)) (es more last : List Entry) → AreNext files dirs es more → AreNext files dirs (es ++ more) last → AreNext files dirs es (more ++ last)
+pub next_all : (files : Files) (dirs : List (List ℕ)) (es more last : List Entry) → AreNext files dirs es more → AreNext files dirs (es ++ more) last → AreNext files dirs es (more ++ last)
 next_all files dirs es [] last are behind = subst (λ xs. AreNext files dirs xs last) (append-nil es) behind
 next_all files dirs es (x ∷ more) last are behind =
     (are.0, next_all files dirs (es ++ x ∷ []) more last are.1 (subst (λ xs. AreNext files dirs xs last) (sym (append_assoc es (x ∷ []) more)) behind))

@@ -1,3 +1,4 @@
+pub mod Asked
 pub mod Imports
 pub mod Lists
 pub mod inside

@@ -1,3 +1,4 @@
+pub mod Asking
 pub mod Files
 pub mod Follow
 pub mod Seen

@@ -4,7 +4,9 @@ ghost use Rattle.sp_read_file.specs.Loads.{UnreadCause};
 ghost use Rattle.sp_front.specs.declared.entries.Entry.{Entry as Data};
 ghost use Rattle.sp_front.specs.declared.entries.Entry.TheVariants as entry_is;
 ghost use Rattle.sp_front.specs.declared.entries.ModuleFile.{ModuleFile as File};
+ghost use Rattle.sp_front.specs.Asked.{asked_for, asked_behind};
 ghost use Rattle.sp_front.specs.Lists.{at, most_modules, is_missing, stop, clear, refused, IsImported, IsAskedInVain};
+ghost use Rattle.sp_front.specs.inside.Asking.{Asked, AskedPart, FollowedAsking, StuckAsking};
 ghost use Rattle.sp_front.specs.inside.Follow.{IsClear, IsDue, IsFollowed, IsStuckBy, IsRefusedBy};
 ghost use Rattle.sp_front.specs.inside.Seen.{AreSeen};
 
@@ -66,6 +68,11 @@ fn add_import<M: Modules>(
         → slice_get entries.old.items place ≡ Some (entry_is.Held file)
         → IsRefusedBy (IsAskedInVain (M.files modules.old) directories.now entries.old.items file
         import.now) u) }
+    ensures asks { IfOk result (λ _. Asked (M.files modules.old) (M.asked modules.old)
+        (M.asked modules.new) (λ files. asked_for files directories.now import.now.name)) }
+    ensures asks_part { IfErr result (λ _. AskedPart (M.files modules.old) (M.asked modules.old)
+        (M.asked modules.new) (λ files. asked_behind files directories.now
+        (length entries.old.items) import.now.name)) }
     ensures files { M.files modules.new ≡ M.files modules.old }
     ensures cause { MatchResult result (λ _. M.faults modules.new ≡ M.faults modules.old)
         (UnreadCause (M.faults modules.old) (M.faults modules.new)) }
@@ -104,6 +111,10 @@ fn follow<M: Modules>(
     ensures most { OnOk result (length entries.new.items ≤ most_modules + 1) }
     ensures stuck { IfErr result (IsStuckBy (M.files modules.old) directories.now
         entries.old.items) }
+    ensures asks { IfOk result (λ _. FollowedAsking (M.files modules.old) directories.now
+        entries.old.items entries.new.items (M.asked modules.old) (M.asked modules.new)) }
+    ensures asks_part { IfErr result (λ _. StuckAsking (M.files modules.old) directories.now
+        entries.old.items (M.asked modules.old) (M.asked modules.new)) }
     ensures files { M.files modules.new ≡ M.files modules.old }
     ensures cause { MatchResult result (λ _. M.faults modules.new ≡ M.faults modules.old)
         (UnreadCause (M.faults modules.old) (M.faults modules.new)) }
@@ -168,6 +179,10 @@ pub(crate) fn complete<M: Modules>(
     ensures clear { OnOk result (stop entries.new.items ≡ clear) }
     ensures stuck { IfErr result (IsStuckBy (M.files modules.old) directories.now
         entries.old.items) }
+    ensures asks { IfOk result (λ _. FollowedAsking (M.files modules.old) directories.now
+        entries.old.items entries.new.items (M.asked modules.old) (M.asked modules.new)) }
+    ensures asks_part { IfErr result (λ _. StuckAsking (M.files modules.old) directories.now
+        entries.old.items (M.asked modules.old) (M.asked modules.new)) }
     ensures cause { MatchResult result (λ _. M.faults modules.new ≡ M.faults modules.old)
         (UnreadCause (M.faults modules.old) (M.faults modules.new)) }
 {

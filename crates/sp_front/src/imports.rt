@@ -2,8 +2,10 @@
 ghost use Rattle.std.specs.Prelude.{◌≡◌, ◌<◌, ◌-◌, ◌^◌, List, ◌++◌, IfOk, IfErr, OnOk, MatchResult};
 ghost use Rattle.sp_read_file.specs.Loads.{UnreadCause};
 ghost use Rattle.sp_front.specs.declared.entries.Entry.{Entry};
+ghost use Rattle.sp_front.specs.Asked.{asked_for};
 ghost use Rattle.sp_front.specs.Imports.{import_of, imports_of};
 ghost use Rattle.sp_front.specs.Lists.{missing};
+ghost use Rattle.sp_front.specs.inside.Asking.{Asked, AskedPart};
 ghost use Rattle.sp_front.specs.inside.Files.{IsImport, IsNoRefusal};
 ghost use Rattle.sp_front.specs.inside.Seen.{AreSeen};
 
@@ -65,6 +67,10 @@ pub(crate) fn read_import<M: Modules>(
     requires { M.faults modules.old < 2 ^ 64 - 1 }
     ensures found { IfOk result (IsImport (M.files modules.old) directories.now name.now) }
     ensures unread { IfErr result IsNoRefusal }
+    ensures asks { IfOk result (λ _. Asked (M.files modules.old) (M.asked modules.old)
+        (M.asked modules.new) (λ files. asked_for files directories.now name.now)) }
+    ensures asks_part { IfErr result (λ _. AskedPart (M.files modules.old) (M.asked modules.old)
+        (M.asked modules.new) (λ files. asked_for files directories.now name.now)) }
     ensures files { M.files modules.new ≡ M.files modules.old }
     ensures cause { MatchResult result (λ _. M.faults modules.new ≡ M.faults modules.old)
         (UnreadCause (M.faults modules.old) (M.faults modules.new)) }

@@ -1,5 +1,6 @@
 // The named files, and what a text is as a file.
-ghost use Rattle.std.specs.Prelude.{◌≡◌, ◌≤◌, ◌<◌, ◌+◌, ◌-◌, ◌^◌, ◌++◌, ◌∷◌, [], length, List, None, Some, IfOk, IfErr, OnOk, MatchResult};
+ghost use Rattle.std.specs.Prelude.{◌≡◌, ◌≤◌, ◌<◌, ◌+◌, ◌-◌, ◌^◌, ◌++◌, ◌∷◌, [], length, take, List, None, Some, IfOk, IfErr, OnOk, MatchResult};
+ghost use Rattle.sp_io.specs.Asked.{also_asked};
 ghost use Rattle.sp_command.specs.Files.{Holds};
 ghost use Rattle.sp_names.specs.Faults.{is_reserved};
 ghost use Rattle.sp_read_file.specs.Loads.{UnreadCause};
@@ -7,6 +8,7 @@ ghost use Rattle.sp_read_file.specs.Files.{refused_at};
 ghost use Rattle.sp_front.specs.declared.entries.Entry.{Entry};
 ghost use Rattle.sp_front.specs.declared.entries.Entry.TheVariants as entry_is;
 ghost use Rattle.sp_front.specs.Lists.{Files, at, is_taken, most_modules, name_place, nowhere, IsNamed, AreNamedFiles};
+ghost use Rattle.sp_front.specs.inside.Asking.{IsPart};
 ghost use Rattle.sp_front.specs.inside.Files.{IsFileOf, IsNoRefusal, named_module};
 ghost use Rattle.sp_front.specs.inside.Seen.{AreSeen};
 
@@ -118,6 +120,10 @@ fn read_one<M: Modules>(
     ensures named { IfOk result (λ e. (before : List Entry) → AreSeen seen.old before
         → IsNamed (M.files modules.old) before path.now e × AreSeen seen.new (before ++ e ∷ [])) }
     ensures unread { IfErr result IsNoRefusal }
+    ensures asks { IfOk result (λ _. M.asked modules.new
+        ≡ also_asked (M.asked modules.old) (path.now ∷ [])) }
+    ensures asks_part { IfErr result (λ _. IsPart (M.asked modules.old) (M.asked modules.new)
+        (path.now ∷ [])) }
     ensures files { M.files modules.new ≡ M.files modules.old }
     ensures cause { MatchResult result (λ _. M.faults modules.new ≡ M.faults modules.old)
         (UnreadCause (M.faults modules.old) (M.faults modules.new)) }
@@ -141,6 +147,10 @@ pub(crate) fn read_named<M: Modules>(
     ensures most { IfOk result (λ es. length es.items ≤ most_modules + 1) }
     ensures seen { IfOk result (λ es. AreSeen seen.new es.items) }
     ensures unread { IfErr result IsNoRefusal }
+    ensures asks { IfOk result (λ _. M.asked modules.new
+        ≡ also_asked (M.asked modules.old) (take most_modules names.now)) }
+    ensures asks_part { IfErr result (λ _. IsPart (M.asked modules.old) (M.asked modules.new)
+        (take most_modules names.now)) }
     ensures files { M.files modules.new ≡ M.files modules.old }
     ensures cause { MatchResult result (λ _. M.faults modules.new ≡ M.faults modules.old)
         (UnreadCause (M.faults modules.old) (M.faults modules.new)) }

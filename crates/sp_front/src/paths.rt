@@ -1,7 +1,10 @@
 // The file of an import: it is looked for at one path after another.
-ghost use Rattle.std.specs.Prelude.{◌≡◌, ◌<◌, ◌-◌, ◌^◌, ◌++◌, codes, string_bytes, IfOk, IfErr, MatchResult};
+ghost use Rattle.std.specs.Prelude.{◌≡◌, ◌<◌, ◌-◌, ◌^◌, ◌++◌, ◌∷◌, [], codes, string_bytes, IfOk, IfErr, MatchResult};
+ghost use Rattle.sp_io.specs.Asked.{also_asked};
 ghost use Rattle.sp_read_file.specs.Loads.{UnreadCause};
+ghost use Rattle.sp_front.specs.Asked.{asked_for};
 ghost use Rattle.sp_front.specs.Imports.{file_name, paths_of};
+ghost use Rattle.sp_front.specs.inside.Asking.{Asked, AskedPart};
 ghost use Rattle.sp_front.specs.inside.Files.{IsRead, IsFound, IsNoRefusal};
 
 use sp_base::{ByteList, NoMemory, Text};
@@ -33,6 +36,9 @@ pub(crate) fn read<M: Modules>(modules: &mut M, path: &str) -> Result<Option<Byt
     requires { M.faults modules.old < 2 ^ 64 - 1 }
     ensures read { IfOk result (IsRead (M.files modules.old) path.now) }
     ensures unread { IfErr result IsNoRefusal }
+    ensures asks { MatchResult result (λ _. M.asked modules.new
+        ≡ also_asked (M.asked modules.old) (path.now ∷ []))
+        (λ _. M.asked modules.new ≡ M.asked modules.old) }
     ensures files { M.files modules.new ≡ M.files modules.old }
     ensures cause { MatchResult result (λ _. M.faults modules.new ≡ M.faults modules.old)
         (UnreadCause (M.faults modules.old) (M.faults modules.new)) }
@@ -54,6 +60,10 @@ pub(crate) fn find<M: Modules>(
     requires { M.faults modules.old < 2 ^ 64 - 1 }
     ensures found { IfOk result (IsFound (M.files modules.old) (paths_of directories.now name.now)) }
     ensures unread { IfErr result IsNoRefusal }
+    ensures asks { IfOk result (λ _. Asked (M.files modules.old) (M.asked modules.old)
+        (M.asked modules.new) (λ files. asked_for files directories.now name.now)) }
+    ensures asks_part { IfErr result (λ _. AskedPart (M.files modules.old) (M.asked modules.old)
+        (M.asked modules.new) (λ files. asked_for files directories.now name.now)) }
     ensures files { M.files modules.new ≡ M.files modules.old }
     ensures cause { MatchResult result (λ _. M.faults modules.new ≡ M.faults modules.old)
         (UnreadCause (M.faults modules.old) (M.faults modules.new)) }

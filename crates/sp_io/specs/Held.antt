@@ -22,10 +22,16 @@ pub record SourceState : Type 0 where
   pub pieces : List (List ℕ)
   pub calls : Calls
 
--- modules in memory: paths with the contents there
+-- modules in memory: paths with the contents there, and the paths that were asked
 pub record ModulesState : Type 0 where
   pub files : List (List ℕ × List ℕ)
+  pub asked : List (List ℕ)
   pub calls : Calls
+
+-- modules in memory that never fail: the same, but for the calls
+pub record SureState : Type 0 where
+  pub files : List (List ℕ × List ℕ)
+  pub asked : List (List ℕ)
 
 -- modules in the real folders tell nothing but how often they failed
 pub record FolderState : Type 0 where

@@ -1,4 +1,4 @@
-// Modules in the real folders. They tell no content; each error raises the count of faults.
+// Modules in the real folders. They tell no content and no path that was asked; each error raises the count of faults.
 ghost use Rattle.std.specs.Prelude.{◌≡◌, None, take, IfOk, IfSome};
 ghost use Rattle.std.specs.IoError.{error_kind};
 ghost use Rattle.sp_io.specs.inside.Opening.{unopened, unread};
@@ -46,6 +46,8 @@ impl<'r, R> DirModules<'r, R> {
 
 impl<'r, R: Files> Modules for DirModules<'r, R> {
     ghost files = { λ _. None };
+
+    ghost asked = { λ _. None };
 
     ghost faults = { λ m. m.faults };
 

@@ -1,6 +1,7 @@
 // What a program asks of its outside, and the call that puts a whole piece.
 // Each object counts its faults. The count never falls, and `Failed` comes only where it rose or stands at its end.
-ghost use Rattle.std.specs.Prelude.{◌≡◌, ◌≢◌, ◌≤◌, ◌<◌, ◌-◌, ◌^◌, ◌↔◌, ℕ, List, [], Option, Some, None, Result, Ok, Err, length, take, IfOk, IfErr, OnOk, OnErr, MatchResult};
+ghost use Rattle.std.specs.Prelude.{◌≡◌, ◌≢◌, ◌≤◌, ◌<◌, ◌-◌, ◌^◌, ◌↔◌, ℕ, List, [], ◌∷◌, Option, Some, None, Result, Ok, Err, length, take, IfOk, IfErr, OnOk, OnErr, MatchResult};
+ghost use Rattle.sp_io.specs.Asked.{also_asked};
 ghost use Rattle.sp_io.specs.Causes.{OutCause, SourceCause, ModulesCause};
 ghost use Rattle.sp_io.specs.Moved.{appended, Takes};
 ghost use Rattle.sp_io.specs.declared.traits.OutFault.TheVariants as out_fault;
@@ -47,6 +48,9 @@ pub trait Modules {
     /// The map from paths to contents, where it tells one.
     ghost files: { Self → Option (List ℕ → Option (List ℕ)) };
 
+    /// The paths of the calls of `read` that were answered, in order, where it tells them.
+    ghost asked: { Self → Option (List (List ℕ)) };
+
     /// How often it failed.
     ghost faults: { Self → ℕ };
 
@@ -56,6 +60,9 @@ pub trait Modules {
         ensures content { (map : List ℕ → Option (List ℕ)) → files self.old ≡ Some map
             → IfOk result (λ answer. answer ≡ map path.now) }
         ensures files { files self.new ≡ files self.old }
+        ensures asked { MatchResult result (λ _. asked self.new
+            ≡ also_asked (asked self.old) (path.now ∷ []))
+            (λ _. asked self.new ≡ asked self.old) }
         ensures cause { MatchResult result (λ _. faults self.new ≡ faults self.old)
             (ModulesCause (faults self.old) (faults self.new)) };
 }
