@@ -113,19 +113,7 @@ fn put<T: Keyed>(items: &mut Vec<T>, item: T) -> Result<bool, NoMemory>
     }
 }
 
-/// Makes the piece one that no copy shares.
-fn own_items<T: Keyed>(items: &mut Rc<Vec<T>>) -> Result<(), NoMemory>
-    ensures { items.new.value.items ≡ items.old.value.items }
-{
-    if Rc::strong_count(items) != 1 {
-        let alloc = *items.allocator();
-        let copies = copy_items(alloc, items.as_slice())?;
-        *items = Rc::new(alloc, copies)?;
-    }
-    Ok(())
-}
-
-/// Puts an item into a piece, and answers whether its key is new.
+/// Puts an item into a piece, which is copied where a copy shares it, and answers whether its key is new.
 pub(crate) fn put_shared<T: Keyed>(items: &mut Rc<Vec<T>>, item: T) -> Result<bool, NoMemory>
     requires { IsAscending T.key items.old.value.items }
     ensures ok { OnOk result (items.new.value.items ≡ with_key T.key item items.old.value.items) }
@@ -133,10 +121,15 @@ pub(crate) fn put_shared<T: Keyed>(items: &mut Rc<Vec<T>>, item: T) -> Result<bo
         (if new then suc (length items.old.value.items) else length items.old.value.items)) }
     ensures err { OnErr result (items.new.value.items ≡ items.old.value.items) }
 {
-    own_items(items)?;
     match Rc::get_mut(items) {
         Some(own) => put(own, item),
-        None => Err(NoMemory),
+        None => {
+            let alloc = *items.allocator();
+            let mut copies = copy_items(alloc, items.as_slice())?;
+            let new = put(&mut copies, item)?;
+            *items = Rc::new(alloc, copies)?;
+            Ok(new)
+        }
     }
 }
 
@@ -147,17 +140,23 @@ fn remove_item<T: Keyed>(items: &mut Rc<Vec<T>>, i: usize) -> Result<bool, NoMem
         (if took then suc (length items.new.value.items) else length items.new.value.items)) }
     ensures err { OnErr result (items.new.value.items ≡ items.old.value.items) }
 {
-    own_items(items)?;
     match Rc::get_mut(items) {
         Some(own) => {
             own.remove(i);
             Ok(true)
         }
-        None => Err(NoMemory),
+        None => {
+            let alloc = *items.allocator();
+            let mut copies = copy_items(alloc, items.as_slice())?;
+            copies.remove(i);
+            *items = Rc::new(alloc, copies)?;
+            Ok(true)
+        }
     }
 }
 
-/// Takes a key away from a piece, and answers whether it was there. The piece is copied only then.
+/// Takes a key away from a piece, and answers whether it was there. The piece is copied only then, and only where a copy
+/// shares it.
 pub(crate) fn take<T: Keyed>(items: &mut Rc<Vec<T>>, key: &Value) -> Result<bool, NoMemory>
     requires { IsAscending T.key items.old.value.items }
     ensures ok { OnOk result (items.new.value.items ≡ without T.key key.now items.old.value.items) }

@@ -7,7 +7,7 @@ ghost use Rattle.sp_value.specs.Changes.{IsSet, IsMap, IsKeyed, value_at, has_ke
 use crate::keyed::Keyed;
 use crate::keyed_pieces::{has_key, put_item, take_key};
 use crate::maps::map_get;
-use crate::pieces::own_pieces;
+use crate::pieces::copy_of;
 use crate::value::{Node, Value};
 use sp_base::NoMemory;
 use std::rc::Rc;
@@ -22,10 +22,15 @@ fn put_own<T: Keyed>(pieces: &mut Rc<Vec<Rc<Vec<T>>>>, item: T) -> Result<bool, 
     ensures err { OnErr result (all_in pieces.new.value.items ≡ all_in pieces.old.value.items) }
     ensures pieces { ArePieces T.key pieces.new.value.items }
 {
-    own_pieces(pieces)?;
     match Rc::get_mut(pieces) {
         Some(own) => put_item(own, item),
-        None => Err(NoMemory),
+        None => {
+            let alloc = *pieces.allocator();
+            let mut copy = copy_of(pieces)?;
+            let new = put_item(&mut copy, item)?;
+            *pieces = Rc::new(alloc, copy)?;
+            Ok(new)
+        }
     }
 }
 
@@ -39,10 +44,15 @@ fn take_own<T: Keyed>(pieces: &mut Rc<Vec<Rc<Vec<T>>>>, key: &Value) -> Result<b
     ensures err { OnErr result (all_in pieces.new.value.items ≡ all_in pieces.old.value.items) }
     ensures pieces { ArePieces T.key pieces.new.value.items }
 {
-    own_pieces(pieces)?;
     match Rc::get_mut(pieces) {
         Some(own) => take_key(own, key),
-        None => Err(NoMemory),
+        None => {
+            let alloc = *pieces.allocator();
+            let mut copy = copy_of(pieces)?;
+            let took = take_key(&mut copy, key)?;
+            *pieces = Rc::new(alloc, copy)?;
+            Ok(took)
+        }
     }
 }
 

@@ -98,24 +98,11 @@ pub(crate) fn one_piece<T: Drop>(alloc: Global, items: Vec<T>) -> Result<Vec<Rc<
     Ok(pieces)
 }
 
-/// The same pieces, shared.
-fn copy_of<T: Drop>(pieces: &Vec<Rc<Vec<T>>>) -> Result<Vec<Rc<Vec<T>>>, NoMemory>
+/// The same pieces, shared, in a list of their own.
+pub(crate) fn copy_of<T: Drop>(pieces: &Vec<Rc<Vec<T>>>) -> Result<Vec<Rc<Vec<T>>>, NoMemory>
     ensures all { IfOk result (λ copy. all_in copy.items ≡ all_in pieces.now.items) }
     ensures none_empty { IfOk result (λ copy. NoneEmpty pieces.now.items → NoneEmpty copy.items) }
 {
     let copy = pieces.clone()?;
     Ok(copy)
-}
-
-/// Makes the list of pieces one that no copy shares. The pieces themselves stay shared.
-pub(crate) fn own_pieces<T: Drop>(pieces: &mut Rc<Vec<Rc<Vec<T>>>>) -> Result<(), NoMemory>
-    ensures all { all_in pieces.new.value.items ≡ all_in pieces.old.value.items }
-    ensures none_empty { NoneEmpty pieces.old.value.items → NoneEmpty pieces.new.value.items }
-{
-    if Rc::strong_count(pieces) != 1 {
-        let alloc = *pieces.allocator();
-        let copy = copy_of(pieces)?;
-        *pieces = Rc::new(alloc, copy)?;
-    }
-    Ok(())
 }

@@ -8,7 +8,7 @@ ghost use Rattle.sp_value.specs.Changes.{IsSequence, IsMap, items_of, with_item,
 
 use crate::keyed::place;
 use crate::maps::map_swap;
-use crate::pieces::own_pieces;
+use crate::pieces::copy_of;
 use crate::value::{Node, Value};
 use sp_base::NoMemory;
 use std::mem;
@@ -86,10 +86,17 @@ fn swap_in_map(
     ensures length { length (all_in pieces.new.value.items)
         ≡ length (all_in pieces.old.value.items) }
 {
-    own_pieces(pieces)?;
     match Rc::get_mut(pieces) {
         Some(own) => map_swap(own, key, x),
-        None => Err(NoMemory),
+        None => {
+            let alloc = *pieces.allocator();
+            let mut copy = copy_of(pieces)?;
+            let mut taken = x.copy()?;
+            let there = map_swap(&mut copy, key, &mut taken)?;
+            *pieces = Rc::new(alloc, copy)?;
+            *x = taken;
+            Ok(there)
+        }
     }
 }
 
