@@ -175,7 +175,8 @@ impl Machine {
         ensures { IfSome result (λ slot. (slot ≡ slot_is.Member owner m) × IsSlot slot (state_of self.now)) }
     {
         match self.unit_of(owner) {
-            Some(n) if n < self.instances.len() && (m as usize) < self.instances[n].member_count() => {
+            Some(n)
+                if n < self.instances.len() && (m as usize) < self.instances[n].member_count() => {
                 Some(Slot::Member(owner, m))
             }
             _ => None,

@@ -8,6 +8,6 @@ pub returns : goal.returns
 returns c =
     IfOk-weaker c.find.result (λ n. n ≡ told c.self.inside.buckets c.parts_of.result) (λ n. n ≡ hooks_of c.args.self.now.0 c.args.self.now.1 c.args.key)
     (λ n is. is
-        ∙ ap (told c.self.inside.buckets) c.parts_of.ensures
-        ∙ c.self.invariant (parts_of c.args.key)
-        ∙ ap (λ v. hooks_of v.0 v.1 c.args.key) c.self.view_is) c.find.ensures
+    ∙ ap (told c.self.inside.buckets) c.parts_of.ensures
+    ∙ c.self.invariant (parts_of c.args.key)
+    ∙ ap (λ v. hooks_of v.0 v.1 c.args.key) c.self.view_is) c.find.ensures

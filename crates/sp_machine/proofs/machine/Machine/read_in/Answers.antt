@@ -30,9 +30,11 @@ returns c =
     let value : c.read_int-value.result ≡ integer_of form.little form.signed (take n (take size left)) =
     c.read_int-value.ensures ∙ ap (λ bs. integer_of form.little form.signed bs) read in
     let goes = c.go_to.ensures.goes ∙ ap (λ to. go to (state_of m)) end in
-    read_put slot (m.pc + 1) n (take size left) _ _ _ _ _ _ (subst (λ k. n ≤ k) (sym (length-take-le size left within)) many)
-    (refl, slot_behind slot (m.place + n) (state_of m) c.requires.there,
-    c.store_in.ensures
-    ∙ ap (λ q. At (behind slot (q.pc + 1)) q.operands q.stack (with_slot slot c.read_int-value.result (state_of c.go_to.new.self))) c.go_to.ensures.rest
-    ∙ ap (λ st. At (behind slot (m.pc + 1)) m.operands m.stack (with_slot slot c.read_int-value.result st)) goes
-    ∙ ap (λ v. At (behind slot (m.pc + 1)) m.operands m.stack (with_slot slot v (go (m.place + n) (state_of m)))) value)
+    read_put slot (m.pc + 1) n (take size left) _ _ _ _ _ _ (subst (λ k. n ≤ k) (sym (length-take-le size left within)) many) (
+      refl,
+      slot_behind slot (m.place + n) (state_of m) c.requires.there,
+      c.store_in.ensures
+          ∙ ap (λ q. At (behind slot (q.pc + 1)) q.operands q.stack (with_slot slot c.read_int-value.result (state_of c.go_to.new.self))) c.go_to.ensures.rest
+          ∙ ap (λ st. At (behind slot (m.pc + 1)) m.operands m.stack (with_slot slot c.read_int-value.result st)) goes
+          ∙ ap (λ v. At (behind slot (m.pc + 1)) m.operands m.stack (with_slot slot v (go (m.place + n) (state_of m)))) value,
+    )
