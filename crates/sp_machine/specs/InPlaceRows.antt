@@ -1,5 +1,6 @@
 -- Stores at once, on a little code and a small state.
 use Rattle.std.specs.Prelude.{◌≡◌, true, false, List, [], ◌∷◌, Some, refl}
+use Rattle.std.proofs.Common.{arith}
 use Rattle.sp_numbers.specs.declared.width.Width.TheVariants.{W64}
 use Rattle.sp_words.specs.declared.operators.BinaryOp.TheVariants.{Add}
 use Rattle.sp_words.specs.declared.methods.Method.TheVariants as method_is
