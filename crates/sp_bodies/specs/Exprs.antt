@@ -1,5 +1,5 @@
 -- What expressions mean: how each ends, what it tells, and the state behind it.
-use Rattle.std.specs.Prelude.{ℕ, ◌+◌, ◌-◌, Bool, true, false, ◌&&◌, List, [], ◌∷◌, reverse, Option, Some, None, is_some, Result as Answer, Ok, Err, slice_get}
+use Rattle.std.specs.Prelude.{ℕ, ◌+◌, ◌-◌, Bool, true, false, List, [], ◌∷◌, reverse, Option, Some, None, is_some, Result as Answer, Ok, Err, slice_get}
 use Rattle.sp_base.specs.declared.kinds.PKind.{PKind}
 use Rattle.sp_numbers.specs.declared.width.Width.TheVariants.{W64}
 use Rattle.sp_words.specs.declared.operators.BinaryOp.{BinaryOp}
@@ -154,7 +154,7 @@ abbrev pub called_method : ManyOp → Option Method
 called_method (many_is.Method m slot) = Some m
 called_method o = None
 
--- A method whose result would stand on the container of its receiver claims nothing yet.
+-- A method that changes its receiver, and has a result besides.
 abbrev pub gives_result : Method → Bool
 gives_result PopBack = true
 gives_result m = false
@@ -214,8 +214,8 @@ module _ (globals : Globals) (call : ℕ → List Val → State → Result) (lay
     pub receiver_means : ManyOp → Exprs → State → Result
     receiver_means op none st = ends Unfinished st
     receiver_means op (more r es) st =
-        known (called_method op) (λ m st. chosen (gives_result m && is_item_place r) (ends Unfinished) (place_means (slot_local layout (slot_of_receiver op)) r
-        (λ x put st. all_got es (x ∷ []) (λ vs st. taken put (method m vs) st) st)) st) st
+        known (called_method op) (λ m st. place_means (slot_local layout (slot_of_receiver op)) r
+        (λ x put st. all_got es (x ∷ []) (λ vs st. taken put (method m vs) st) st) st) st
 
     -- A place: a local, a member of a unit, or an item of a place, whose container is read before its key, and is put back with the
     -- changed item.

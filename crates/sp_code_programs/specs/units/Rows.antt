@@ -314,6 +314,34 @@ grown = (refl, refl)
 popped : Tell (function (bytes_row ∷ []) nothing (both (set_to (local bytes_row 0) (vector_of (number 1 ∷ number 2 ∷ [])) ∷ printed (method byte method_is.PopBack (local bytes_row 0 ∷ []) ∷ one_of byte one_is.Size (local bytes_row 0) ∷ []) ∷ [])) ∷ []) (says (2 ∷ 1 ∷ []) ∷ []) (Done void)
 popped = (refl, refl)
 
+-- `print vs[1].pop_back(), vs[1][0], |vs[1]|, vs[0][0];`, and of an item of an item
+abbrev row_at : ℕ → Expr
+row_at n = item bytes_row (local rows_type 0) (number n)
+
+abbrev two_rows : Stmt
+two_rows = set_to (local rows_type 0) (many_of rows_type many_is.Vector (vector_of (number 1 ∷ []) ∷ vector_of (number 2 ∷ number 3 ∷ []) ∷ []))
+
+popped_off_item : Tell (function (rows_type ∷ []) nothing (both (two_rows ∷ printed (method byte method_is.PopBack (row_at 1 ∷ []) ∷ at_row 1 ∷ one_of byte one_is.Size (row_at 1) ∷ at_row 0 ∷ []) ∷ [])) ∷ []) (says (3 ∷ 2 ∷ 1 ∷ 1 ∷ []) ∷ []) (Done void)
+popped_off_item = (refl, refl)
+
+abbrev tables_type : Ty
+tables_type = made maker_is.Vector (tys (rows_type ∷ []))
+
+abbrev row_in : ℕ → Expr
+row_in n = item bytes_row (item rows_type (local tables_type 0) (number 0)) (number n)
+
+popped_off_item_of_item :
+    Tell (function (tables_type ∷ []) nothing (both (set_to (local tables_type 0) (many_of tables_type many_is.Vector (many_of rows_type many_is.Vector (vector_of (number 1 ∷ []) ∷ vector_of (number 2 ∷ number 3 ∷ []) ∷ []) ∷ [])) ∷ printed (binary byte op_is.Add (number 5) (method byte method_is.PopBack (row_in 1 ∷ [])) ∷ one_of byte one_is.Size (row_in 1) ∷ one_of byte one_is.Size (row_in 0) ∷ []) ∷ [])) ∷ [])
+    (says (8 ∷ 1 ∷ 1 ∷ []) ∷ []) (Done void)
+popped_off_item_of_item = (refl, refl)
+
+-- the second call finds nothing in the row; and there is no third row
+popped_twice : Tell (function (rows_type ∷ []) nothing (both (two_rows ∷ evaluate (method byte method_is.PopBack (row_at 0 ∷ [])) ∷ printed (one_of byte one_is.Size (row_at 0) ∷ []) ∷ evaluate (method byte method_is.PopBack (row_at 0 ∷ [])) ∷ [])) ∷ []) (says (0 ∷ []) ∷ []) (Fails error_is.Index None 3)
+popped_twice = (refl, refl)
+
+popped_off_nothing : Tell (function (rows_type ∷ []) nothing (both (two_rows ∷ evaluate (method byte method_is.PopBack (row_at 2 ∷ [])) ∷ [])) ∷ []) [] (Fails error_is.Index None 3)
+popped_off_nothing = (refl, refl)
+
 -- a call that returns out of a loop: `return f() + 1;` with `for (x in [5, 6]) { return x; }`
 left_early : Tell (function [] byte (returned (binary byte op_is.Add (call byte 1 []) (number 1))) ∷ function (byte ∷ []) byte (each_of 0 (vector_of (number 5 ∷ number 6 ∷ [])) (returned (local byte 0))) ∷ []) [] (Done (uint W8 6))
 left_early = (refl, refl)
