@@ -1,6 +1,6 @@
 -- What is made of parts that pass.
-use Rattle.std.specs.Prelude.{◌&&◌, not, Option, Some, None, slice_get}
-use Rattle.std.proofs.Common.{◌≡◌, ◌∙◌, ℕ, Bool, true, false, List, [], ◌∷◌, reverse, refl, sym, ap, subst}
+use Rattle.std.specs.Prelude.{◌&&◌, Option, Some, None, slice_get}
+use Rattle.std.proofs.Common.{◌≡◌, ◌∙◌, ℕ, true, false, List, [], ◌∷◌, reverse, refl, sym, ap, subst}
 use Rattle.std.proofs.lemmas.Bool.{and_parts}
 use Rattle.std.proofs.lemmas.List.{reverse-reverse}
 use Rattle.sp_base.specs.declared.places.Span.{Span}
@@ -298,23 +298,17 @@ module _ (around : Around) where
       let b = and_parts (sorts_are (wanted m) es) (gives m t) h in
       simple_fits m es t b.0 b.1
 
-  false_is : (b : Bool) → not b ≡ true → b ≡ false
-  false_is false h = refl
-  false_is true h = absurd (let z : false ≡ true = h in cc)
-
   -- a method that changes its receiver
-  pub change_fits : (p : Plain) (shapes : Shapes) (m : Method) (slot : Option ℕ) (on_item : Bool) (r : Expr) (es : Exprs) (t : Ty) → change_is m on_item (type_of r) es t ≡ true →
-      ChangeFits p shapes (many_is.Method m slot) on_item (on es (there (type_of r) ∷ [])) (there (type_of r)) (there t)
-  change_fits p shapes PushBack slot on_item r none t h = absurd (let z : false ≡ true = h in cc)
-  change_fits p shapes PushBack slot on_item r (more e none) t h =
+  pub change_fits : (p : Plain) (shapes : Shapes) (m : Method) (slot : Option ℕ) (r : Expr) (es : Exprs) (t : Ty) → change_is m (type_of r) es t ≡ true →
+      ChangeFits p shapes (many_is.Method m slot) (on es (there (type_of r) ∷ [])) (there (type_of r)) (there t)
+  change_fits p shapes PushBack slot r none t h = absurd (let z : false ≡ true = h in cc)
+  change_fits p shapes PushBack slot r (more e none) t h =
       let b = and_parts (vector_of (type_of r) (type_of e)) (is_sort t sort_is.Void) h in
       (rw (vector_kind (globals_in around).ranges (type_of r) (type_of e) b.0) (push_back_takes (there (type_of e))), of_sort (globals_in around).ranges t sort_is.Void b.1)
-  change_fits p shapes PushBack slot on_item r (more e (more d es)) t h = absurd (let z : false ≡ true = h in cc)
-  change_fits p shapes PopBack slot on_item r none t h =
-      let b = and_parts (not on_item) (vector_of (type_of r) t) h in
-      (false_is on_item b.0, rw (vector_kind (globals_in around).ranges (type_of r) t b.1) (pop_back_takes (there t)))
-  change_fits p shapes PopBack slot on_item r (more e es) t h = absurd (let z : false ≡ true = h in cc)
-  change_fits p shapes _ slot on_item r es t h = absurd (let z : false ≡ true = h in cc)
+  change_fits p shapes PushBack slot r (more e (more d es)) t h = absurd (let z : false ≡ true = h in cc)
+  change_fits p shapes PopBack slot r none t h = rw (vector_kind (globals_in around).ranges (type_of r) t h) (pop_back_takes (there t))
+  change_fits p shapes PopBack slot r (more e es) t h = absurd (let z : false ≡ true = h in cc)
+  change_fits p shapes _ slot r es t h = absurd (let z : false ≡ true = h in cc)
 
   -- containers that are written out
   tuple_made : (p : Plain) (shapes : Shapes) (es : Exprs) (t : Ty) → tuple_of t es ≡ true → ManyFits p shapes many_is.Tuple (count es) (on es []) (there t)

@@ -20,7 +20,7 @@ use Rattle.sp_typed.specs.declared.words.ManyOp.TheVariants as many_is
 use Rattle.sp_typed.specs.declared.words.UnitMethod.TheVariants as unit_method
 use Rattle.sp_typed.specs.Exprs.{Expr, Exprs, leaf, one, two, three, many, none, more, type_of}
 use Rattle.sp_running.specs.Types.{kind_of_type}
-use Rattle.sp_bodies.specs.Exprs.{negative, negative_literal, offset_local, is_self, slot_local, is_item, is_item_place, member_named, local_named}
+use Rattle.sp_bodies.specs.Exprs.{negative, negative_literal, offset_local, is_self, slot_local, is_item, member_named, local_named}
 use Rattle.sp_code.specs.Machine.{Plain}
 use Rattle.sp_code.specs.Shapes.{Shapes, IsMember}
 use Rattle.sp_code_programs.specs.exprs.Code.{count, member_of, place_local, kinds_on}
@@ -182,7 +182,7 @@ module _ (around : Around) where
     receiver_built : (m : Method) (slot : Option ℕ) (t : Ty) (es : Exprs) → change_passes around m slot t es ≡ true → ReceiverIsBuilt (globals_in around) around.list.functions es
     receiver_built m slot t none q = absurd (let z : false ≡ true = q in cc)
     receiver_built m slot t (more r es) q =
-        let x = three_parts (place_passes around (slot_local around.places slot) r) (exprs_pass around es) (change_is m (is_item_place r) (type_of r) es t) q in
+        let x = three_parts (place_passes around (slot_local around.places slot) r) (exprs_pass around es) (change_is m (type_of r) es t) q in
         (place_built (slot_local around.places slot) r x.0, all_built es x.1)
 
     pub place_built : (owner : Option ℕ) (e : Expr) → place_passes around owner e ≡ true → PlaceIsBuilt (globals_in around) around.list.functions e
@@ -265,7 +265,7 @@ module _ (around : Around) where
     receiver_literals : (m : Method) (slot : Option ℕ) (t : Ty) (es : Exprs) → change_passes around m slot t es ≡ true → AllLiteralsFit es × BeginsFitting es
     receiver_literals m slot t none q = absurd (let z : false ≡ true = q in cc)
     receiver_literals m slot t (more r es) q =
-        let x = three_parts (place_passes around (slot_local around.places slot) r) (exprs_pass around es) (change_is m (is_item_place r) (type_of r) es t) q in
+        let x = three_parts (place_passes around (slot_local around.places slot) r) (exprs_pass around es) (change_is m (type_of r) es t) q in
         let y = place_literals (slot_local around.places slot) r x.0 in
         ((y.1, all_literals es x.1), y.0)
 
@@ -328,7 +328,7 @@ module _ (around : Around) where
     receiver_arguments : (m : Method) (slot : Option ℕ) (t : Ty) (es : Exprs) → change_passes around m slot t es ≡ true → AllArgumentsMatch around.list.functions es
     receiver_arguments m slot t none q = absurd (let z : false ≡ true = q in cc)
     receiver_arguments m slot t (more r es) q =
-        let x = three_parts (place_passes around (slot_local around.places slot) r) (exprs_pass around es) (change_is m (is_item_place r) (type_of r) es t) q in
+        let x = three_parts (place_passes around (slot_local around.places slot) r) (exprs_pass around es) (change_is m (type_of r) es t) q in
         (place_arguments (slot_local around.places slot) r x.0, all_arguments es x.1)
 
     pub place_arguments : (owner : Option ℕ) (e : Expr) → place_passes around owner e ≡ true → ArgumentsMatch around.list.functions e
@@ -356,7 +356,7 @@ module _ (around : Around) where
       is_place
       (slot_local around.places slot)
       r
-      (three_parts (place_passes around (slot_local around.places slot) r) (exprs_pass around es) (change_is m (is_item_place r) (type_of r) es t) q).0
+      (three_parts (place_passes around (slot_local around.places slot) r) (exprs_pass around es) (change_is m (type_of r) es t) q).0
 
   has_no_receiver : (o : ManyOp) (es : Exprs) → IsNoMethod o → HasReceiver o es
   has_no_receiver (many_is.Method m slot) es apart = absurd apart
@@ -405,7 +405,7 @@ module _ (around : Around) where
     receiver_places : (m : Method) (slot : Option ℕ) (t : Ty) (es : Exprs) → change_passes around m slot t es ≡ true → AllChangePlaces es
     receiver_places m slot t none q = absurd (let z : false ≡ true = q in cc)
     receiver_places m slot t (more r es) q =
-        let x = three_parts (place_passes around (slot_local around.places slot) r) (exprs_pass around es) (change_is m (is_item_place r) (type_of r) es t) q in
+        let x = three_parts (place_passes around (slot_local around.places slot) r) (exprs_pass around es) (change_is m (type_of r) es t) q in
         (place_places (slot_local around.places slot) r x.0, all_places es x.1)
 
     pub place_places : (owner : Option ℕ) (e : Expr) → place_passes around owner e ≡ true → ChangesPlaces e
@@ -546,8 +546,8 @@ module _ (around : Around) where
           expressions.ReceiverFits p shapes (globals_in around) around.places (locals_in around) around.unit (many_is.Method m slot) (kind t) es
       receiver_fits m slot t none q = absurd (let z : false ≡ true = q in cc)
       receiver_fits m slot t (more r es) q =
-          let x = three_parts (place_passes around (slot_local around.places slot) r) (exprs_pass around es) (change_is m (is_item_place r) (type_of r) es t) q in
-          (place_fits (slot_local around.places slot) r x.0, all_fit es x.1, change_fits around p shapes m slot (is_item_place r) r es t x.2)
+          let x = three_parts (place_passes around (slot_local around.places slot) r) (exprs_pass around es) (change_is m (type_of r) es t) q in
+          (place_fits (slot_local around.places slot) r x.0, all_fit es x.1, change_fits around p shapes m slot r es t x.2)
 
       pub place_fits : (owner : Option ℕ) (e : Expr) → place_passes around owner e ≡ true → expressions.PlaceFits p shapes (globals_in around) around.places (locals_in around) around.unit owner e
       place_fits owner (leaf h) q = local_fits h.op h.ty q
