@@ -1,5 +1,5 @@
 -- What expressions mean: how each ends, what it tells, and the state behind it.
-use Rattle.std.specs.Prelude.{ℕ, ◌+◌, ◌-◌, Bool, true, false, ◌&&◌, List, [], ◌∷◌, reverse, Option, Some, None, is_some, Result as Answer, Ok, Err, slice_get}
+use Rattle.std.specs.Prelude.{ℕ, ◌+◌, ◌-◌, Bool, true, false, List, [], ◌∷◌, reverse, Option, Some, None, is_some, Result as Answer, Ok, Err, slice_get}
 use Rattle.sp_base.specs.declared.kinds.PKind.{PKind}
 use Rattle.sp_numbers.specs.declared.width.Width.TheVariants.{W64}
 use Rattle.sp_words.specs.declared.operators.BinaryOp.{BinaryOp}
@@ -28,6 +28,11 @@ use Rattle.sp_running.specs.States.{State, Gives, Fine, Unfinished, Result, ends
 use Rattle.sp_running.specs.Values.{item_at, with_at, size_value, set_of, map_of}
 use Rattle.sp_running.specs.Types.{number_value, plain_type, zero_value}
 use Rattle.sp_bodies.specs.Globals.{Globals, Layout, label_value, parameter_in}
+
+-- how many expressions these are
+abbrev pub how_many : Exprs → ℕ
+how_many none = 0
+how_many (more e es) = how_many es + 1
 
 -- a value, where there is one
 abbrev pub known : {A : Type 0} → Option A → (A → State → Result) → State → Result
@@ -154,7 +159,7 @@ abbrev pub called_method : ManyOp → Option Method
 called_method (many_is.Method m slot) = Some m
 called_method o = None
 
--- A method whose result would stand on the container of its receiver claims nothing yet.
+-- A method that changes its receiver, and has a result besides.
 abbrev pub gives_result : Method → Bool
 gives_result PopBack = true
 gives_result m = false
@@ -214,8 +219,8 @@ module _ (globals : Globals) (call : ℕ → List Val → State → Result) (lay
     pub receiver_means : ManyOp → Exprs → State → Result
     receiver_means op none st = ends Unfinished st
     receiver_means op (more r es) st =
-        known (called_method op) (λ m st. chosen (gives_result m && is_item_place r) (ends Unfinished) (place_means (slot_local layout (slot_of_receiver op)) r
-        (λ x put st. all_got es (x ∷ []) (λ vs st. taken put (method m vs) st) st)) st) st
+        known (called_method op) (λ m st. place_means (slot_local layout (slot_of_receiver op)) r
+        (λ x put st. all_got es (x ∷ []) (λ vs st. taken put (method m vs) st) st) st) st
 
     -- A place: a local, a member of a unit, or an item of a place, whose container is read before its key, and is put back with the
     -- changed item.

@@ -1,5 +1,5 @@
 -- What an instruction wants of operands and locals, as a machine asks it.
-use Rattle.std.specs.Prelude.{◌≡◌, ℕ, ◌<◌, ◌≤◌, IsTrue, List, [], ◌∷◌, length, take, Option, Some, None, slice_get}
+use Rattle.std.specs.Prelude.{◌≡◌, ℕ, ◌+◌, ◌<◌, ◌≤◌, IsTrue, List, [], ◌∷◌, length, take, Option, Some, None, slice_get}
 use Rattle.sp_words.specs.Methods.{arity}
 use Rattle.sp_value.specs.Val.{Val, void, bool, uint, bytes, str, bits, tuple, vector, set, map, unit}
 use Rattle.sp_value.specs.Changes.{IsSet, IsKeyed}
@@ -7,7 +7,7 @@ use Rattle.sp_operators.specs.Operands.{takes, takes_one, has_size, is_cast}
 use Rattle.sp_methods.specs.Methods.{suits}
 use Rattle.sp_running.specs.States.{State, instance_of}
 use Rattle.sp_code.specs.declared.instr.Instr.{Instr}
-use Rattle.sp_code.specs.declared.instr.Instr.TheVariants.{Const, Load, Store, Param, SelfUnit, GetField, HasField, SetField, Unary, Binary, Cast, MakeTuple, MakeVector, MakeSet, MakeMap, Index, SetIndex, Size, Lib, AddKey, DeleteKey, Pop, Dup, Jump, JumpNot, Call, Return, Turn, EachStart, EachNext, Print, Assert, Throw, Fail, EnterUnit, LeaveUnit, Hook, Offset, ReadInt}
+use Rattle.sp_code.specs.declared.instr.Instr.TheVariants.{Const, Load, Store, Param, SelfUnit, GetField, HasField, SetField, Unary, Binary, Cast, MakeTuple, MakeVector, MakeSet, MakeMap, Index, SetIndex, Size, Lib, AddKey, DeleteKey, Pop, Dup, Under, Jump, JumpNot, Call, Return, Turn, EachStart, EachNext, Print, Assert, Throw, Fail, EnterUnit, LeaveUnit, Hook, Offset, ReadInt}
 use Rattle.sp_code.specs.Machine.{Body, UnitCode, Plain}
 
 -- the first, second and third operand, the top first
@@ -101,6 +101,7 @@ Can p (Some AddKey) vs st = (1 < length vs) × IsSet (second vs)
 Can p (Some DeleteKey) vs st = (1 < length vs) × IsKeyed (second vs)
 Can p (Some Pop) vs st = 0 < length vs
 Can p (Some Dup) vs st = 1 < length vs
+Can p (Some (Under n)) vs st = n + 1 < length vs
 Can p (Some (Jump to)) vs st = Unit {0}
 Can p (Some (JumpNot to)) vs st = (0 < length vs) × IsBool (top vs)
 Can p (Some (Call f)) vs st = (e : Body) × (slice_get p.bodies f ≡ Some e) × (e.takes ≤ length vs)

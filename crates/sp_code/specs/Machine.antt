@@ -20,7 +20,7 @@ use Rattle.sp_running.specs.Values.{item_at, with_at, size_value, set_of, map_of
 use Rattle.sp_running.specs.Types.{width_bytes}
 use Rattle.sp_running.specs.Telling.{Names, value_trees}
 use Rattle.sp_code.specs.declared.instr.Instr.{Instr}
-use Rattle.sp_code.specs.declared.instr.Instr.TheVariants.{Const, Load, Store, Param, SelfUnit, GetField, HasField, SetField, Unary, Binary, Cast, MakeTuple, MakeVector, MakeSet, MakeMap, Index, SetIndex, Size, Lib, AddKey, DeleteKey, Pop, Dup, Jump, JumpNot, Call, Return, Turn, EachStart, EachNext, Print, Assert, Throw, Fail, EnterUnit, LeaveUnit, Hook, Offset, ReadInt}
+use Rattle.sp_code.specs.declared.instr.Instr.TheVariants.{Const, Load, Store, Param, SelfUnit, GetField, HasField, SetField, Unary, Binary, Cast, MakeTuple, MakeVector, MakeSet, MakeMap, Index, SetIndex, Size, Lib, AddKey, DeleteKey, Pop, Dup, Under, Jump, JumpNot, Call, Return, Turn, EachStart, EachNext, Print, Assert, Throw, Fail, EnterUnit, LeaveUnit, Hook, Offset, ReadInt}
 
 -- a body of a function or a hook: where its code begins, how many values it takes, the first values of its other locals; and of a
 -- hook its name, and how many of the values that it takes its event tells
@@ -189,6 +189,11 @@ unit_next limits (Some e) u pc vs fs st =
     counted limits.turns (λ st. nested limits.depth (λ s. Goes [] (At e.start [] (parts_frame e ∷ unit_frame e pc (drop e.takes vs) st ∷ fs) (entered e u (take e.takes vs) s))) fs st) fs st
 unit_next limits None u pc vs fs st = Goes [] (At pc vs fs st)
 
+-- the value below the top one stands under so many more
+abbrev pub under : {A : Type 0} → ℕ → List A → List A
+under n (x ∷ y ∷ xs) = x ∷ (take n xs ++ y ∷ drop n xs)
+under n xs = xs
+
 abbrev pub const_of : List Val → ℕ → Val
 const_of consts c = unwrap_or (slice_get consts c) void
 
@@ -217,6 +222,7 @@ module _ (p : Plain) (reads : Reading → Ask → Read) where
   act (Some DeleteKey) pc (k ∷ c ∷ vs) fs st = Goes [] (At (pc + 1) (without_key c k ∷ vs) fs st)
   act (Some Pop) pc (v ∷ vs) fs st = Goes [] (At (pc + 1) vs fs st)
   act (Some Dup) pc (k ∷ c ∷ vs) fs st = Goes [] (At (pc + 1) (k ∷ c ∷ k ∷ c ∷ vs) fs st)
+  act (Some (Under n)) pc vs fs st = Goes [] (At (pc + 1) (under n vs) fs st)
   act (Some (Jump to)) pc vs fs st = Goes [] (At to vs fs st)
   act (Some (JumpNot to)) pc (v ∷ vs) fs st = Goes [] (if truth_of v then At (pc + 1) vs fs st else At to vs fs st)
   act (Some (Call f)) pc vs fs st = call_next p.limits (slice_get p.bodies f) (pc + 1) vs fs st

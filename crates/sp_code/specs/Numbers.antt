@@ -1,9 +1,9 @@
 -- The numbers of instructions: each is the place of its word in the list of all.
 use Rattle.std.specs.Prelude.{ℕ, ◌+◌}
 use Rattle.sp_code.specs.declared.instr.Instr.{Instr}
-use Rattle.sp_code.specs.declared.instr.Instr.TheVariants.{Const, Load, Store, Param, SelfUnit, GetField, HasField, SetField, Unary, Binary, Cast, MakeTuple, MakeVector, MakeSet, MakeMap, Index, SetIndex, Size, Lib, AddKey, DeleteKey, Pop, Dup, Jump, JumpNot, Call, Return, Turn, EachStart, EachNext, Print, Assert, Throw, Fail, EnterUnit, LeaveUnit, Hook, Offset, ReadInt}
+use Rattle.sp_code.specs.declared.instr.Instr.TheVariants.{Const, Load, Store, Param, SelfUnit, GetField, HasField, SetField, Unary, Binary, Cast, MakeTuple, MakeVector, MakeSet, MakeMap, Index, SetIndex, Size, Lib, AddKey, DeleteKey, Pop, Dup, Under, Jump, JumpNot, Call, Return, Turn, EachStart, EachNext, Print, Assert, Throw, Fail, EnterUnit, LeaveUnit, Hook, Offset, ReadInt}
 
--- where the groups begin: values, flow, units and readings
+-- where the groups begin: values, flow, units, readings, and what came later
 abbrev pub flow : ℕ
 flow = 23
 
@@ -12,6 +12,9 @@ units = flow + 11
 
 abbrev pub readings : ℕ
 readings = units + 12
+
+abbrev pub later : ℕ
+later = readings + 30
 
 abbrev pub instr_number : Instr → ℕ
 instr_number (Const c) = 0
@@ -37,6 +40,7 @@ instr_number AddKey = 19
 instr_number DeleteKey = 20
 instr_number Pop = 21
 instr_number Dup = 22
+instr_number (Under n) = later
 instr_number (Jump to) = flow
 instr_number (JumpNot to) = flow + 1
 instr_number (Call f) = flow + 2

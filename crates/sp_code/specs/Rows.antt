@@ -5,6 +5,7 @@ use Rattle.sp_code.specs.declared.program.KindRow.TheVariants as row_is
 use Rattle.sp_code.specs.declared.program.StackRow.{StackRow}
 use Rattle.sp_code.specs.declared.program.Opened.TheVariants as opened_is
 use Rattle.sp_code.specs.declared.program.RoundRow.TheVariants as round_is
+use Rattle.sp_code.specs.Machine.{under}
 use Rattle.sp_code.specs.Programs.{kinds_from, stack_at, stacks_from, opens_from, shape_of}
 use Rattle.sp_code.specs.Shapes.{Shape, Opens, AView, ATry, OfEnding}
 
@@ -48,3 +49,10 @@ shape = shape_of kinds stacks opens (record { unit = None; round = round_is.Endi
 
 by_rows : shape ≡ record { unit = None; round = OfEnding; locals = Bools ∷ Unsigned ∷ []; operands = VectorOf Unsigned ∷ Unsigned ∷ []; opens = AView ∷ ATry 7 (Unsigned ∷ []) ∷ [] }
 by_rows = refl
+
+-- the second one goes under two more
+under_two : under {A = ℕ} 2 (1 ∷ 2 ∷ 3 ∷ 4 ∷ 5 ∷ []) ≡ 1 ∷ 3 ∷ 4 ∷ 2 ∷ 5 ∷ []
+under_two = refl
+
+under_none : under {A = ℕ} 0 (1 ∷ 2 ∷ 3 ∷ []) ≡ 1 ∷ 2 ∷ 3 ∷ []
+under_none = refl

@@ -8,7 +8,7 @@ use Rattle.sp_running.specs.States.{Instance, State, End, Fine, Failed, Returned
 use Rattle.sp_running.specs.Scopes.{Called, Scope, InUnit, InParts, InFailing, InCall, InSize, InMax, InFrom, InAt, InTry}
 use Rattle.sp_running.specs.Scopes as called_is
 use Rattle.sp_code.specs.declared.instr.Instr.{Instr}
-use Rattle.sp_code.specs.declared.instr.Instr.TheVariants.{Const, Load, Store, Param, SelfUnit, GetField, HasField, SetField, Unary, Binary, Cast, MakeTuple, MakeVector, MakeSet, MakeMap, Index, SetIndex, Size, Lib, AddKey, DeleteKey, Pop, Dup, Jump, JumpNot, Call, Return, Turn, EachStart, EachNext, Print, Assert, Throw, Fail, EnterUnit, LeaveUnit, Hook, Offset, ReadInt}
+use Rattle.sp_code.specs.declared.instr.Instr.TheVariants.{Const, Load, Store, Param, SelfUnit, GetField, HasField, SetField, Unary, Binary, Cast, MakeTuple, MakeVector, MakeSet, MakeMap, Index, SetIndex, Size, Lib, AddKey, DeleteKey, Pop, Dup, Under, Jump, JumpNot, Call, Return, Turn, EachStart, EachNext, Print, Assert, Throw, Fail, EnterUnit, LeaveUnit, Hook, Offset, ReadInt}
 use Rattle.sp_code.specs.Kinds.{kind_of_two, kind_of_one, kind_of_cast, IsSized, IsPlaceIn, IsItemOf, IsGoneOver, IsMessage, in_turn}
 use Rattle.sp_code.specs.Machine.{Body, UnitCode, Plain, Frame, Config, At, Ending}
 
@@ -211,6 +211,7 @@ module _ (p : Plain) (shapes : Shapes) where
   Keeps DeleteKey pc s = (c j : Kind) × IsKeyOf c j × Takes pc s (j ∷ c ∷ []) (c ∷ [])
   Keeps Pop pc s = (k : Kind) × Takes pc s (k ∷ []) []
   Keeps Dup pc s = (j k : Kind) × Takes pc s (j ∷ k ∷ []) (j ∷ k ∷ j ∷ k ∷ [])
+  Keeps (Under n) pc s = (j k : Kind) × (ks : List Kind) × (length ks ≡ n) × Takes pc s (j ∷ k ∷ ks) (j ∷ (ks ++ k ∷ []))
   Keeps (Jump to) pc s = Shown to s
   Keeps (JumpNot to) pc s = (ks : List Kind) × (s.operands ≡ Bools ∷ ks) × Shown (pc + 1) (with_operands s ks) × Shown to (with_operands s ks)
   Keeps (Call f) pc s = (ins : List Kind) × (k : Kind) × Enters f None called_is.Called.Function (OfFunction k) ins × Takes pc s ins (k ∷ [])

@@ -60,6 +60,8 @@ pub enum Instr {
     Pop,
     /// Copies the two values on top: a key, and a container below it.
     Dup,
+    /// Puts the value below the top one under so many more.
+    Under(u32),
     Jump(u32),
     /// Takes a Boolean, and goes to the address where it is false.
     JumpNot(u32),
@@ -122,6 +124,7 @@ impl Instr {
             Instr::DeleteKey => 20,
             Instr::Pop => 21,
             Instr::Dup => 22,
+            Instr::Under(_) => 76,
             Instr::Jump(_) => 23,
             Instr::JumpNot(_) => 24,
             Instr::Call(_) => 25,

@@ -1,3 +1,4 @@
+pub mod Askings
 pub mod Causing
 pub mod Puts
 pub mod ReadModules

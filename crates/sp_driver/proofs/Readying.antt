@@ -66,7 +66,7 @@ always_runs : CompiledListsRun → (name : Option (List ℕ)) (t : Typed) (p : P
 always_runs law name t p u compiled passes is limits =
     let at = there name (slice_get t.units u) (chosen_asked name t.units u is) in
     let runs = law t p compiled passes.fits (record { functions = passes.bodies.functions; hooks = passes.bodies.hooks }) in
-    record { compiled = compiled; sound = runs.0; unit = runs.1 u at.unit at.is (passes.units u at.unit at.is) [] (no_arguments t at.unit at.nothing) limits }
+    record { compiled = compiled; sound = runs.0; stands = runs.2; unit = runs.1 u at.unit at.is (passes.units u at.unit at.is) [] (no_arguments t at.unit at.nothing) limits }
 
 pub passing_runs : CompiledListsRun → (t : Typed) (r : Result Program NoMemory) → IfOk r (IsCompiled t) → ListPasses t → IfOk r (RunsWhatIsChosen t)
 passing_runs law t (Ok p) compiled passes = λ name u is. always_runs law name t p u compiled passes is

@@ -1,7 +1,9 @@
 // The program: it reads its words, the list of modules and the input, and answers a status.
-ghost use Rattle.std.specs.Prelude.{◌≡◌, ◌≤◌, ◌<◌, ◌-◌, ◌^◌, Some, option_map, IfOk, IfSome};
+ghost use Rattle.std.specs.Prelude.{◌≡◌, ◌≢◌, ◌≤◌, ◌<◌, ◌-◌, ◌^◌, Some, option_map, IfOk, IfSome};
 ghost use Rattle.sp_driver_words.specs.Wants.{wanted_words, AreInRange};
 ghost use Rattle.sp_driver_words.specs.Words.{Words, words_of};
+ghost use Rattle.sp_front.specs.Asked.{Asks};
+ghost use Rattle.sp_driver.specs.Asked.{AsksByWords, AsksAllByWords};
 ghost use Rattle.sp_driver.specs.Causes.{IsCausedBy};
 ghost use Rattle.sp_driver.specs.Whole.{IsAnswered};
 ghost use Rattle.sp_driver.specs.Options.{options_of};
@@ -102,6 +104,10 @@ fn drive<M: Modules, S: Source, O: Out>(
           };
         }) result }
     ensures some { (w : Words) → words_of words.now ≡ Some w → 1 ≤ w.increment }
+    ensures asks { Asks (M.files modules.old) (M.asked modules.old) (M.asked modules.new)
+        (AsksByWords words.now) }
+    ensures asks_all { status_of result ≢ 4 → status_of result ≢ 7 → Asks (M.files modules.old)
+        (M.asked modules.old) (M.asked modules.new) (AsksAllByWords words.now) }
     ensures cause { ExitCause
         (record {
           modules = M.faults modules.old;
@@ -192,7 +198,8 @@ fn report<E: Out>(alloc: Global, exit: &Exit, err: &mut E) -> u8
 }
 
 /// Loads the list of modules that the words name, compiles it, and runs a unit of it over the input. Writes the lines that it tells to
-/// `out` and a message where something is wrong to `err`, and answers the status of the program.
+/// `out` and a message where something is wrong to `err`, and answers the status of the program. Only the files of the list are read,
+/// and where an import's module is looked for.
 pub fn spicy_driver<M: Modules, S: Source, O: Out, E: Out>(
     alloc: Global,
     words: &[Text],
@@ -240,6 +247,10 @@ pub fn spicy_driver<M: Modules, S: Source, O: Out, E: Out>(
         }) result }
     ensures answer { IsAnswered words.now (M.files modules.old) (S.left input.old) (O.held out.old)
         (O.held out.new) (E.held err.old) (E.held err.new) result }
+    ensures asks { Asks (M.files modules.old) (M.asked modules.old) (M.asked modules.new)
+        (AsksByWords words.now) }
+    ensures asks_all { result ≢ 4 → result ≢ 5 → result ≢ 7 → Asks (M.files modules.old)
+        (M.asked modules.old) (M.asked modules.new) (AsksAllByWords words.now) }
 {
     let exit = drive(alloc, words, modules, input, out);
     report(alloc, &exit, err)

@@ -3,6 +3,7 @@ ghost use Rattle.std.specs.Prelude.{◌≡◌, ◌<◌, ◌-◌, ◌^◌, List, 
 ghost use Rattle.sp_command.specs.Directories.{directories_of};
 ghost use Rattle.sp_read_file.specs.Loads.{UnreadCause};
 ghost use Rattle.sp_front.specs.declared.entries.ModuleFile.{ModuleFile as File};
+ghost use Rattle.sp_front.specs.Asked.{Asks, AsksAll, AsksNoMore};
 ghost use Rattle.sp_front.specs.inside.Follow.{IsRefusedBy};
 ghost use Rattle.sp_load.specs.Loads.{IsLoaded, IsLoadRefused, sources_of, trees_of};
 ghost use Rattle.sp_checked_list.specs.NameRules.{IsTyped};
@@ -31,6 +32,13 @@ pub fn load_list<M: Modules>(
     ensures passing { IfOk result (λ l. PassesWhereBuilt l.modules.items l.typed) }
     ensures refused { IfErr result (IsRefusedBy (IsLoadRefused (M.files modules.old) files.now
         (directories_of directories.now))) }
+    ensures asks { IfOk result (λ _. Asks (M.files modules.old) (M.asked modules.old)
+        (M.asked modules.new) (λ told. AsksAll told files.now (directories_of directories.now))) }
+    ensures asks_refused { IfErr result (IsRefusedBy (λ _. Asks (M.files modules.old)
+        (M.asked modules.old) (M.asked modules.new)
+        (λ told. AsksAll told files.now (directories_of directories.now)))) }
+    ensures asks_no_more { Asks (M.files modules.old) (M.asked modules.old) (M.asked modules.new)
+        (λ told. AsksNoMore told files.now (directories_of directories.now)) }
     ensures cause { MatchResult result (λ _. M.faults modules.new ≡ M.faults modules.old)
         (UnreadCause (M.faults modules.old) (M.faults modules.new)) }
 {

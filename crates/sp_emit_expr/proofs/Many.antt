@@ -91,6 +91,14 @@ module _ (globals : Globals) (layout : Layout) where
       ∙ ap (λ (ks : List Kind). with_operands s (lowest (length s.operands) ks)) (above.1 ∙ all)
       ∙ ap (λ (ks : List Kind). with_operands s ks) (lowest_on (above.0 ++ k ∷ waits.0) s.operands)
 
+  -- what waits for a receiver, and the result and the new receiver on it, are gone
+  pub lowered_under : (s : Shape) (r : Expr) (j k : Kind) (n : ℕ) → n ≡ length s.operands → lowered n (push j (push k (pending globals layout s r))) ≡ s
+  lowered_under s r j k n is =
+      let waits = pending_above s r in
+      ap (λ (t : Shape). lowered n (push j (push k t))) waits.1
+      ∙ ap (λ (m : ℕ). with_operands s (lowest m (j ∷ k ∷ (waits.0 ++ s.operands)))) is
+      ∙ ap (λ (ks : List Kind). with_operands s ks) (lowest_on (j ∷ k ∷ waits.0) s.operands)
+
   pub exprs_added : (e₀ e₁ e₂ : Emitted) (e : Expr) (es : Exprs) → Adds e₀ e₁ (expr_code globals layout e₀.now (length e₀.marks) e) (push (kind_of globals layout e) e₀.now)
       → Adds e₁ e₂ (exprs_code globals layout e₁.now (length e₁.marks) es) (with_operands e₁.now (kinds_on globals layout es e₁.now.operands))
       → Adds e₀ e₂ (exprs_code globals layout e₀.now (length e₀.marks) (more e es)) (with_operands e₀.now (kinds_on globals layout (more e es) e₀.now.operands))

@@ -1,5 +1,5 @@
 -- What it is to append the code of an expression or a place, by the shape to which the code before has led and the next address.
-use Rattle.std.specs.Prelude.{ℕ, List, [], ◌∷◌, length, Option}
+use Rattle.std.specs.Prelude.{ℕ, ◌&&◌, List, [], ◌∷◌, length, Option}
 use Rattle.sp_words.specs.declared.methods.Method.{Method}
 use Rattle.sp_types.specs.Types.{Ty}
 use Rattle.sp_typed.specs.declared.words.ManyOp.TheVariants as many_is
@@ -8,10 +8,11 @@ use Rattle.sp_typed.specs.declared.heads.Many.{Many}
 use Rattle.sp_typed.specs.declared.heads.Three.{Three}
 use Rattle.sp_typed.specs.declared.words.TwoOp.{TwoOp}
 use Rattle.sp_typed.specs.Exprs.{Expr, Exprs, three, many, more}
+use Rattle.sp_bodies.specs.Exprs.{gives_result, is_item_place}
 use Rattle.sp_code.specs.Shapes.{Shape, push, with_operands}
 use Rattle.sp_code.specs.declared.instr.Instr.TheVariants as does
 use Rattle.sp_code_programs.specs.exprs.Marked.{Marked, mark}
-use Rattle.sp_code_programs.specs.exprs.Code.{keep_code, owner_code, kind_of, kinds_on, pending, two_code, expr_code, exprs_code, receiver_code, load_code, store_code}
+use Rattle.sp_code_programs.specs.exprs.Code.{keep_code, owner_code, pending_count, under_code, kind_of, kinds_on, pending, two_code, expr_code, exprs_code, receiver_code, load_code, store_code}
 use Rattle.sp_code_programs.specs.exprs.Sizes.{expr_size}
 use Rattle.sp_emit.specs.Emitted.{Emitted, Adds}
 use Rattle.sp_emit_expr.specs.declared.around.Around.{Around}
@@ -70,6 +71,13 @@ AddsLoad x before after owner e = Adds before after (load_code (globals_in x) (l
 -- the store of a place, behind which is this shape
 abbrev pub AddsStore : Around → Emitted → Emitted → Option ℕ → Shape → Expr → Type 0
 AddsStore x before after owner s e = Adds before after (store_code (globals_in x) (layout_in x) owner s (length before.marks) e) s
+
+-- the result of a method went under what waits for the store of its receiver, if anything does
+abbrev pub AddsUnder : Around → Emitted → Emitted → Method → Ty → Expr → Type 0
+AddsUnder x before after m t r =
+    let globals = globals_in x in
+    let layout = layout_in x in
+    Adds before after (under_code (gives_result m && is_item_place r) (pending_count r) (push (kind_of globals layout r) (push (kind_of_type globals.ranges t) (pending globals layout before.now r)))) before.now
 
 -- the call of a method that changes its receiver, without a look at the shape behind it
 abbrev pub AddsChange : Around → Emitted → Emitted → Method → Option ℕ → Ty → Expr → Exprs → Type 0

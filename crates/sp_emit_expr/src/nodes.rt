@@ -12,7 +12,7 @@ use crate::leaves::leaf;
 use crate::one::{negative_number, one_code};
 use crate::operands::{push_type, push_value};
 use crate::places::{
-    load_item, load_local, load_member, no_result, result_below, slot_local, store_item,
+    load_item, load_local, load_member, no_result, put_under, result_below, slot_local, store_item,
     store_local, store_member, waiting,
 };
 use crate::rows::{Row, first_and_rest, row_code, row_of};
@@ -318,6 +318,7 @@ fn changed(
     exprs(out, around, rest)?;
     out.emit(Instr::Lib(m))?;
     out.lower(depth);
+    put_under(out, around, m, ty, receiver, depth)?;
     result_below(out, around, m, ty)?;
     waiting(out, around, receiver)?;
     store(out, around, owner, receiver)?;

@@ -1,19 +1,19 @@
 // The code of places: what has no expression in it.
-ghost use Rattle.std.specs.Prelude.{◌≡◌, ℕ, Option, [], ◌∷◌, length, IfOk, OnOk, unwrap_or, if◌then◌else◌};
+ghost use Rattle.std.specs.Prelude.{◌≡◌, ℕ, ◌&&◌, Option, [], ◌∷◌, length, IfOk, OnOk, unwrap_or, if◌then◌else◌};
 ghost use Rattle.sp_value.specs.Val.{void};
 ghost use Rattle.sp_methods.specs.Kinds.{Kind};
 ghost use Rattle.sp_typed.specs.Exprs.{leaf};
 ghost use Rattle.sp_typed.specs.declared.words.ManyOp.TheVariants as many_is;
 ghost use Rattle.sp_running.specs.Types.{kind_of_type};
-ghost use Rattle.sp_bodies.specs.Exprs.{gives_result, local_named};
+ghost use Rattle.sp_bodies.specs.Exprs.{gives_result, is_item_place, local_named};
 ghost use Rattle.sp_bodies.specs.Exprs as bodies;
 ghost use Rattle.sp_code.specs.declared.instr.Instr.TheVariants as does;
 ghost use Rattle.sp_code.specs.Shapes.{Shape, push};
 ghost use Rattle.sp_code_programs.specs.exprs.Marked.{mark, constant};
-ghost use Rattle.sp_code_programs.specs.exprs.Code.{pending, place_local, member_of, with_result, result_code};
+ghost use Rattle.sp_code_programs.specs.exprs.Code.{pending, pending_count, place_local, member_of, with_result, result_code};
 ghost use Rattle.sp_emit.specs.Emitted.{Adds, TurnsTo, popped};
 ghost use Rattle.sp_emit_expr.specs.Around.{globals_in, layout_in};
-ghost use Rattle.sp_emit_expr.specs.Added.{item_code, waiting, AddsLoad, AddsStore};
+ghost use Rattle.sp_emit_expr.specs.Added.{item_code, waiting, AddsLoad, AddsStore, AddsUnder};
 
 use crate::around::{Around, sum};
 use crate::operands::{push_type, push_value, push_values};
@@ -175,6 +175,56 @@ fn gives_result(m: Method) -> bool
     ensures { result ≡ gives_result m }
 {
     matches!(m, Method::PopBack)
+}
+
+fn is_item_place(e: &Expr) -> bool
+    ensures { result ≡ is_item_place e.now }
+{
+    match e.level() {
+        ExprLevel::Two(_, _, _) => true,
+        _ => false,
+    }
+}
+
+/// Whether the result of a method stands on the container of the item that is changed, under which it goes.
+pub fn stands_on(m: Method, receiver: &Expr) -> bool
+    ensures { result ≡ gives_result m && is_item_place receiver.now }
+{
+    gives_result(m) && is_item_place(receiver)
+}
+
+/// How many operands a place leaves below its value.
+fn pending_count(e: &Expr) -> Result<u32, NoMemory>
+    ensures { IfOk result (λ n. n ≡ pending_count e.now) }
+{
+    match e.level() {
+        ExprLevel::Two(_, a, _) => sum(pending_count(a)?, 2),
+        _ => Ok(0),
+    }
+}
+
+/// The result of a method goes under what waits for the store of its receiver, if anything does. So many operands are there now.
+pub(crate) fn put_under(
+    out: &mut Emitter,
+    around: &Around<'_>,
+    m: Method,
+    ty: &Type,
+    receiver: &Expr,
+    depth: usize,
+) -> Result<(), NoMemory>
+    requires { depth ≡ length out.old.now.operands }
+    ensures { OnOk result (AddsUnder around.now out.old out.new m ty.now receiver.now) }
+{
+    if !stands_on(m, receiver) {
+        return Ok(());
+    }
+    let n = pending_count(receiver)?;
+    pending(out, around, receiver)?;
+    push_type(out, around, ty)?;
+    push_value(out, around, receiver)?;
+    out.emit(Instr::Under(n))?;
+    out.lower(depth);
+    Ok(())
 }
 
 /// The result of a method, where it has one.

@@ -1,12 +1,12 @@
 // Sizes of what stands behind the code of parts.
-ghost use Rattle.std.specs.Prelude.{◌≡◌, ◌+◌, IfOk, is_some, if◌then◌else◌};
+ghost use Rattle.std.specs.Prelude.{◌≡◌, ◌+◌, ◌&&◌, IfOk, is_some, if◌then◌else◌};
 ghost use Rattle.sp_types.specs.Types.{Ty};
-ghost use Rattle.sp_bodies.specs.Exprs.{negative, negative_literal, gives_result};
+ghost use Rattle.sp_bodies.specs.Exprs.{negative, negative_literal, gives_result, is_item_place};
 ghost use Rattle.sp_code_programs.specs.exprs.Sizes.{one_size, binary_size, two_size, change_size, keep_size, owner_size};
 ghost use Rattle.sp_emit_size.specs.Beside.{beside};
 
 use sp_base::NoMemory;
-use sp_emit_expr::sum;
+use sp_emit_expr::{stands_on, sum};
 use sp_typed::{Expr, ExprLevel, LeafOp, One, OneOp, TwoOp};
 use sp_words::{BinaryOp, Method};
 
@@ -84,6 +84,13 @@ fn result_size(m: Method) -> u32
         Method::PopBack => 0,
         _ => 1,
     }
+}
+
+/// What puts a result under the container on which it stands.
+pub(crate) fn under_size(m: Method, receiver: &Expr) -> u32
+    ensures { result ≡ (if gives_result m && is_item_place receiver.now then 1 else 0) }
+{
+    if stands_on(m, receiver) { 1 } else { 0 }
 }
 
 /// A method that changes its receiver, of which the load, the arguments and the store have so many.

@@ -7,6 +7,7 @@ ghost use Rattle.sp_emit_expr.specs.Around.{layout_in};
 
 use crate::forms::{
     change_size, is_negative_literal, keep_size, member_size, one_size, three_size, two_size,
+    under_size,
 };
 use sp_base::NoMemory;
 use sp_emit_expr::{Around, Row, first_and_rest, row_of, slot_local, sum};
@@ -52,7 +53,8 @@ fn changed(
     let load = load_size(around, owner, receiver)?;
     let args = exprs_size(around, rest)?;
     let store = store_size(around, owner, receiver)?;
-    change_size(m, load, args, store)
+    let put = sum(under_size(m, receiver), store)?;
+    change_size(m, load, args, put)
 }
 
 /// A node with any number of parts.

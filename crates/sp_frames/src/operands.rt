@@ -1,6 +1,7 @@
 // Stacks of values.
-ghost use Rattle.std.specs.Prelude.{◌≡◌, ◌<◌, ◌≤◌, ◌↔◌, ◌∷◌, [], length, take, drop, reverse, IsTrue, IfOk, OnOk};
+ghost use Rattle.std.specs.Prelude.{◌≡◌, ◌+◌, ◌<◌, ◌≤◌, ◌↔◌, ◌∷◌, [], length, take, drop, reverse, IsTrue, IfOk, OnOk};
 ghost use Rattle.sp_code.specs.Can.{top, below_top};
+ghost use Rattle.sp_code.specs.Machine.{under};
 
 use sp_base::NoMemory;
 use sp_value::{Value, Values};
@@ -103,6 +104,15 @@ impl Operands {
     {
         self.height -= 1;
         mem::replace(&mut self.slots[self.height], Value::void())
+    }
+
+    /// Puts the value below the top one under `n` more. Takes no memory.
+    pub fn put_under(&mut self, n: usize)
+        requires { n + 1 < length self.old }
+        ensures { self.new ≡ under n self.old }
+    {
+        let top = self.height - 1;
+        self.slots[top - n - 1..top].rotate_right(1);
     }
 
     /// The value on top.

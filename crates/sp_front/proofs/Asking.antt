@@ -6,14 +6,16 @@ use Rattle.std.proofs.lemmas.Bool.Decides.{nat_tests}
 use Rattle.std.proofs.lemmas.List.{append-nil, take_all, take_more, drop_all}
 use Rattle.sp_io.specs.Asked.{also_asked}
 use Rattle.sp_command.specs.Files.{Holds}
+use Rattle.sp_command.specs.declared.refusal.Refusal.{Refusal}
+use Rattle.sp_read_file.specs.declared.unread.Unread.{Unread}
 use Rattle.sp_front.specs.declared.entries.ModuleFile.{ModuleFile}
 use Rattle.sp_front.specs.declared.entries.Import.{Import}
 use Rattle.sp_front.specs.declared.entries.Entry.{Entry}
 use Rattle.sp_front.specs.Imports.{file_name, paths_of}
-use Rattle.sp_front.specs.Lists.{Files, most_modules, is_missing, stop, entries_of, AreNext, AreNamedFiles, IsImported}
-use Rattle.sp_front.specs.Asked.{Told, asked_along, asked_for, asked_for_name, asked_for_entry, asked_for_all, asked_behind, asked_at_stop, asked_next, AreAskedFor, AsksList, AsksNoMore, Asks}
-use Rattle.sp_front.specs.inside.Asking.{IsPart, Asked, AskedPart, Searching, FollowedAsking, StuckAsking}
-use Rattle.sp_front.specs.inside.Follow.{IsDue}
+use Rattle.sp_front.specs.Lists.{Files, refused, most_modules, is_missing, stop, entries_of, AreNext, AreNamedFiles, IsImported, IsAskedInVain, IsStop}
+use Rattle.sp_front.specs.Asked.{Told, asked_along, asked_for, asked_for_name, asked_for_entry, asked_for_all, asked_behind, asked_at_stop, asked_next, AreAskedFor, AsksList, AsksRefused, AsksNoMore, Asks}
+use Rattle.sp_front.specs.inside.Asking.{IsPart, Asked, AskedPart, Searching, FollowedAsking, StuckAsking, StoppedAsking}
+use Rattle.sp_front.specs.inside.Follow.{IsDue, IsRefusedBy}
 use Rattle.sp_front.proofs.Following.{due_stop, next_more, next_all}
 use Rattle.sp_front.proofs.Missing.{imported_name}
 
@@ -96,6 +98,19 @@ room_part (Some files) dirs n x before now less is =
     let room : nat_lt n most_modules ≡ true = grind (arith, nat_tests) in
     subst (λ b. IsPart before now (cond b (asked_for files dirs x) [])) (sym room) is
 
+pub room_all : (files : Files) (dirs : List (List ℕ)) (n : ℕ) (x : List ℕ) (before now : Option (List (List ℕ))) → n < most_modules → Asked files before now (λ told. asked_for told dirs x) → Asked files before now (λ told. asked_behind told dirs n x)
+room_all None dirs n x before now less is = tt
+room_all (Some files) dirs n x before now less is =
+    let room : nat_lt n most_modules ≡ true = grind (arith, nat_tests) in
+    subst (λ b. now ≡ also_asked before (cond b (asked_for files dirs x) [])) (sym room) is
+
+-- there is none
+pub full_none : (files : Files) (dirs : List (List ℕ)) (n : ℕ) (x : List ℕ) (before : Option (List (List ℕ))) → most_modules ≤ n → Asked files before before (λ told. asked_behind told dirs n x)
+full_none None dirs n x before full = tt
+full_none (Some files) dirs n x before full =
+    let over : nat_lt n most_modules ≡ false = grind (arith, nat_tests) in
+    subst (λ b. before ≡ also_asked before (cond b (asked_for files dirs x) [])) (sym over) (sym (also_nil before))
+
 -- imports that are followed
 pub followed_none : (files : Files) (dirs : List (List ℕ)) (es : List Entry) (before : Option (List (List ℕ))) → FollowedAsking files dirs es es before before
 followed_none None dirs es before = tt
@@ -145,6 +160,30 @@ stuck_on None dirs es now before mid after so stuck = tt
 stuck_on (Some files) dirs es now before mid after so (last, between, further, part) =
     (last, between, followed_on (Some files) dirs es now last before mid between so further, part)
 
+-- an import in vain, or a file that is refused, and all was asked
+pub stopped_by : (files : Files) (dirs : List (List ℕ)) (es now : List Entry) (at : ℕ) (i : Import) (is : List Import) (u : Unread) (before mid after : Option (List (List ℕ))) → FollowedAsking files dirs es now before mid
+    → (due : IsDue now at (i ∷ is)) → is_missing now i ≡ true → IsRefusedBy (IsAskedInVain files dirs now due.file i) u → IsRefusedBy (λ _. Asked files mid after (λ told. asked_behind told dirs (length now) i.name)) u
+    → IsRefusedBy (StoppedAsking files dirs es before after) u
+stopped_by None dirs es now at i is (Unread.Refused r) before mid after so due missing_is vain asked = tt
+stopped_by (Some files) dirs es now at i is (Unread.Refused r) before mid after so due missing_is vain asked =
+    let here = sym (due_stop now at i is due missing_is) in
+    (now, mid, so, subst (λ s. IsStop (Some files) dirs now s r) here vain, subst (λ s. after ≡ also_asked mid (asked_at_stop files dirs (length now) s)) here asked)
+stopped_by files dirs es now at i is Unread.ModulesFault before mid after so due missing_is vain asked = tt
+stopped_by files dirs es now at i is Unread.NoMemory before mid after so due missing_is vain asked = tt
+
+pub stopped_at : (files : Files) (dirs : List (List ℕ)) (es now : List Entry) (r : Refusal) (before after : Option (List (List ℕ))) → FollowedAsking files dirs es now before after → stop now ≡ refused r → StoppedAsking files dirs es before after r
+stopped_at None dirs es now r before after so is = tt
+stopped_at (Some files) dirs es now r before after so is =
+    (now, after, so, subst (λ s. IsStop (Some files) dirs now s r) (sym is) refl, subst (λ s. after ≡ also_asked after (asked_at_stop files dirs (length now) s)) (sym is) (sym (also_nil after)))
+
+pub stopped_on : (files : Files) (dirs : List (List ℕ)) (es now : List Entry) (u : Unread) (before mid after : Option (List (List ℕ))) → FollowedAsking files dirs es now before mid
+    → IsRefusedBy (StoppedAsking files dirs now mid after) u → IsRefusedBy (StoppedAsking files dirs es before after) u
+stopped_on None dirs es now (Unread.Refused r) before mid after so stopped = tt
+stopped_on (Some files) dirs es now (Unread.Refused r) before mid after so (last, between, further, is, asked) =
+    (last, between, followed_on (Some files) dirs es now last before mid between so further, is, asked)
+stopped_on files dirs es now Unread.ModulesFault before mid after so stopped = tt
+stopped_on files dirs es now Unread.NoMemory before mid after so stopped = tt
+
 -- the whole list
 named_and : (files : Told) (names dirs : List (List ℕ)) (named now : List Entry) (before mid after : Option (List (List ℕ))) → AreNamedFiles (Some files) names named → mid ≡ also_asked before (take most_modules names)
     → FollowedAsking (Some files) dirs named now mid after → (done : List (List ℕ)) × AreAskedFor files names dirs now done × (after ≡ also_asked before done)
@@ -174,6 +213,16 @@ pub asks_followed : (files : Files) (names dirs : List (List ℕ)) (named now : 
     → FollowedAsking files dirs named now mid after → Asks files before after (λ told. AsksNoMore told names dirs)
 asks_followed files names dirs named now before mid after are was so =
     asks_stuck files names dirs named before mid after are was (stuck_none files dirs named now mid after so)
+
+pub asks_stopped : (files : Files) (names dirs : List (List ℕ)) (named : List Entry) (u : Unread) (before mid after : Option (List (List ℕ))) → AreNamedFiles files names named → mid ≡ also_asked before (take most_modules names)
+    → IsRefusedBy (StoppedAsking files dirs named mid after) u → IsRefusedBy (λ r. Asks files before after (λ told. AsksRefused told names dirs r)) u
+asks_stopped None names dirs named (Unread.Refused r) before mid after are was stopped = tt
+asks_stopped (Some files) names dirs named (Unread.Refused r) before mid after are was (now, between, so, is, asked) =
+    let (done, all, behind) = named_and files names dirs named now before mid between are was so in
+    let last = asked_next files dirs now in
+    (done ++ last, more_is before between after done last behind asked, (now, done, all, is, refl))
+asks_stopped files names dirs named Unread.ModulesFault before mid after are was stopped = tt
+asks_stopped files names dirs named Unread.NoMemory before mid after are was stopped = tt
 
 -- a clause on refusals, by the fact itself
 pub err_is : {T E : Type 0} (r : Result T E) {P : Type 0} → P → IfErr r (λ _. P)

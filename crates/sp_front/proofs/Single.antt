@@ -12,6 +12,7 @@ use Rattle.sp_front.specs.declared.entries.Import.{Import}
 use Rattle.sp_front.specs.declared.entries.Entry.{Entry}
 use Rattle.sp_front.specs.declared.entries.Entry.TheVariants.{Held, Refused}
 use Rattle.sp_front.specs.Imports.{paths_of}
+use Rattle.sp_front.specs.Asked.{asked_for_all, asked_at_stop, asked_next, AreAskedFor, AsksList, AsksRefused, AsksAll}
 use Rattle.sp_front.specs.Lists.{Stop, clear, refused, asks, stop, is_taken, twice, most_modules, first_over, entries_of, Holding, IsNamed, AreNamed, AreNamedFiles, IsFirst, IsNone, IsImported, IsNotFound, IsNext, AreNext, AreEntries, IsAskedInVain, IsStop, IsList, IsListRefused}
 
 -- what the files hold, by their paths
@@ -225,3 +226,48 @@ pub list_or_refusal : (files : Told) (names dirs : List (List ℕ)) (fs : List M
 list_or_refusal files names dirs fs r (x, a) (es, y, b) =
     let same : entries_of fs ≡ es = one_end files names dirs (entries_of fs) es x y (clear_end files dirs (entries_of fs) a) (stop_end files dirs es r b) in
     subst (λ s. IsStop (Some files) dirs es s r) (ap stop (sym same) ∙ a) b
+
+-- what is asked for entries is one
+same_behind : (xs ys zs : List Entry) → xs ++ ys ≡ xs ++ zs → ys ≡ zs
+same_behind [] ys zs e = e
+same_behind (x ∷ xs) ys zs e = let rest : xs ++ ys ≡ xs ++ zs = cc in same_behind xs ys zs rest
+
+entries_asked : (files : Told) (names dirs : List (List ℕ)) (es : List Entry) (done : List (List ℕ)) → AreAskedFor files names dirs es done → AreEntries (Some files) names dirs es
+entries_asked files names dirs es done (named, more, x, p, a, is) = (named, more, x, p, a)
+
+one_asked : (files : Told) (names dirs : List (List ℕ)) (es : List Entry) (first second : List (List ℕ)) → AreAskedFor files names dirs es first → AreAskedFor files names dirs es second → first ≡ second
+one_asked files names dirs es first second (named, more, x, p, a, is) (also, rest, y, q, b, so) =
+    let same : named ≡ also = one_row_of_files files names named also x y in
+    let left : more ≡ rest = same_behind also more rest (sym (ap (λ l. l ++ more) same) ∙ sym a ∙ b) in
+    is ∙ ap (λ l. take most_modules names ++ asked_for_all files dirs l) left ∙ sym so
+
+-- all is asked: no entry is next, and what is in the way is asked
+abbrev AsksToEnd : Told → List (List ℕ) → List (List ℕ) → List (List ℕ) → Type 0
+AsksToEnd files names dirs asked =
+    (es : List Entry) × (done : List (List ℕ)) × AreAskedFor files names dirs es done × IsEnd files dirs es × (asked ≡ done ++ asked_next files dirs es)
+
+list_to_end : (files : Told) (names dirs : List (List ℕ)) (list : List ModuleFile) (asked : List (List ℕ)) → IsList (Some files) names dirs list → AsksList files names dirs list asked → AsksToEnd files names dirs asked
+list_to_end files names dirs list asked (entries, is) all = (
+  entries_of list,
+  asked,
+  all,
+  clear_end files dirs (entries_of list) is,
+  sym (ap (λ s. asked ++ asked_at_stop files dirs (length (entries_of list)) s) is ∙ append-nil asked),
+)
+
+refused_to_end : (files : Told) (names dirs : List (List ℕ)) (r : Refusal) (asked : List (List ℕ)) → AsksRefused files names dirs r asked → AsksToEnd files names dirs asked
+refused_to_end files names dirs r asked (es, done, all, is, same) = (es, done, all, stop_end files dirs es r is, same)
+
+to_end : (files : Told) (names dirs asked : List (List ℕ)) → AsksAll files names dirs asked → AsksToEnd files names dirs asked
+to_end files names dirs asked all =
+    ⊎_elim (λ x. let (list, is, asks_list) = x in list_to_end files names dirs list asked is asks_list) (λ x. let (r, is) = x in refused_to_end files names dirs r asked is) all
+
+one_to_end : (files : Told) (names dirs first second : List (List ℕ)) → AsksToEnd files names dirs first → AsksToEnd files names dirs second → first ≡ second
+one_to_end files names dirs first second (ds, x, all, end, a) (es, y, also, last, b) =
+    let same : ds ≡ es = one_end files names dirs ds es (entries_asked files names dirs ds x all) (entries_asked files names dirs es y also) end last in
+    let done : x ≡ y = one_asked files names dirs es x y (subst (λ l. AreAskedFor files names dirs l x) same all) also in
+    a ∙ ap (λ l. l ++ asked_next files dirs ds) done ∙ ap (λ l. y ++ asked_next files dirs l) same ∙ sym b
+
+-- all that is asked is one
+pub one_asking : (files : Told) (names dirs first second : List (List ℕ)) → AsksAll files names dirs first → AsksAll files names dirs second → first ≡ second
+one_asking files names dirs first second x y = one_to_end files names dirs first second (to_end files names dirs first x) (to_end files names dirs second y)

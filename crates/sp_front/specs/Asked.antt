@@ -2,10 +2,11 @@
 -- first at which there is a file. No other path is asked, and none again but where a list asks for it again.
 use Rattle.std.specs.Prelude.{◌≡◌, ◌⊎◌, ℕ, nat_lt, List, [], ◌∷◌, ◌++◌, length, take, flat_map, Option, Some, None, is_some, if◌then◌else◌}
 use Rattle.sp_io.specs.Asked.{also_asked}
+use Rattle.sp_command.specs.declared.refusal.Refusal.{Refusal}
 use Rattle.sp_front.specs.declared.entries.ModuleFile.{ModuleFile}
 use Rattle.sp_front.specs.declared.entries.Entry.{Entry}
 use Rattle.sp_front.specs.Imports.{paths_of}
-use Rattle.sp_front.specs.Lists.{Files, Stop, clear, refused, asks, stop, most_modules, entry_name, entries_of, AreNamedFiles, AreNext}
+use Rattle.sp_front.specs.Lists.{Files, Stop, clear, refused, asks, stop, most_modules, entry_name, entries_of, AreNamedFiles, AreNext, IsStop, IsList}
 
 -- the files, by their paths
 abbrev pub Told : Type 0
@@ -53,6 +54,17 @@ AreAskedFor files names dirs es asked =
 -- These paths are asked for this list.
 abbrev pub AsksList : Told → List (List ℕ) → List (List ℕ) → List ModuleFile → List (List ℕ) → Type 0
 AsksList files names dirs list asked = AreAskedFor files names dirs (entries_of list) asked
+
+-- These paths are asked where the list is refused so: those for the entries before that, and all that is asked next.
+abbrev pub AsksRefused : Told → List (List ℕ) → List (List ℕ) → Refusal → List (List ℕ) → Type 0
+AsksRefused files names dirs r asked =
+    (es : List Entry) × (done : List (List ℕ)) × AreAskedFor files names dirs es done × IsStop (Some files) dirs es (stop es) r × (asked ≡ done ++ asked_next files dirs es)
+
+-- These are all paths that are asked for these names: those for their list, or for its refusal.
+abbrev pub AsksAll : Told → List (List ℕ) → List (List ℕ) → List (List ℕ) → Type 0
+AsksAll files names dirs asked =
+    ((list : List ModuleFile) × IsList (Some files) names dirs list × AsksList files names dirs list asked)
+    ⊎ ((r : Refusal) × AsksRefused files names dirs r asked)
 
 -- These paths are a front of those that are asked: the first named files; or what was asked for the first entries of a list, and a
 -- front of what is asked next.

@@ -6,7 +6,7 @@ ghost use Rattle.sp_front.specs.declared.entries.Entry.TheVariants as entry_is;
 ghost use Rattle.sp_front.specs.declared.entries.ModuleFile.{ModuleFile as File};
 ghost use Rattle.sp_front.specs.Asked.{asked_for, asked_behind};
 ghost use Rattle.sp_front.specs.Lists.{at, most_modules, is_missing, stop, clear, refused, IsImported, IsAskedInVain};
-ghost use Rattle.sp_front.specs.inside.Asking.{Asked, AskedPart, FollowedAsking, StuckAsking};
+ghost use Rattle.sp_front.specs.inside.Asking.{Asked, AskedPart, FollowedAsking, StuckAsking, StoppedAsking};
 ghost use Rattle.sp_front.specs.inside.Follow.{IsClear, IsDue, IsFollowed, IsStuckBy, IsRefusedBy};
 ghost use Rattle.sp_front.specs.inside.Seen.{AreSeen};
 
@@ -73,6 +73,9 @@ fn add_import<M: Modules>(
     ensures asks_part { IfErr result (λ _. AskedPart (M.files modules.old) (M.asked modules.old)
         (M.asked modules.new) (λ files. asked_behind files directories.now
         (length entries.old.items) import.now.name)) }
+    ensures asks_vain { IfErr result (IsRefusedBy (λ _. Asked (M.files modules.old)
+        (M.asked modules.old) (M.asked modules.new) (λ files. asked_behind files directories.now
+        (length entries.old.items) import.now.name))) }
     ensures files { M.files modules.new ≡ M.files modules.old }
     ensures cause { MatchResult result (λ _. M.faults modules.new ≡ M.faults modules.old)
         (UnreadCause (M.faults modules.old) (M.faults modules.new)) }
@@ -115,6 +118,8 @@ fn follow<M: Modules>(
         entries.old.items entries.new.items (M.asked modules.old) (M.asked modules.new)) }
     ensures asks_part { IfErr result (λ _. StuckAsking (M.files modules.old) directories.now
         entries.old.items (M.asked modules.old) (M.asked modules.new)) }
+    ensures asks_stopped { IfErr result (IsRefusedBy (StoppedAsking (M.files modules.old)
+        directories.now entries.old.items (M.asked modules.old) (M.asked modules.new))) }
     ensures files { M.files modules.new ≡ M.files modules.old }
     ensures cause { MatchResult result (λ _. M.faults modules.new ≡ M.faults modules.old)
         (UnreadCause (M.faults modules.old) (M.faults modules.new)) }
@@ -183,6 +188,8 @@ pub(crate) fn complete<M: Modules>(
         entries.old.items entries.new.items (M.asked modules.old) (M.asked modules.new)) }
     ensures asks_part { IfErr result (λ _. StuckAsking (M.files modules.old) directories.now
         entries.old.items (M.asked modules.old) (M.asked modules.new)) }
+    ensures asks_stopped { IfErr result (IsRefusedBy (StoppedAsking (M.files modules.old)
+        directories.now entries.old.items (M.asked modules.old) (M.asked modules.new))) }
     ensures cause { MatchResult result (λ _. M.faults modules.new ≡ M.faults modules.old)
         (UnreadCause (M.faults modules.old) (M.faults modules.new)) }
 {

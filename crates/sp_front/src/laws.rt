@@ -3,9 +3,11 @@ ghost use Rattle.std.specs.Prelude.{◌≡◌, ℕ, List, Option, Some, length, 
 ghost use Rattle.std.specs.List.{AllByRecursion};
 ghost use Rattle.sp_command.specs.declared.refusal.Refusal.{Refusal};
 ghost use Rattle.sp_front.specs.declared.entries.ModuleFile.{ModuleFile};
+ghost use Rattle.sp_front.specs.Asked.{AsksAll};
 ghost use Rattle.sp_front.specs.Lists.{Files, IsList, IsListRefused, IsRead, paths_in};
 
-/// What names, files and directories make is one list or one refusal, and not both.
+/// What names, files and directories make is one list or one refusal, and not both; and the paths that are asked for it are these in
+/// this order.
 pub fn list_is_one()
     ensures list { (files : List ℕ → Option (List ℕ)) (names dirs : List (List ℕ))
         (first second : List ModuleFile) → IsList (Some files) names dirs first
@@ -16,6 +18,8 @@ pub fn list_is_one()
     ensures not_both { (files : List ℕ → Option (List ℕ)) (names dirs : List (List ℕ))
         (list : List ModuleFile) (refusal : Refusal) → IsList (Some files) names dirs list
         → IsListRefused (Some files) names dirs refusal → ⊥ }
+    ensures asked { (files : List ℕ → Option (List ℕ)) (names dirs first second : List (List ℕ))
+        → AsksAll files names dirs first → AsksAll files names dirs second → first ≡ second }
 {}
 
 /// The first files of a list are the named ones, at their paths.

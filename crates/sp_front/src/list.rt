@@ -1,7 +1,7 @@
 // The list of modules.
 ghost use Rattle.std.specs.Prelude.{◌≡◌, ◌<◌, ◌-◌, ◌^◌, IfOk, IfErr, MatchResult};
 ghost use Rattle.sp_read_file.specs.Loads.{UnreadCause};
-ghost use Rattle.sp_front.specs.Asked.{Asks, AsksList, AsksNoMore};
+ghost use Rattle.sp_front.specs.Asked.{Asks, AsksList, AsksRefused, AsksNoMore};
 ghost use Rattle.sp_front.specs.Lists.{IsList, IsListRefused, entries_of, stop, clear};
 ghost use Rattle.sp_front.specs.inside.Follow.{IsRefusedBy};
 
@@ -45,6 +45,9 @@ pub fn read_list<M: Modules>(
         files.items) }
     ensures asks { IfOk result (λ files. Asks (M.files modules.old) (M.asked modules.old)
         (M.asked modules.new) (λ told. AsksList told names.now directories.now files.items)) }
+    ensures asks_refused { IfErr result (IsRefusedBy (λ r. Asks (M.files modules.old)
+        (M.asked modules.old) (M.asked modules.new)
+        (λ told. AsksRefused told names.now directories.now r))) }
     ensures asks_no_more { Asks (M.files modules.old) (M.asked modules.old) (M.asked modules.new)
         (λ told. AsksNoMore told names.now directories.now) }
     ensures refused { IfErr result (IsRefusedBy (IsListRefused (M.files modules.old) names.now

@@ -1,2 +1,3 @@
+pub mod Askings
 pub mod Leasts
 pub mod Loads

@@ -2,6 +2,7 @@
 ghost use Rattle.std.specs.Prelude.{◌≡◌, ◌<◌, ◌-◌, ◌^◌, List, IfOk, IfErr, MatchResult};
 ghost use Rattle.sp_read_file.specs.Loads.{UnreadCause};
 ghost use Rattle.sp_front.specs.declared.entries.ModuleFile.{ModuleFile as File};
+ghost use Rattle.sp_front.specs.Asked.{Asks, AsksAll, AsksNoMore};
 ghost use Rattle.sp_front.specs.inside.Follow.{IsRefusedBy};
 ghost use Rattle.sp_load.specs.Loads.{sources_of, trees_of, IsLoaded, IsLoadRefused, IsVerdict};
 ghost use Rattle.sp_checked_list.specs.NameRules.{IsTyped};
@@ -31,7 +32,8 @@ fn verdict_on(alloc: Global, modules: &[Module]) -> Result<Result<Typed, Diag>, 
 
 /// Reads the list of modules, as `read_list` does, and checks it, as `check` does: the composition of the two. A refusal is that
 /// of reading, or else that of the least rule that is broken, at the path of its module's file, and at the line and the column at
-/// which the slice of text begins. Rules are asked only where all modules were read.
+/// which the slice of text begins. Rules are asked only where all modules were read. No file is read but those that `read_list` reads,
+/// and where nothing fails and there is memory exactly these are.
 pub fn load<M: Modules>(
     alloc: Global,
     modules: &mut M,
@@ -45,6 +47,13 @@ pub fn load<M: Modules>(
     ensures typed { IfOk result (λ l. IsTyped l.modules.items l.typed) }
     ensures refused { IfErr result (IsRefusedBy (IsLoadRefused (M.files modules.old) names.now
         directories.now)) }
+    ensures asks { IfOk result (λ _. Asks (M.files modules.old) (M.asked modules.old)
+        (M.asked modules.new) (λ told. AsksAll told names.now directories.now)) }
+    ensures asks_refused { IfErr result (IsRefusedBy (λ _. Asks (M.files modules.old)
+        (M.asked modules.old) (M.asked modules.new)
+        (λ told. AsksAll told names.now directories.now))) }
+    ensures asks_no_more { Asks (M.files modules.old) (M.asked modules.old) (M.asked modules.new)
+        (λ told. AsksNoMore told names.now directories.now) }
     ensures cause { MatchResult result (λ _. M.faults modules.new ≡ M.faults modules.old)
         (UnreadCause (M.faults modules.old) (M.faults modules.new)) }
 {

@@ -84,6 +84,10 @@ impl Machine {
                 Ok(())
             }
             Instr::Dup => self.duplicate(),
+            Instr::Under(n) => {
+                self.turn_under(n);
+                Ok(())
+            }
             Instr::Jump(to) => {
                 self.pc = to as usize;
                 Ok(())

@@ -14,7 +14,7 @@ ghost use Rattle.sp_methods.specs.Methods.{method};
 ghost use Rattle.sp_running.specs.States.{local_of, set_local};
 ghost use Rattle.sp_running.specs.Values.{size_value};
 ghost use Rattle.sp_code.specs.Can.{top, second, below_top};
-ghost use Rattle.sp_code.specs.Machine.{At, put, put_all, const_of};
+ghost use Rattle.sp_code.specs.Machine.{At, put, put_all, under, const_of};
 ghost use Rattle.sp_machine.specs.Methods.{TellsOne};
 ghost use Rattle.sp_machine.specs.declared.machine.Mode.TheVariants.{Running};
 ghost use Rattle.sp_machine.specs.Plain.{state_of, plain, Leads};
@@ -249,6 +249,17 @@ impl Machine {
         ensures { plain self.new ≡ At (self.old.pc + 1) (below_top self.old.operands) self.old.stack (state_of self.old) }
     {
         drop(self.operands.pop());
+        self.pc += 1;
+    }
+
+    /// Puts the value below the top one under so many more.
+    pub(crate) fn turn_under(&mut self, n: u32)
+        requires running { self.old.mode ≡ Running }
+        requires within { self.old.pc + 1 < 2 ^ 64 }
+        requires operands { n + 1 < length self.old.operands }
+        ensures { plain self.new ≡ At (self.old.pc + 1) (under n self.old.operands) self.old.stack (state_of self.old) }
+    {
+        self.operands.put_under(n as usize);
         self.pc += 1;
     }
 

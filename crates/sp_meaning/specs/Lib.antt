@@ -1,3 +1,10 @@
 pub mod Meaning
 pub mod Steady
+pub mod Around
+pub mod Methods
+pub mod Exprs
+pub mod Places
+pub mod Stmts
+pub mod Calls
+pub mod Units
 pub mod Rows

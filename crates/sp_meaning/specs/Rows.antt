@@ -1,10 +1,10 @@
 -- Rows on which the definitions are run: a unit that waits, and one that is done.
-use Rattle.std.specs.Prelude.{◌≡◌, ◌≢◌, ℕ, List, [], ◌∷◌, refl}
-use Rattle.sp_base.specs.Input.{Close, held_open, ended}
+use Rattle.std.specs.Prelude.{◌≡◌, ℕ, List, [], ◌∷◌, refl}
+use Rattle.sp_base.specs.Input.{held_open}
 use Rattle.sp_events.specs.Tree.{unit, no_fields}
 use Rattle.sp_events.specs.declared.event.What.TheVariants as What
 use Rattle.sp_meaning.specs.declared.stand.Stand.TheVariants.{Waiting, Done}
-use Rattle.sp_meaning.specs.Meaning.{Meaning, UnitMeaning, told, low}
+use Rattle.sp_meaning.specs.Meaning.{UnitMeaning, told, low}
 use Rattle.sp_meaning.specs.Steady.{IsDecided}
 
 abbrev waits_at : List ℕ → UnitMeaning

@@ -6,6 +6,7 @@ use Rattle.sp_words.specs.declared.words.HookName.{HookName}
 use Rattle.sp_typed_units.specs.declared.declarations.Hook.{Hook}
 use Rattle.sp_typed_units.specs.declared.declarations.MemberKind.TheVariants as member_is
 use Rattle.sp_typed_units.specs.declared.declarations.Unit.{Unit as TypedUnit}
+use Rattle.sp_bodies.specs.Calls.{has_current}
 use Rattle.sp_bodies.specs.Globals.{globals_of}
 use Rattle.sp_bodies.specs.Units.{is_of_unit}
 use Rattle.sp_code.specs.Machine.{Plain}
@@ -18,14 +19,14 @@ use Rattle.sp_code_programs.specs.programs.Named.{hook_names_of}
 use Rattle.sp_code_programs.specs.programs.Whole.{starter_at, IsProgramOf}
 use Rattle.sp_law_programs.specs.program_laid.Fits as laid
 use Rattle.sp_law_programs.specs.program_laid.Places.{StmtChangesPlaces}
-use Rattle.sp_law_programs.specs.program_laid.Arguments.{StmtArgumentsMatch}
+use Rattle.sp_law_meaning.specs.Standing.{StmtStands}
 use Rattle.sp_law_programs.specs.finished_bodies.Finished.{HookFits, FunctionsFit}
 use Rattle.sp_law_programs.specs.unit_told.Told.{Starts}
 use Rattle.sp_law_programs.specs.finished_units.Built.{HookIsBuilt, UnitIsBuilt, HooksFit}
 use Rattle.sp_law_programs.specs.finished_units.Meaning.{RunsUnit}
 use Rattle.sp_law_programs.specs.whole_program.Fits.{UnitFits, ListFits}
 use Rattle.sp_law_programs.proofs.whole_program_lemmas.Programs.{programs_have_bodies, programs_have_units, programs_have_starters}
-use Rattle.sp_law_programs.proofs.whole_program_lemmas.Fitting.{listed_units_fit, listed_calls_count, fitting_programs_are_sound}
+use Rattle.sp_law_programs.proofs.whole_program_lemmas.Fitting.{listed_units_fit, listed_calls_count, fitting_lists_stand, fitting_programs_are_sound}
 use Rattle.sp_session.specs.Session.{Runs}
 use Rattle.sp_session.specs.Laws.{ExampleRuns}
 use Rattle.sp_session.specs.Example.{byte, one_byte, done_body, list, program, unit_kinds, shapes}
@@ -61,7 +62,7 @@ fits limits =
     record {
       bodies = record { functions = λ n x e. absurd (let q : None ≡ Some x = e in cc); hooks = hook_in_list limits };
       places = record { functions = λ n x e. absurd (let q : None ≡ Some x = e in cc); hooks = λ n x e. of_body (λ x. StmtChangesPlaces x.body) tt n x e };
-      arguments = record { functions = λ n x e. absurd (let q : None ≡ Some x = e in cc); hooks = λ n x e. of_body (λ x. StmtArgumentsMatch list.functions x.body) tt n x e };
+      arguments = record { functions = λ n x e. absurd (let q : None ≡ Some x = e in cc); hooks = λ n x e. of_body (λ x. StmtStands (has_current x.of) list.functions x.body) tt n x e };
       events = takes_nothing;
       units = unit_in_list limits;
     }
@@ -119,5 +120,6 @@ example_runs l p limits same plain shaped =
     (record {
       compiled = both (IsProgramOf list) is_program;
       sound = both (λ q s. IsSound q s × Turns q) sound;
+      stands = fitting_lists_stand list (program limits) shapes (is_program limits) (fits limits);
       unit = both (λ q s. RunsUnit q s (hook_names_of list) list (starter_at list 0) 0 []) runs_unit limits;
     })

@@ -25,8 +25,8 @@ use Rattle.sp_law_programs.specs.finished_units.Laws.{IsLast}
 use Rattle.sp_law_programs.proofs.finished_units_lemmas.Meanings.{stops_tell, meanings_stay, ended_inputs_decide}
 use Rattle.sp_law_programs.proofs.whole_program_lemmas.Programs.{units_mean_theirs, starters_are_last, starter_shows}
 use Rattle.sp_fiber.specs.Moves.{whole_reads}
-use Rattle.sp_session.specs.Units.{unit_result}
 use Rattle.sp_session.specs.Session.{Runs, start}
+use Rattle.sp_session.proofs.Laid.{laid_result}
 
 -- no instruction asks for tokens
 steady : IsSteady no_tokens
@@ -45,12 +45,12 @@ module _ (list : Typed) (program : Program) (limits : Limits) (u : ℕ) (runs : 
   same_names = (runs.compiled limits).names
 
   -- what the unit means in the program it means by the list
-  means_the_list : (s : List ℕ) (close : Close) → meaning p (hook_names_of list) list (whole_reads s close) u [] ≡ unit_result list limits u s close
+  means_the_list : (s : List ℕ) (close : Close) → meaning p (hook_names_of list) list (whole_reads s close) u [] ≡ laid_result list limits u s close
   means_the_list s close = units_mean_theirs list p (shapes_of program) (runs.compiled limits) (whole_reads s close) (limits.turns + 1) u []
 
   -- a machine that began before the starter and stops has told the unit's result
   pub stops_tell_unit : (s : List ℕ) (close : Close) (d : Config) (es : List What) → Comes p (whole_reads s close) (start list u) es d → IsStop (step p (whole_reads s close) d)
-      → Tells p (whole_reads s close) d es (unit_result list limits u s close)
+      → Tells p (whole_reads s close) d es (laid_result list limits u s close)
   stops_tell_unit s close d es comes stop =
       subst (Tells p (whole_reads s close) d es) (means_the_list s close) (stops_tell p (shapes_of program) (hook_names_of list) list (starter_at list u) u [] runs.unit (whole_reads s close) d es comes stop)
 
@@ -58,14 +58,14 @@ module _ (list : Typed) (program : Program) (limits : Limits) (u : ℕ) (runs : 
   Stays s t close front whole = ((fs : List What) × (events_of whole ≡ events_of front ++ fs)) × ((IsNeed (end_of front) → ⊥) → whole ≡ front)
 
   -- what the unit does on a front of an input
-  pub unit_stays : (s t : List ℕ) (close : Close) → Stays s t close (unit_result list limits u s held_open) (unit_result list limits u (s ++ t) close)
+  pub unit_stays : (s t : List ℕ) (close : Close) → Stays s t close (laid_result list limits u s held_open) (laid_result list limits u (s ++ t) close)
   unit_stays s t close =
-      subst (λ r. Stays s t close r (unit_result list limits u (s ++ t) close)) (means_the_list s held_open)
+      subst (λ r. Stays s t close r (laid_result list limits u (s ++ t) close)) (means_the_list s held_open)
       (subst (Stays s t close (meaning p (hook_names_of list) list (whole_reads s held_open) u [])) (means_the_list (s ++ t) close)
       (meanings_stay p (shapes_of program) (hook_names_of list) list (starter_at list u) u [] runs.unit no_tokens steady s t close))
 
   -- and where the input has ended
-  pub unit_ends : (s : List ℕ) → IsLast (end_of (unit_result list limits u s ended))
+  pub unit_ends : (s : List ℕ) → IsLast (end_of (laid_result list limits u s ended))
   unit_ends s = subst (λ r. IsLast (end_of r)) (means_the_list s ended) (ended_inputs_decide p (shapes_of program) (hook_names_of list) list (starter_at list u) u [] runs.unit no_tokens s)
 
   -- a machine before the starter keeps to the shapes

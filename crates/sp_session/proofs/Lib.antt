@@ -1,3 +1,4 @@
+pub mod Laid
 pub mod Fronts
 pub mod Lawful
 pub mod Endings

@@ -15,15 +15,13 @@ use Rattle.sp_law_programs.specs.finished_units.Laws.{IsLast}
 use Rattle.sp_meaning.specs.declared.stand.Stand.{Stand}
 use Rattle.sp_meaning.specs.declared.stand.Stand.TheVariants as stand_is
 use Rattle.sp_meaning.specs.Meaning.{Meaning}
-use Rattle.sp_session.specs.Units.{of_flow, last, stand_of, meaning_of, unit_result, unit_meaning}
+use Rattle.sp_session.specs.Units.{of_flow, last, stand_of, meaning_of, unit_meaning}
 use Rattle.sp_session.specs.Session.{Runs}
 use Rattle.sp_session.specs.Laws.{UnitsAreSteady, UnitsAreSettled, UnitsAreDecided}
+use Rattle.sp_law_meaning.specs.Standing.{ListStands}
+use Rattle.sp_session.proofs.Laid.{laid_result, meaning_is}
 use Rattle.sp_session.proofs.Fronts.{of_flow_both}
 use Rattle.sp_session.proofs.Lawful.{unit_stays, unit_ends}
-
-pub meaning_is : (list : Typed) (limits : Limits) (u : ℕ) (s : List ℕ) (close : Close) → unit_meaning list limits u s close ≡ meaning_of (value_names_of list) (unit_result list limits u s close)
-unfolding unit_meaning
-meaning_is list limits u s close = refl
 
 -- a unit that waits has no last event
 pub waits_last : (names : Names) (r : Result) → stand_of r ≡ stand_is.Waiting → last names r ≡ []
@@ -44,31 +42,32 @@ module _ (list : Typed) (limits : Limits) (u : ℕ) where
   names = value_names_of list
 
   abbrev result : List ℕ → Close → Result
-  result s close = unit_result list limits u s close
+  result s close = laid_result list limits u s close
 
   abbrev meaning : List ℕ → Close → Meaning
   meaning s close = unit_meaning list limits u s close
 
-  pub stand_is_of : (s : List ℕ) (close : Close) → (meaning s close).stand ≡ stand_of (result s close)
-  stand_is_of s close = ap (λ (m : Meaning). m.stand) (meaning_is list limits u s close)
+  module _ (stands : ListStands list) where
+    pub stand_is_of : (s : List ℕ) (close : Close) → (meaning s close).stand ≡ stand_of (result s close)
+    stand_is_of s close = ap (λ (m : Meaning). m.stand) (meaning_is list limits u stands s close)
 
-  pub events_are_of : (s : List ℕ) (close : Close) → (meaning s close).events ≡ of_flow (events_of (result s close)) ++ last names (result s close)
-  events_are_of s close = ap (λ (m : Meaning). m.events) (meaning_is list limits u s close)
+    pub events_are_of : (s : List ℕ) (close : Close) → (meaning s close).events ≡ of_flow (events_of (result s close)) ++ last names (result s close)
+    events_are_of s close = ap (λ (m : Meaning). m.events) (meaning_is list limits u stands s close)
 
-  -- those of a unit that waits
-  pub waiting_events : (s : List ℕ) (close : Close) (es : List What) → (meaning s close).stand ≡ stand_is.Waiting → events_of (result s close) ≡ es → (meaning s close).events ≡ of_flow es
-  waiting_events s close es waits is =
-      events_are_of s close
-      ∙ ap (λ xs. of_flow (events_of (result s close)) ++ xs) (waits_last names (result s close) (sym (stand_is_of s close) ∙ waits))
-      ∙ append-nil (of_flow (events_of (result s close)))
-      ∙ ap of_flow is
+    -- those of a unit that waits
+    pub waiting_events : (s : List ℕ) (close : Close) (es : List What) → (meaning s close).stand ≡ stand_is.Waiting → events_of (result s close) ≡ es → (meaning s close).events ≡ of_flow es
+    waiting_events s close es waits is =
+        events_are_of s close
+        ∙ ap (λ xs. of_flow (events_of (result s close)) ++ xs) (waits_last names (result s close) (sym (stand_is_of s close) ∙ waits))
+        ∙ append-nil (of_flow (events_of (result s close)))
+        ∙ ap of_flow is
 
   module _ (program : Program) (runs : Runs list program limits u) where
     pub settled : (s t : List ℕ) (close : Close) → (meaning s held_open).stand ≢ stand_is.Waiting → meaning (s ++ t) close ≡ meaning s held_open
     settled s t close final =
-        meaning_is list limits u (s ++ t) close
-        ∙ ap (meaning_of names) ((unit_stays list program limits u runs s t close).1 (λ need. final (stand_is_of s held_open ∙ need_waits (result s held_open) need)))
-        ∙ sym (meaning_is list limits u s held_open)
+        meaning_is list limits u runs.stands (s ++ t) close
+        ∙ ap (meaning_of names) ((unit_stays list program limits u runs s t close).1 (λ need. final (stand_is_of runs.stands s held_open ∙ need_waits (result s held_open) need)))
+        ∙ sym (meaning_is list limits u runs.stands s held_open)
 
     -- also where the input just ends
     pub settled_ended : (s : List ℕ) → (meaning s held_open).stand ≢ stand_is.Waiting → meaning s ended ≡ meaning s held_open
@@ -88,9 +87,9 @@ module _ (list : Typed) (limits : Limits) (u : ℕ) where
             let fs = (unit_stays list program limits u runs s t close).0 in
             let whole = result (s ++ t) close in (
               of_flow fs.0 ++ last names whole,
-              events_are_of (s ++ t) close
+              events_are_of runs.stands (s ++ t) close
                   ∙ events_behind names whole (events_of (result s held_open)) fs.0 fs.1
-                  ∙ ap (λ xs. xs ++ (of_flow fs.0 ++ last names whole)) (sym (waiting_events s held_open (events_of (result s held_open)) e refl)),
+                  ∙ ap (λ xs. xs ++ (of_flow fs.0 ++ last names whole)) (sym (waiting_events runs.stands s held_open (events_of (result s held_open)) e refl)),
             )
         by_stand stand_is.Done e = over (λ waits. let q : stand_is.Done ≡ stand_is.Waiting = sym e ∙ waits in cc)
         by_stand (stand_is.Failed x) e = over (λ waits. let q : stand_is.Failed x ≡ stand_is.Waiting = sym e ∙ waits in cc)
@@ -101,7 +100,7 @@ module _ (list : Typed) (limits : Limits) (u : ℕ) where
     last_decides (Ends _ es st) h e = h
 
     pub decided : (s : List ℕ) → (meaning s ended).stand ≢ stand_is.Waiting
-    decided s e = last_decides (result s ended) (unit_ends list program limits u runs s) (sym (stand_is_of s ended) ∙ e)
+    decided s e = last_decides (result s ended) (unit_ends list program limits u runs s) (sym (stand_is_of runs.stands s ended) ∙ e)
 
 pub units_are_steady : UnitsAreSteady
 units_are_steady list program limits u runs = steady list limits u program runs

@@ -31,11 +31,13 @@ use Rattle.sp_meaning.specs.declared.stand.Stand.TheVariants as stand_is
 use Rattle.sp_meaning.specs.Meaning.{Meaning, UnitMeaning, least, low}
 use Rattle.sp_session.specs.declared.session.Phase.{Phase}
 use Rattle.sp_session.specs.declared.session.Phase.TheVariants as phase_is
-use Rattle.sp_session.specs.Units.{of_flow, last, points_of, unit_result, unit_meaning}
+use Rattle.sp_session.specs.Units.{of_flow, last, points_of, unit_meaning}
 use Rattle.sp_session.specs.Session.{Runs, start, IsLive, IsAt, told_in}
 use Rattle.sp_session.specs.Telling.{HasStopped, HasTold, news, next_stand, IsFront, IsToldOn, IsToldInPart}
 use Rattle.sp_session.proofs.Lawful.{same_names, stops_tell_unit, starts_shaped}
-use Rattle.sp_session.proofs.Meanings.{meaning_is, events_behind, stand_is_of, events_are_of, waiting_events, settled, settled_ended}
+use Rattle.sp_law_meaning.specs.Standing.{ListStands}
+use Rattle.sp_session.proofs.Laid.{laid_result, meaning_is}
+use Rattle.sp_session.proofs.Meanings.{events_behind, stand_is_of, events_are_of, waiting_events, settled, settled_ended}
 
 -- a fiber that has run has come to a stop
 stops_at : (p : Plain) (s : List ℕ) (close : Close) (c : Config) (x : Next) → step p (whole_reads s close) c ≡ x → IsStop x → IsStop (step p (whole_reads s close) c)
@@ -61,7 +63,7 @@ module _ (list : Typed) (program : Program) (limits : Limits) (u : ℕ) where
   names = value_names_of list
 
   abbrev result : List ℕ → Close → Result
-  result s close = unit_result list limits u s close
+  result s close = laid_result list limits u s close
 
   abbrev meaning : UnitMeaning
   meaning = unit_meaning list limits u
@@ -88,17 +90,17 @@ module _ (list : Typed) (program : Program) (limits : Limits) (u : ℕ) where
       (told_of ended f (start list u) s es (result s ended) over tells, sym tells.events)
 
   -- what is new over more of the input, by what was told before
-  module _ (w : List ℕ) (close : Close) (es fs : List What) (is : events_of (result w close) ≡ es ++ fs) where
+  module _ (w : List ℕ) (close : Close) (es fs : List What) (is : events_of (result w close) ≡ es ++ fs) (stands : ListStands list) where
     abbrev AreNews : Stand → List Event → Type 0
     AreNews stand told = (news names (result w close) fs stand ≡ drop (length told) (meaning w close).events) × (next_stand (result w close) stand ≡ (meaning w close).stand)
 
     -- where the unit waited
     news_waiting : (told : List Event) → told ≡ of_flow es → AreNews stand_is.Waiting told
     news_waiting told front =
-        let all = events_are_of list limits u w close ∙ events_behind names (result w close) es fs is in
+        let all = events_are_of list limits u stands w close ∙ events_behind names (result w close) es fs is in
         let rest = of_flow fs ++ last names (result w close) in (
           sym (drop_at (of_flow es) rest (length told) (ap (λ xs. length xs) (sym front))) ∙ sym (ap (drop (length told)) all),
-          sym (stand_is_of list limits u w close),
+          sym (stand_is_of list limits u stands w close),
         )
 
     -- where it was over
@@ -113,7 +115,7 @@ module _ (list : Typed) (program : Program) (limits : Limits) (u : ℕ) where
       same_stand stand e final = e ∙ ap (λ (m : Meaning). m.stand) (sym (settles final))
 
       news_fed : (stand : Stand) → events_of (result s held_open) ≡ es → stand ≡ (meaning s held_open).stand → AreNews stand (meaning s held_open).events
-      news_fed stand_is.Waiting all e = news_waiting (meaning s held_open).events (waiting_events list limits u s held_open es (sym e) all)
+      news_fed stand_is.Waiting all e = news_waiting (meaning s held_open).events (waiting_events list limits u stands s held_open es (sym e) all)
       news_fed stand_is.Done all e =
           let final : (meaning s held_open).stand ≢ stand_is.Waiting = λ waits. let q : stand_is.Done ≡ stand_is.Waiting = e ∙ waits in cc in
           (all_told (meaning s held_open).events (same_events final), same_stand stand_is.Done e final)
@@ -149,7 +151,7 @@ module _ (list : Typed) (program : Program) (limits : Limits) (u : ℕ) where
 
         news_are : (news (names_of program) (result w close) whats stand ≡ next w close) × (next_stand (result w close) stand ≡ (meaning w close).stand)
         news_are =
-            let n = news_live w close at.told fs h.1 s f at.stands settles at.runs at.code phase stand at.live in
+            let n = news_live w close at.told fs h.1 at.runs.stands s f at.stands settles at.runs at.code phase stand at.live in
             subst (λ xs. (news (names_of program) (result w close) xs stand ≡ next w close) × (next_stand (result w close) stand ≡ (meaning w close).stand)) fs_are
             (ap (λ names. news names (result w close) fs stand) (same_names list program limits u at.runs) ∙ n.0, n.1)
 
@@ -207,13 +209,13 @@ over_points fs _ x (Ends how es st) is = subst (λ how. points_of (Ends how es s
 
 module _ (list : Typed) (program : Program) (limits : Limits) (u : ℕ) (runs : Runs list program limits u) (f : Suspended) (code : f.code ≡ plain_of limits program) (s : List ℕ) where
   abbrev r : Result
-  r = unit_result list limits u s held_open
+  r = laid_result list limits u s held_open
 
   abbrev unit_low : ℕ
   unit_low = low (unit_meaning list limits u) s held_open
 
   points : (unit_meaning list limits u s held_open).retention_points ≡ points_of r
-  points = ap (λ (m : Meaning). m.retention_points) (meaning_is list limits u s held_open)
+  points = ap (λ (m : Meaning). m.retention_points) (meaning_is list limits u runs.stands s held_open)
 
   kept_waiting : (es : List What) → Comes f.code (whole_reads s held_open) (start list u) es f.at → IsWaiting f.code held_open f.window f.at s → length f.window.bytes ≡ length s - unit_low
   kept_waiting es comes waits =

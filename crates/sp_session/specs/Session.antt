@@ -10,6 +10,7 @@ use Rattle.sp_code.specs.Machine.{Config}
 use Rattle.sp_code.specs.Programs.{plain_of, shapes_of, IsSoundProgram}
 use Rattle.sp_code_programs.specs.programs.Named.{hook_names_of}
 use Rattle.sp_code_programs.specs.programs.Whole.{starter_at, IsCompiled}
+use Rattle.sp_law_meaning.specs.Standing.{ListStands}
 use Rattle.sp_law_programs.specs.finished_units.Meaning.{RunsUnit}
 use Rattle.sp_fiber.specs.declared.phase.Phase.{Phase as FiberPhase}
 use Rattle.sp_fiber.specs.declared.phase.Phase.TheVariants as fiber_is
@@ -22,10 +23,12 @@ use Rattle.sp_session.specs.declared.session.Phase.{Phase}
 use Rattle.sp_session.specs.declared.session.Session.{Session}
 use Rattle.sp_session.specs.Units.{unit_meaning}
 
--- A program is that of a list of modules, it is sound, and it runs the unit u of the list within limits and without arguments.
+-- A program is that of a list of modules, it is sound, and it runs the unit u of the list within limits and without arguments. The list
+-- names only what there is, as the law on meanings asks.
 pub record Runs (list : Typed) (program : Program) (limits : Limits) (u : ℕ) : Type 0 where
   pub compiled : IsCompiled list program
   pub sound : IsSoundProgram program
+  pub stands : ListStands list
   pub unit : RunsUnit (plain_of limits program) (shapes_of program) (hook_names_of list) list (starter_at list u) u []
 
 -- where such a run begins: before the starter of the unit

@@ -9,12 +9,12 @@ use Rattle.sp_events.specs.declared.event.What.{What}
 use Rattle.sp_typed_units.specs.declared.declarations.Typed.{Typed}
 use Rattle.sp_running.specs.States.{Error, Gives, Failed, Need, Result, Ends}
 use Rattle.sp_running.specs.Telling.{Names, value_tree}
-use Rattle.sp_code_programs.specs.programs.Named.{value_names_of}
-use Rattle.sp_law_programs.specs.unit_told.Told.{events_of}
-use Rattle.sp_law_programs.specs.whole_program.Meant.{list_means}
+use Rattle.sp_code_programs.specs.programs.Named.{hook_names_of, value_names_of}
+use Rattle.sp_law_programs.specs.unit_told.Told.{first, events_of}
 use Rattle.sp_fiber.specs.Moves.{whole_reads}
 use Rattle.sp_meaning.specs.declared.stand.Stand.{Stand}
 use Rattle.sp_meaning.specs.Meaning.{Meaning, UnitMeaning, told}
+use Rattle.sp_meaning.specs.Units.{unit_means}
 
 -- what the fiber of the flow's own bytes tells, as events
 abbrev pub of_flow : List What → List Event
@@ -49,7 +49,7 @@ meaning_of names r = record { events = of_flow (events_of r) ++ last names r; st
 -- What the unit u of a list does with an input, within limits and without arguments. Calls and rounds are inside one another no more than
 -- the turns allow, so one more than these is enough, and any greater number says the same.
 abbrev pub unit_result : Typed → Limits → ℕ → List ℕ → Close → Result
-unit_result list limits u s close = list_means list limits (whole_reads s close) (limits.turns + 1) u []
+unit_result list limits u s close = unit_means (value_names_of list) (hook_names_of list) list limits (whole_reads s close) (limits.turns + 1) u [] first
 
 -- What it means. Proofs don't see into it by themselves.
 unfoldable pub unit_meaning : Typed → Limits → ℕ → UnitMeaning

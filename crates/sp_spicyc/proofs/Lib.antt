@@ -1,3 +1,4 @@
+pub mod Askings
 pub mod Causing
 pub mod Reports
 pub mod Single

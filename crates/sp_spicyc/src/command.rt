@@ -1,6 +1,8 @@
 // The program: it reads its words and the files, and answers a status.
-ghost use Rattle.std.specs.Prelude.{◌≡◌, ◌<◌, ◌-◌, ◌^◌, IfOk};
+ghost use Rattle.std.specs.Prelude.{◌≡◌, ◌≢◌, ◌<◌, ◌-◌, ◌^◌, IfOk};
 ghost use Rattle.sp_spicyc.specs.declared.exits.Exit.{Exit};
+ghost use Rattle.sp_front.specs.Asked.{Asks};
+ghost use Rattle.sp_spicyc.specs.Asked.{AsksByWords, AsksAllByWords};
 ghost use Rattle.sp_spicyc.specs.Causes.{IsCausedBy};
 ghost use Rattle.sp_spicyc.specs.Whole.{IsAnswered};
 ghost use Rattle.sp_spicyc.specs.Command.{Says, ExitCause, Reported, status_of, output_of, message_of};
@@ -19,6 +21,10 @@ fn drive<M: Modules>(alloc: Global, words: &[Text], modules: &mut M) -> Exit
     requires { M.faults modules.old < 2 ^ 64 - 1 }
     ensures says { Says words.now (M.files modules.old) result }
     ensures cause { ExitCause (M.faults modules.old) (M.faults modules.new) result }
+    ensures asks { Asks (M.files modules.old) (M.asked modules.old) (M.asked modules.new)
+        (AsksByWords words.now) }
+    ensures asks_all { status_of result ≢ 4 → status_of result ≢ 7 → Asks (M.files modules.old)
+        (M.asked modules.old) (M.asked modules.new) (AsksAllByWords words.now) }
 {
     let Some(wanted) = words_wanted(words) else {
         return Exit::Usage;
@@ -96,7 +102,7 @@ fn report<O: Out, E: Out>(alloc: Global, exit: &Exit, out: &mut O, err: &mut E) 
 /// Loads the list of modules that the words want: the named files in their order, and what they import, from the directories of
 /// `-L`. Writes the canonical texts of the named files to `out` where the words want it, and a message to `err` where something
 /// is wrong, and answers the status of the program. Nothing is written to `out` unless all files are modules and no rule is
-/// broken in the list.
+/// broken in the list. Only the files of the list are read, and where an import's module is looked for.
 pub fn spicyc<M: Modules, O: Out, E: Out>(
     alloc: Global,
     words: &[Text],
@@ -129,6 +135,10 @@ pub fn spicyc<M: Modules, O: Out, E: Out>(
         result }
     ensures answer { IsAnswered words.now (M.files modules.old) (O.held out.old) (O.held out.new)
         (E.held err.old) (E.held err.new) result }
+    ensures asks { Asks (M.files modules.old) (M.asked modules.old) (M.asked modules.new)
+        (AsksByWords words.now) }
+    ensures asks_all { result ≢ 4 → result ≢ 5 → result ≢ 7 → Asks (M.files modules.old)
+        (M.asked modules.old) (M.asked modules.new) (AsksAllByWords words.now) }
 {
     let exit = drive(alloc, words, modules);
     report(alloc, &exit, out, err)

@@ -4,6 +4,7 @@ ghost use Rattle.sp_command.specs.Directories.{directories_of};
 ghost use Rattle.sp_print.specs.Canonical.{canonical};
 ghost use Rattle.sp_read_file.specs.Loads.{UnreadCause};
 ghost use Rattle.sp_front.specs.declared.entries.ModuleFile.{ModuleFile as File};
+ghost use Rattle.sp_front.specs.Asked.{Asks, AsksAll, AsksNoMore};
 ghost use Rattle.sp_front.specs.inside.Follow.{IsRefusedBy};
 ghost use Rattle.sp_load.specs.Loads.{IsLoaded, IsLoadRefused};
 ghost use Rattle.sp_spicyc.specs.Files.{printed, printed_first};
@@ -71,6 +72,13 @@ fn load_from<M: Modules>(
         × (text ≡ printed (with_directories directories.now wanted.now) list)) }
     ensures unread { IfErr result (IsRefusedBy (IsLoadRefused (M.files modules.old)
         wanted.now.files.now directories.now)) }
+    ensures asks { IfOk result (λ _. Asks (M.files modules.old) (M.asked modules.old)
+        (M.asked modules.new) (λ told. AsksAll told wanted.now.files.now directories.now)) }
+    ensures asks_refused { IfErr result (IsRefusedBy (λ _. Asks (M.files modules.old)
+        (M.asked modules.old) (M.asked modules.new)
+        (λ told. AsksAll told wanted.now.files.now directories.now))) }
+    ensures asks_no_more { Asks (M.files modules.old) (M.asked modules.old) (M.asked modules.new)
+        (λ told. AsksNoMore told wanted.now.files.now directories.now) }
     ensures cause { MatchResult result (λ _. M.faults modules.new ≡ M.faults modules.old)
         (UnreadCause (M.faults modules.old) (M.faults modules.new)) }
 {
@@ -94,6 +102,15 @@ pub fn load_and_print<M: Modules>(
         × (text ≡ printed (wanted_words wanted.now) list)) }
     ensures unread { IfErr result (IsRefusedBy (IsLoadRefused (M.files modules.old)
         wanted.now.files.now (directories_of wanted.now.directories.now))) }
+    ensures asks { IfOk result (λ _. Asks (M.files modules.old) (M.asked modules.old)
+        (M.asked modules.new) (λ told. AsksAll told wanted.now.files.now
+        (directories_of wanted.now.directories.now))) }
+    ensures asks_refused { IfErr result (IsRefusedBy (λ _. Asks (M.files modules.old)
+        (M.asked modules.old) (M.asked modules.new) (λ told. AsksAll told wanted.now.files.now
+        (directories_of wanted.now.directories.now)))) }
+    ensures asks_no_more { Asks (M.files modules.old) (M.asked modules.old) (M.asked modules.new)
+        (λ told. AsksNoMore told wanted.now.files.now
+        (directories_of wanted.now.directories.now)) }
     ensures cause { MatchResult result (λ _. M.faults modules.new ≡ M.faults modules.old)
         (UnreadCause (M.faults modules.old) (M.faults modules.new)) }
 {

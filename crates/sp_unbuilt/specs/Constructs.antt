@@ -58,17 +58,9 @@ abbrev pub text_of : Tree → List ℕ
 text_of (node (form_is.Name x) span ts) = x
 text_of _ = []
 
--- `pop_back` of what stands in a container: its result would stand between the container and what is put back.
-abbrev pub is_index : Tree → Bool
-is_index (node (form_is.Expr expr_is.Index) span ts) = true
-is_index _ = false
-
-abbrev pub pops_inside : Tree → List ℕ → Bool
-pops_inside object x = is_index object && bytes_eq x (codes "pop_back")
-
 -- A call of such a method begins with its receiver.
 abbrev pub calls_late : Tree → Bool
-calls_late (node (form_is.Expr expr_is.Member) span (more object (more name none))) = is_late_method (text_of name) || pops_inside object (text_of name)
+calls_late (node (form_is.Expr expr_is.Member) span (more object (more name none))) = is_late_method (text_of name)
 calls_late _ = false
 
 abbrev pub expr_tests : ℕ → Tree → List (Bool × Diag)

@@ -114,7 +114,7 @@ item_call x = of (form_is.Expr expr_is.Call) 4 15 (of (form_is.Expr expr_is.Memb
 pub pop_row : in_tree (call_of (codes "pop_back")) ≡ []
 pop_row = refl
 
-pub pop_inside_row : in_tree (item_call (codes "pop_back")) ≡ 4 ∷ []
+pub pop_inside_row : in_tree (item_call (codes "pop_back")) ≡ []
 pop_inside_row = refl
 
 pub push_inside_row : in_tree (item_call (codes "push_back")) ≡ []

@@ -1,7 +1,7 @@
 // The constructs that aren't built yet, apart from fields and hooks.
 ghost use Rattle.std.specs.Prelude.{◌≡◌};
 ghost use Rattle.sp_unbuilt.specs.First.{noted};
-ghost use Rattle.sp_unbuilt.specs.Constructs.{is_late_attribute, is_late_unit_method, is_sink_method, is_late_method, is_index, pops_inside, calls_late, is_decoder, expr_tests, stmt_tests, type_tests, item_tests, decl_tests, part_tests};
+ghost use Rattle.sp_unbuilt.specs.Constructs.{is_late_attribute, is_late_unit_method, is_sink_method, is_late_method, calls_late, is_decoder, expr_tests, stmt_tests, type_tests, item_tests, decl_tests, part_tests};
 
 use crate::first::note_at;
 use crate::hooks::{is_for_each, is_late_name, is_late_target};
@@ -46,31 +46,12 @@ fn is_late_method(name: &str) -> bool
     is_late_unit_method(name) || is_sink_method(name)
 }
 
-/// Whether it is an element of a container.
-fn is_index(object: &Ref<'_, ExprKind>) -> bool
-    ensures { result ≡ is_index object.now }
-{
-    match object.view() {
-        ExprView::Index { .. } => true,
-        _ => false,
-    }
-}
-
-/// Whether a method takes the last item of a vector that stands in a container.
-fn pops_inside(object: &Ref<'_, ExprKind>, name: &str) -> bool
-    ensures { result ≡ pops_inside object.now name.now }
-{
-    is_index(object) && name == "pop_back"
-}
-
 /// Whether what is called is a method that isn't built.
 fn calls_late(callee: &Ref<'_, ExprKind>) -> bool
     ensures { result ≡ calls_late callee.now }
 {
     match callee.view() {
-        ExprView::Member(object, name) => {
-            is_late_method(name.text()) || pops_inside(&object, name.text())
-        }
+        ExprView::Member(_, name) => is_late_method(name.text()),
         _ => false,
     }
 }

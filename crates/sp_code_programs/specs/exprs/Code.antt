@@ -1,5 +1,5 @@
 -- The code of expressions and of places.
-use Rattle.std.specs.Prelude.{ℕ, ◌+◌, ◌-◌, true, false, List, [], ◌∷◌, ◌++◌, Option, Some, None, nat_lt, slice_get, unwrap_or, if◌then◌else◌}
+use Rattle.std.specs.Prelude.{ℕ, ◌+◌, ◌-◌, Bool, true, false, List, [], ◌∷◌, ◌++◌, Option, Some, None, nat_lt, slice_get, unwrap_or, if◌then◌else◌}
 use Rattle.sp_numbers.specs.declared.width.Width.TheVariants.{W64}
 use Rattle.sp_words.specs.declared.operators.BinaryOp.{BinaryOp}
 use Rattle.sp_words.specs.declared.operators.BinaryOp.TheVariants as op_is
@@ -22,12 +22,12 @@ use Rattle.sp_typed.specs.declared.words.UnitMethod.TheVariants as unit_method
 use Rattle.sp_typed.specs.Exprs.{Expr, Exprs, leaf, one, two, three, many, none, more, type_of}
 use Rattle.sp_running.specs.Types.{number_value, plain_type, zero_value, kind_of_type}
 use Rattle.sp_bodies.specs.Globals.{Globals, Layout, label_value}
-use Rattle.sp_bodies.specs.Exprs.{negative_literal, offset_local, is_self, slot_local, slot_of_receiver, gives_result, member_named, local_named}
+use Rattle.sp_bodies.specs.Exprs.{how_many, negative_literal, offset_local, is_self, slot_local, slot_of_receiver, gives_result, member_named, local_named}
 use Rattle.sp_code.specs.declared.instr.Instr.{Instr}
 use Rattle.sp_code.specs.declared.instr.Instr.TheVariants as does
 use Rattle.sp_code.specs.Shapes.{Shape, with_operands, push}
 use Rattle.sp_code_programs.specs.exprs.Marked.{Marked, mark, constant}
-use Rattle.sp_code_programs.specs.exprs.Sizes.{expr_size, exprs_size, load_size, keep_size}
+use Rattle.sp_code_programs.specs.exprs.Sizes.{stands_on, under_size, expr_size, exprs_size, load_size, keep_size}
 
 abbrev pub unless_literal : Option Val → Shape → List Marked → List Marked
 unless_literal (Some v) s ms = constant s v ∷ []
@@ -63,12 +63,21 @@ abbrev pub member_of : OneOp → ℕ
 member_of o = unwrap_or (member_named o) 0
 
 abbrev pub count : Exprs → ℕ
-count none = 0
-count (more e es) = count es + 1
+count es = how_many es
 
 -- the value that an expression of a method without a result has
 abbrev pub result_code : Method → Shape → List Marked
 result_code m s = if gives_result m then [] else constant s void ∷ []
+
+-- how many operands a place leaves below its value when it is loaded
+abbrev pub pending_count : Expr → ℕ
+pending_count (two h a b) = pending_count a + 2
+pending_count e = 0
+
+-- what puts a result under them
+abbrev pub under_code : Bool → ℕ → Shape → List Marked
+under_code true n s = mark s (does.Under n) ∷ []
+under_code false n s = []
 
 module _ (globals : Globals) (layout : Layout) where
   abbrev pub kind_of : Expr → Kind
@@ -185,8 +194,9 @@ module _ (globals : Globals) (layout : Layout) where
         let owner = slot_local layout (slot_of_receiver op) in
         let t = push (kind_of r) (pending s r) in
         let at_args = at + load_size layout owner r in
-        let at_store = at_args + exprs_size layout es + 1 in
-        method_code op s (with_operands t (kinds_on es t.operands)) (load_code owner s at r) (exprs_code t at_args es) (store_code owner (with_result op k s) at_store r)
+        let at_store = at_args + exprs_size layout es + 1 + under_size op r in
+        method_code op s (with_operands t (kinds_on es t.operands)) (load_code owner s at r) (exprs_code t at_args es)
+        (under_code (stands_on op r) (pending_count r) (push (kind_of r) (push k (pending s r))) ++ store_code owner (with_result op k s) at_store r)
 
     -- what gives the value of a place, and below it what is pending
     pub load_code : Option ℕ → Shape → ℕ → Expr → List Marked

@@ -1,5 +1,5 @@
 -- How many instructions expressions and places have, so that a jump past them can be written.
-use Rattle.std.specs.Prelude.{ℕ, ◌+◌, Option, Some, None, if◌then◌else◌}
+use Rattle.std.specs.Prelude.{ℕ, ◌+◌, Bool, false, ◌&&◌, Option, Some, None, if◌then◌else◌}
 use Rattle.sp_words.specs.declared.methods.Method.{Method}
 use Rattle.sp_words.specs.declared.operators.BinaryOp.{BinaryOp}
 use Rattle.sp_words.specs.declared.operators.BinaryOp.TheVariants as op_is
@@ -14,7 +14,7 @@ use Rattle.sp_typed.specs.declared.words.ManyOp.TheVariants as many_is
 use Rattle.sp_typed.specs.declared.words.UnitMethod.TheVariants as unit_method
 use Rattle.sp_typed.specs.Exprs.{Expr, Exprs, leaf, one, two, three, many, none, more}
 use Rattle.sp_bodies.specs.Globals.{Layout}
-use Rattle.sp_bodies.specs.Exprs.{negative_literal, offset_local, is_self, slot_local, slot_of_receiver, gives_result}
+use Rattle.sp_bodies.specs.Exprs.{negative_literal, offset_local, is_self, slot_local, slot_of_receiver, gives_result, is_item_place}
 
 -- a literal with a minus sign is one constant
 abbrev pub size_or : Option Val → ℕ → ℕ
@@ -64,6 +64,14 @@ abbrev pub method_size : ManyOp → ℕ → ℕ → ℕ → ℕ
 method_size (many_is.Method m slot) load args store = change_size m load args store
 method_size op load args store = 0
 
+-- whether a result stands on the container of the item that is changed, under which it goes
+abbrev pub stands_on : ManyOp → Expr → Bool
+stands_on (many_is.Method m slot) r = gives_result m && is_item_place r
+stands_on op r = false
+
+abbrev pub under_size : ManyOp → Expr → ℕ
+under_size op r = if stands_on op r then 1 else 0
+
 module _ (layout : Layout) where
   abbrev mutual
     pub expr_size : Expr → ℕ
@@ -80,7 +88,7 @@ module _ (layout : Layout) where
     pub receiver_size : ManyOp → Exprs → ℕ
     receiver_size op none = 0
     receiver_size op (more r es) =
-        method_size op (load_size (slot_local layout (slot_of_receiver op)) r) (exprs_size es) (store_size (slot_local layout (slot_of_receiver op)) r)
+        method_size op (load_size (slot_local layout (slot_of_receiver op)) r) (exprs_size es) (under_size op r + store_size (slot_local layout (slot_of_receiver op)) r)
 
     -- what gives the value of a place, with what it leaves below it; and what puts a value there
     pub load_size : Option ℕ → Expr → ℕ

@@ -1,4 +1,4 @@
--- Rows on which the meaning of bodies and the run of their code are computed: what both tell, and how they end.
+-- Rows on which the meaning of bodies, the same in the text of code, and the run of their code are computed: what all tell, and how they end.
 use Rattle.std.specs.Prelude.{◌≡◌, ℕ, zero, suc, ◌+◌, ℤ, pos, true, false, List, [], ◌∷◌, ◌++◌, length, Option, Some, None, refl, if◌then◌else◌}
 use Rattle.sp_base.specs.Input.{Close, held_open, ended}
 use Rattle.sp_base.specs.declared.kinds.PKind.{PKind}
@@ -42,7 +42,9 @@ use Rattle.sp_running.specs.Scopes.{Called}
 use Rattle.sp_running.specs.Reads.{Ask, Read, NoToken, reads}
 use Rattle.sp_running.specs.Telling.{Names}
 use Rattle.sp_bodies.specs.Globals.{globals_of}
-use Rattle.sp_bodies.specs.Calls.{call_means, hooks_mean, hook_bodies, integer_means, zero_slots, is_foreach, told_count, has_current}
+use Rattle.sp_meaning.specs.Calls.{call_means, hooks_mean}
+use Rattle.sp_bodies.specs.Calls as laid
+use Rattle.sp_bodies.specs.Calls.{hook_bodies, integer_means, zero_slots, is_foreach, told_count, has_current}
 use Rattle.sp_code.specs.declared.instr.Instr.{Instr}
 use Rattle.sp_code.specs.declared.instr.Instr.TheVariants as does
 use Rattle.sp_code.specs.Machine.{Body, Plain, Config, At, Next, Goes, Waits, Over, step}
@@ -248,12 +250,15 @@ drive go (suc n) es c = told_by (drive go n) es (go c)
 abbrev meant : List Function → (List What) × Stand
 meant fs = told_of (call_means names [] (listed fs []) limits 30 0 [] begin)
 
+abbrev also_meant : List Function → (List What) × Stand
+also_meant fs = told_of (laid.call_means names [] (listed fs []) limits 30 0 [] begin)
+
 abbrev ran : List Function → (List What) × Stand
 ran fs = drive (step (lowered (does.Call 0 ∷ does.Return ∷ []) (listed fs [])) (reading [] ended)) 200 [] (At 0 [] [] begin)
 
--- both are this
+-- all are this
 abbrev Tell : List Function → List What → Stand → Type 0
-Tell fs es how = (meant fs ≡ (es, how)) × (ran fs ≡ (es, how))
+Tell fs es how = (meant fs ≡ (es, how)) × (also_meant fs ≡ (es, how)) × (ran fs ≡ (es, how))
 
 abbrev uints : List ℕ → List TreeData
 uints [] = []
@@ -264,29 +269,29 @@ says ns = What.Print (uints ns)
 
 -- `1 + 2 * 3`
 sum : Tell (function [] byte (returned (binary byte op_is.Add (number 1) (binary byte op_is.Multiply (number 2) (number 3)))) ∷ []) [] (Done (uint W8 7))
-sum = (refl, refl)
+sum = (refl, refl, refl)
 
 -- `1 / 0` is an error at the place of the input
 abbrev by_zero : Expr
 by_zero = binary byte op_is.Divide (number 1) (number 0)
 
 division : Tell (function [] byte (returned by_zero) ∷ []) [] (Fails error_is.DivZero None 3)
-division = (refl, refl)
+division = (refl, refl, refl)
 
 -- `False && 1 / 0 == 1` doesn't divide, and `True && ..` does
 shortened : Tell (function [] boolean (returned (binary boolean op_is.And (truth leaf_is.False) (binary boolean op_is.Equal by_zero (number 1)))) ∷ []) [] (Done (bool false))
-shortened = (refl, refl)
+shortened = (refl, refl, refl)
 
 evaluated : Tell (function [] boolean (returned (binary boolean op_is.And (truth leaf_is.True) (binary boolean op_is.Equal by_zero (number 1)))) ∷ []) [] (Fails error_is.DivZero None 3)
-evaluated = (refl, refl)
+evaluated = (refl, refl, refl)
 
 -- `[5][1]`
 past : Tell (function [] byte (returned (item byte (vector_of (number 5 ∷ [])) (number 1))) ∷ []) [] (Fails error_is.Index None 3)
-past = (refl, refl)
+past = (refl, refl, refl)
 
 -- `local m = map(1: 2); m[1] += 5; print m[1];`
 update : Tell (function (byte_map ∷ []) nothing (both (set_to (local byte_map 0) (many_of byte_map many_is.Map (number 1 ∷ number 2 ∷ [])) ∷ add_to (item byte (local byte_map 0) (number 1)) (number 5) ∷ printed (item byte (local byte_map 0) (number 1) ∷ []) ∷ [])) ∷ []) (says (7 ∷ []) ∷ []) (Done void)
-update = (refl, refl)
+update = (refl, refl, refl)
 
 -- `local vs: vector<vector<uint8>> = [[1], [2]]; vs[1][0] = 9; print vs[1][0], vs[0][0];`
 abbrev rows_type : Ty
@@ -296,46 +301,74 @@ abbrev at_row : ℕ → Expr
 at_row n = item byte (item bytes_row (local rows_type 0) (number n)) (number 0)
 
 nested : Tell (function (rows_type ∷ []) nothing (both (set_to (local rows_type 0) (many_of rows_type many_is.Vector (vector_of (number 1 ∷ []) ∷ vector_of (number 2 ∷ []) ∷ [])) ∷ set_to (at_row 1) (number 9) ∷ printed (at_row 1 ∷ at_row 0 ∷ []) ∷ [])) ∷ []) (says (9 ∷ 1 ∷ []) ∷ []) (Done void)
-nested = (refl, refl)
+nested = (refl, refl, refl)
 
 -- `while (True) { if (x == 2) { break; } x += 1; } print x;`
 broken : Tell (function (byte ∷ []) nothing (both (while_loop (truth leaf_is.True) (both (when (binary boolean op_is.Equal (local byte 0) (number 2)) break_out ∷ add_to (local byte 0) (number 1) ∷ [])) ∷ printed (local byte 0 ∷ []) ∷ [])) ∷ []) (says (2 ∷ []) ∷ []) (Done void)
-broken = (refl, refl)
+broken = (refl, refl, refl)
 
 -- `while (True) { }` ends at the turn that is one too many
 endless : Tell (function [] nothing (while_loop (truth leaf_is.True) (both [])) ∷ []) [] (Fails error_is.Turns None 3)
-endless = (refl, refl)
+endless = (refl, refl, refl)
 
 -- `for (x in v) { v.push_back(x); }` goes over v as it was; `|v|` is then 4
 grown : Tell (function (bytes_row ∷ byte ∷ []) nothing (both (set_to (local bytes_row 0) (vector_of (number 1 ∷ number 2 ∷ [])) ∷ each_of 1 (local bytes_row 0) (evaluate (method nothing method_is.PushBack (local bytes_row 0 ∷ local byte 1 ∷ []))) ∷ printed (one_of byte one_is.Size (local bytes_row 0) ∷ []) ∷ [])) ∷ []) (says (4 ∷ []) ∷ []) (Done void)
-grown = (refl, refl)
+grown = (refl, refl, refl)
 
 -- `print v.pop_back(), |v|;`
 popped : Tell (function (bytes_row ∷ []) nothing (both (set_to (local bytes_row 0) (vector_of (number 1 ∷ number 2 ∷ [])) ∷ printed (method byte method_is.PopBack (local bytes_row 0 ∷ []) ∷ one_of byte one_is.Size (local bytes_row 0) ∷ []) ∷ [])) ∷ []) (says (2 ∷ 1 ∷ []) ∷ []) (Done void)
-popped = (refl, refl)
+popped = (refl, refl, refl)
+
+-- `print vs[1].pop_back(), vs[1][0], |vs[1]|, vs[0][0];`, and of an item of an item
+abbrev row_at : ℕ → Expr
+row_at n = item bytes_row (local rows_type 0) (number n)
+
+abbrev two_rows : Stmt
+two_rows = set_to (local rows_type 0) (many_of rows_type many_is.Vector (vector_of (number 1 ∷ []) ∷ vector_of (number 2 ∷ number 3 ∷ []) ∷ []))
+
+popped_off_item : Tell (function (rows_type ∷ []) nothing (both (two_rows ∷ printed (method byte method_is.PopBack (row_at 1 ∷ []) ∷ at_row 1 ∷ one_of byte one_is.Size (row_at 1) ∷ at_row 0 ∷ []) ∷ [])) ∷ []) (says (3 ∷ 2 ∷ 1 ∷ 1 ∷ []) ∷ []) (Done void)
+popped_off_item = (refl, refl, refl)
+
+abbrev tables_type : Ty
+tables_type = made maker_is.Vector (tys (rows_type ∷ []))
+
+abbrev row_in : ℕ → Expr
+row_in n = item bytes_row (item rows_type (local tables_type 0) (number 0)) (number n)
+
+popped_off_item_of_item :
+    Tell (function (tables_type ∷ []) nothing (both (set_to (local tables_type 0) (many_of tables_type many_is.Vector (many_of rows_type many_is.Vector (vector_of (number 1 ∷ []) ∷ vector_of (number 2 ∷ number 3 ∷ []) ∷ []) ∷ [])) ∷ printed (binary byte op_is.Add (number 5) (method byte method_is.PopBack (row_in 1 ∷ [])) ∷ one_of byte one_is.Size (row_in 1) ∷ one_of byte one_is.Size (row_in 0) ∷ []) ∷ [])) ∷ [])
+    (says (8 ∷ 1 ∷ 1 ∷ []) ∷ []) (Done void)
+popped_off_item_of_item = (refl, refl, refl)
+
+-- the second call finds nothing in the row; and there is no third row
+popped_twice : Tell (function (rows_type ∷ []) nothing (both (two_rows ∷ evaluate (method byte method_is.PopBack (row_at 0 ∷ [])) ∷ printed (one_of byte one_is.Size (row_at 0) ∷ []) ∷ evaluate (method byte method_is.PopBack (row_at 0 ∷ [])) ∷ [])) ∷ []) (says (0 ∷ []) ∷ []) (Fails error_is.Index None 3)
+popped_twice = (refl, refl, refl)
+
+popped_off_nothing : Tell (function (rows_type ∷ []) nothing (both (two_rows ∷ evaluate (method byte method_is.PopBack (row_at 2 ∷ [])) ∷ [])) ∷ []) [] (Fails error_is.Index None 3)
+popped_off_nothing = (refl, refl, refl)
 
 -- a call that returns out of a loop: `return f() + 1;` with `for (x in [5, 6]) { return x; }`
 left_early : Tell (function [] byte (returned (binary byte op_is.Add (call byte 1 []) (number 1))) ∷ function (byte ∷ []) byte (each_of 0 (vector_of (number 5 ∷ number 6 ∷ [])) (returned (local byte 0))) ∷ []) [] (Done (uint W8 6))
-left_early = (refl, refl)
+left_early = (refl, refl, refl)
 
 -- a function that calls itself is too deep
 recursive : Tell (function [] byte (returned (call byte 0 [])) ∷ []) [] (Fails error_is.Depth None 3)
-recursive = (refl, refl)
+recursive = (refl, refl, refl)
 
 -- `self.a` is unset; `self.b += 1; print self.b;`
 unset : Tell (function [] byte (returned (field 0)) ∷ []) [] (Fails error_is.Unset None 3)
-unset = (refl, refl)
+unset = (refl, refl, refl)
 
 member_updated : Tell (function [] nothing (both (add_to (field 1) (number 1) ∷ printed (field 1 ∷ []) ∷ [])) ∷ []) (says (8 ∷ []) ∷ []) (Done void)
-member_updated = (refl, refl)
+member_updated = (refl, refl, refl)
 
 -- `switch (2) { case 1, 2: print 1; default: print 0; }`
 switched : Tell (function (byte ∷ []) nothing (switch 0 (number 2) (more_cases (exprs (number 1 ∷ number 2 ∷ [])) (printed (number 1 ∷ [])) no_cases) (printed (number 0 ∷ []))) ∷ []) (says (1 ∷ []) ∷ []) (Done void)
-switched = (refl, refl)
+switched = (refl, refl, refl)
 
 -- `assert False : "a";`
 asserted : Tell (function [] nothing (valued_by (valued_is.Assert (Some (97 ∷ []))) (truth leaf_is.False)) ∷ []) [] (Fails error_is.Assert (Some (97 ∷ [])) 3)
-asserted = (refl, refl)
+asserted = (refl, refl, refl)
 
 -- Two bodies of `%init`, of which the later one has the higher priority: it tells first, and so do the instructions in this order.
 abbrev two_bodies : List Hook

@@ -1,4 +1,4 @@
--- Rows on which the meaning of a unit and the run of its code are computed: what both tell, and how they end.
+-- Rows on which the meaning of a unit, the same in the text of code, and the run of its code are computed: what all tell, and how they end.
 use Rattle.std.specs.Prelude.{◌≡◌, ℕ, ◌+◌, pos, neg_ℤ, true, false, List, [], ◌∷◌, ◌++◌, length, Option, Some, None, refl}
 use Rattle.sp_base.specs.Input.{Close, held_open, ended}
 use Rattle.sp_base.specs.declared.kinds.PKind.TheVariants as error_is
@@ -32,7 +32,8 @@ use Rattle.sp_typed_units.specs.declared.readings.ReadOp.TheVariants as read_is
 use Rattle.sp_typed_units.specs.Specs.{read}
 use Rattle.sp_typed_units.specs.Parts.{Part, field}
 use Rattle.sp_running.specs.States.{Main, State}
-use Rattle.sp_bodies.specs.Units.{unit_means}
+use Rattle.sp_bodies.specs.Units as laid
+use Rattle.sp_meaning.specs.Units.{unit_means}
 use Rattle.sp_code.specs.declared.instr.Instr.TheVariants as does
 use Rattle.sp_code.specs.Machine.{Plain, At, step}
 use Rattle.sp_code_programs.specs.units.Units.{unit_code, ending_code, failing_code, unit_entry}
@@ -103,12 +104,15 @@ begin = record { instances = []; self = 0; locals = []; now = record { source = 
 abbrev meant : TypedUnit → List Hook → List ℕ → Close → (List What) × Stand
 meant x hooks s close = told_of (unit_means names [] (listed x hooks) limits (reading s close) 30 0 [] begin)
 
+abbrev also_meant : TypedUnit → List Hook → List ℕ → Close → (List What) × Stand
+also_meant x hooks s close = told_of (laid.unit_means names [] (listed x hooks) limits (reading s close) 30 0 [] begin)
+
 abbrev ran : TypedUnit → List Hook → List ℕ → Close → (List What) × Stand
 ran x hooks s close = drive (step (lowered x hooks) (reading s close)) 200 [] (At 0 [] [] begin)
 
--- both are this
+-- all are this
 abbrev Tell : TypedUnit → List Hook → List ℕ → Close → List What → Stand → Type 0
-Tell x hooks s close es how = (meant x hooks s close ≡ (es, how)) × (ran x hooks s close ≡ (es, how))
+Tell x hooks s close es how = (meant x hooks s close ≡ (es, how)) × (also_meant x hooks s close ≡ (es, how)) × (ran x hooks s close ≡ (es, how))
 
 -- `a: uint8 { .. } b: uint16;` with hooks of the unit
 abbrev two : TypedUnit
@@ -135,13 +139,13 @@ abbrev telling : List Hook
 telling = of_field (printed (value byte ∷ [])) ∷ of_unit hook_name.Done (printed (rows.field 1 ∷ [])) ∷ []
 
 whole : Tell two telling (5 ∷ 1 ∷ 2 ∷ []) held_open (begins_field 5 ∷ says (5 ∷ []) ∷ begins ∷ says (258 ∷ []) ∷ []) (Done (unit 0))
-whole = (refl, refl)
+whole = (refl, refl, refl)
 
 too_short : Tell two telling (5 ∷ 1 ∷ []) ended (begins_field 5 ∷ says (5 ∷ []) ∷ []) (Fails error_is.Short None 1)
-too_short = (refl, refl)
+too_short = (refl, refl, refl)
 
 waits : Tell two telling (5 ∷ 1 ∷ []) held_open (begins_field 5 ∷ says (5 ∷ []) ∷ []) (Waiting 1)
-waits = (refl, refl)
+waits = (refl, refl, refl)
 
 -- `on a { assert False; } on %error { print 1; } on %finally { print 2; }`
 abbrev wrong : Stmt
@@ -154,35 +158,35 @@ abbrev failing : List Hook
 failing = of_field wrong ∷ of_unit hook_name.Error (prints 1) ∷ of_unit hook_name.Finally (prints 2) ∷ []
 
 failed : Tell two failing (5 ∷ []) held_open (begins_field 5 ∷ begins ∷ says (1 ∷ []) ∷ begins ∷ says (2 ∷ []) ∷ []) (Fails error_is.Assert None 1)
-failed = (refl, refl)
+failed = (refl, refl, refl)
 
 -- an error of a field does the same
 ended_early : Tell two (of_field (prints 0) ∷ of_unit hook_name.Error (prints 1) ∷ of_unit hook_name.Finally (prints 2) ∷ []) (5 ∷ []) ended (begins_field 5 ∷ says (0 ∷ []) ∷ begins ∷ says (1 ∷ []) ∷ begins ∷ says (2 ∷ []) ∷ []) (Fails error_is.Short None 1)
-ended_early = (refl, refl)
+ended_early = (refl, refl, refl)
 
 -- the later body of `%error`, and `%finally`, run though the first body fails
 abbrev failing_twice : List Hook
 failing_twice = of_field (prints 0) ∷ first_of_unit hook_name.Error (both (prints 1 ∷ wrong ∷ prints 9 ∷ [])) ∷ of_unit hook_name.Error (prints 3) ∷ of_unit hook_name.Finally (prints 2) ∷ []
 
 dropped : Tell two failing_twice [] ended (begins ∷ says (1 ∷ []) ∷ begins ∷ says (3 ∷ []) ∷ begins ∷ says (2 ∷ []) ∷ []) (Fails error_is.Short None 0)
-dropped = (refl, refl)
+dropped = (refl, refl, refl)
 
 -- an error in `%finally` behind a good end runs no further hook
 abbrev failing_last : List Hook
 failing_last = of_field (prints 0) ∷ of_unit hook_name.Error (prints 1) ∷ first_of_unit hook_name.Finally wrong ∷ of_unit hook_name.Finally (prints 2) ∷ []
 
 failed_last : Tell two failing_last (5 ∷ 1 ∷ 2 ∷ []) held_open (begins_field 5 ∷ says (0 ∷ []) ∷ begins ∷ []) (Fails error_is.Assert None 3)
-failed_last = (refl, refl)
+failed_last = (refl, refl, refl)
 
 -- one turn too many ends the run without a hook, also in `%error`
 abbrev endless : Stmt
 endless = while_loop (truth leaf_is.True) (both [])
 
 no_hook_runs : Tell two (of_field endless ∷ of_unit hook_name.Error (prints 1) ∷ []) (5 ∷ []) held_open (begins_field 5 ∷ []) (Fails error_is.Turns None 1)
-no_hook_runs = (refl, refl)
+no_hook_runs = (refl, refl, refl)
 
 nor_behind_an_error : Tell two (of_field wrong ∷ of_unit hook_name.Error endless ∷ of_unit hook_name.Finally (prints 2) ∷ []) (5 ∷ []) held_open (begins_field 5 ∷ begins ∷ []) (Fails error_is.Turns None 1)
-nor_behind_an_error = (refl, refl)
+nor_behind_an_error = (refl, refl, refl)
 
 -- An anonymous field with a sign, whose first byte counts least, with `{ print self.offset(), $$; }`, behind a field without a hook. Of
 -- the two variables the first reads the second before that has its own value.
@@ -202,7 +206,7 @@ abbrev counting : List Hook
 counting = hook (hook_of.Anonymous 0) None (printed (offset ∷ value signed ∷ [])) ∷ of_unit hook_name.Init (printed (rows.field 2 ∷ rows.field 3 ∷ [])) ∷ []
 
 all_kept : Tell counted counting (5 ∷ 254 ∷ 255 ∷ []) held_open (begins ∷ says (0 ∷ 8 ∷ []) ∷ What.Hook [] (minus_two ∷ []) ∷ What.Print (told.uint 1 ∷ minus_two ∷ []) ∷ []) (Done (unit 0))
-all_kept = (refl, refl)
+all_kept = (refl, refl, refl)
 
 -- `%byte-order = spicy::ByteOrder::Little;` in the unit; and a unit without one in a module that has it
 abbrev little_property : OrderProperty
@@ -215,13 +219,13 @@ abbrev short_alone : TypedUnit
 short_alone = unit_of [] (read_as short [] (Some 1) (0 ∷ []) ∷ [])
 
 order_of_unit : Tell (record short_alone { orders = little_property ∷ [] }) as_number (1 ∷ 2 ∷ []) held_open (begins_field 513 ∷ says (513 ∷ []) ∷ []) (Done (unit 0))
-order_of_unit = (refl, refl)
+order_of_unit = (refl, refl, refl)
 
 order_of_module : (told_of (unit_means names [] (record (listed short_alone as_number) { orders = little_property ∷ [] }) limits (reading (1 ∷ 2 ∷ []) held_open) 30 0 [] begin)).0 ≡ begins_field 513 ∷ says (513 ∷ []) ∷ []
 order_of_module = refl
 
 order_of_network : Tell short_alone as_number (1 ∷ 2 ∷ []) held_open (begins_field 258 ∷ says (258 ∷ []) ∷ []) (Done (unit 0))
-order_of_network = (refl, refl)
+order_of_network = (refl, refl, refl)
 
 -- a unit that uses its input still needs its start where it waits
 start_is_needed : meant (record two { uses_input = true }) telling (5 ∷ []) held_open ≡ (begins_field 5 ∷ says (5 ∷ []) ∷ [], Waiting 0)

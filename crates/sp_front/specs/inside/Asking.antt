@@ -1,8 +1,9 @@
 -- How far was asked, where the files are told.
 use Rattle.std.specs.Prelude.{◌≡◌, ℕ, List, ◌++◌, take, Option, Some, None}
 use Rattle.sp_io.specs.Asked.{also_asked}
+use Rattle.sp_command.specs.declared.refusal.Refusal.{Refusal}
 use Rattle.sp_front.specs.declared.entries.Entry.{Entry}
-use Rattle.sp_front.specs.Lists.{Files, AreNext}
+use Rattle.sp_front.specs.Lists.{Files, stop, AreNext, IsStop}
 use Rattle.sp_front.specs.Asked.{Told, asked_along, asked_for_all, asked_next}
 
 -- a front of these paths was asked
@@ -36,3 +37,10 @@ abbrev pub StuckAsking : Files → List (List ℕ) → List Entry → Option (Li
 StuckAsking None dirs es before after = Unit {0}
 StuckAsking (Some files) dirs es before after =
     (now : List Entry) × (mid : Option (List (List ℕ))) × FollowedAsking (Some files) dirs es now before mid × IsPart mid after (asked_next files dirs now)
+
+-- some were followed, then the list is refused, and all that is asked next was asked
+abbrev pub StoppedAsking : Files → List (List ℕ) → List Entry → Option (List (List ℕ)) → Option (List (List ℕ)) → Refusal → Type 0
+StoppedAsking None dirs es before after r = Unit {0}
+StoppedAsking (Some files) dirs es before after r =
+    (now : List Entry) × (mid : Option (List (List ℕ))) × FollowedAsking (Some files) dirs es now before mid
+    × IsStop (Some files) dirs now (stop now) r × (after ≡ also_asked mid (asked_next files dirs now))

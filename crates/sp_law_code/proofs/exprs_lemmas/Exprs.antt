@@ -16,28 +16,24 @@ use Rattle.sp_code.specs.declared.instr.Instr.TheVariants as does
 use Rattle.sp_code.specs.Machine.{Plain}
 use Rattle.sp_code.specs.Shapes.{Shape, with_operands, push}
 use Rattle.sp_code_programs.specs.exprs.Marked.{Marked, mark}
-use Rattle.sp_code_programs.specs.exprs.Sizes.{keep_size, expr_size, exprs_size, load_size}
-use Rattle.sp_code_programs.specs.exprs.Code.{one_code, count, result_code, kind_of, kinds_on, pending, many_code, with_result, expr_code, exprs_code, receiver_code, load_code, store_code}
+use Rattle.sp_code_programs.specs.exprs.Sizes.{under_size, keep_size, expr_size, exprs_size, load_size}
+use Rattle.sp_code_programs.specs.exprs.Code.{one_code, count, result_code, pending_count, under_code, kind_of, kinds_on, pending, many_code, with_result, expr_code, exprs_code, receiver_code, load_code, store_code}
 use Rattle.sp_law_code.specs.exprs.Parts.{AreCounted, AllAreCounted}
 use Rattle.sp_law_code.specs.exprs.Laws.{CallsRun, ExpressionsRun}
-use Rattle.sp_law_code.proofs.exprs_lemmas.Sizes.{keep_sized, expr_sized, exprs_sized, load_sized}
+use Rattle.sp_law_code.proofs.exprs_lemmas.Sizes.{keep_sized, under_sized, expr_sized, exprs_sized, load_sized}
 use Rattle.sp_law_code.proofs.exprs_lemmas.Steps.{Does, does_to, then_got, choice}
 use Rattle.sp_law_code.proofs.exprs_lemmas.Forms.{moved, literal_does, one_does, leaf_does, two_does}
 use Rattle.sp_law_code.proofs.exprs_lemmas.Lists.{IsChanging, many_does}
 use Rattle.sp_law_code.proofs.exprs_lemmas.Places.{change_does, GoesOn, local_place, member_place, item_place}
 
-other_is_false : (a b : Bool) → (a && b) ≡ false → a ≡ true → b ≡ false
-other_is_false true b h g = h
-other_is_false false b h g = absurd (let q : false ≡ true = g in cc)
+nothing_pending : (e : Expr) → is_item_place e ≡ false → pending_count e ≡ 0
+nothing_pending (two h a b) f = absurd (let q : true ≡ false = f in cc)
+nothing_pending _ f = refl
 
 module _ (p : Plain) (reads : Reading → Ask → Read) where
   pub only_items : (item : Bool) (pc : ℕ) (ms : List Marked) (means : State → Result) → Does p reads pc ms [] means → Does p reads pc ms [] (λ st. chosen item means (ends Unfinished) st)
   only_items true pc ms means h = h
   only_items false pc ms means h = λ vs x st has. tt
-
-  unless_refused : (b : Bool) (pc : ℕ) (ms : List Marked) (means : State → Result) → (b ≡ false → Does p reads pc ms [] means) → Does p reads pc ms [] (λ st. chosen b (ends Unfinished) means st)
-  unless_refused true pc ms means h = λ vs x st has. tt
-  unless_refused false pc ms means h = h refl
 
   module _ (globals : Globals) (layout : Layout) (call : ℕ → List Val → State → Result) (calls : CallsRun p reads call) where
     mutual
@@ -95,22 +91,24 @@ module _ (p : Plain) (reads : Reading → Ask → Read) where
           let load = load_code globals layout owner s pc r in
           let at_args = pc + load_size layout owner r in
           let args = exprs_code globals layout u at_args es in
-          let at_store = at_args + exprs_size layout es + 1 in
+          let at_store = at_args + exprs_size layout es + 1 + under_size (many_is.Method m slot) r in
           let s_store = with_result globals layout (many_is.Method m slot) k s in
           let store = store_code globals layout owner s_store at_store r in
           let w = with_operands u (kinds_on globals layout es u.operands) in
-          let rest = mark w (does.Lib m) ∷ (store ++ result_code m s) in
-          unless_refused (gives_result m && is_item_place r) pc (load ++ (args ++ rest)) _ (λ e.
+          let b = gives_result m && is_item_place r in
+          let t_under = push (kind_of globals layout r) (push k (pending globals layout s r)) in
+          let rest = mark w (does.Lib m) ∷ ((under_code b (pending_count r) t_under ++ store) ++ result_code m s) in
           place_does r owner s pc (args ++ rest) (λ x put st. all_got globals call layout es (x ∷ []) (λ vs st. taken put (method m vs) st) st) t.0 (λ v ws put below stores.
           moved p reads at_args (pc + length load) (args ++ rest) (v ∷ ws) (all_got globals call layout es (v ∷ []) (λ vs st. taken put (method m vs) st)) (omega (arith, load_sized globals layout owner s pc r))
           (all_does es (v ∷ []) ws u at_args rest (λ vs st. taken put (method m vs) st) t.1 (λ us l.
-          change_does p reads m c (at_args + length args) s w store us ws put (λ g. below (other_is_false (gives_result m) (is_item_place r) e g))
-          (λ y. moved p reads at_store (at_args + length args + 1) store (y ∷ ws) (put y) (omega (arith, exprs_sized globals layout u at_args es)) (stores s_store at_store y))))))
+          change_does p reads m c (is_item_place r) (at_args + length args) (pending_count r) s w t_under store us ws put below (nothing_pending r)
+          (λ y. moved p reads at_store (at_args + length args + 1 + length (under_code b (pending_count r) t_under)) store (y ∷ ws) (put y)
+          (omega (arith, exprs_sized globals layout u at_args es, under_sized b (pending_count r) t_under)) (stores s_store at_store y)))))
       receiver_does (more r es) _ k s pc c t = λ vs x st has. tt
 
       -- what is done with the value of a place, behind the code that loads it
       pub place_does : (e : Expr) (owner : Option ℕ) (s : Shape) (pc : ℕ) (rest : List Marked) (go : Changes) → AreCounted p e
-          → GoesOn p reads (pc + length (load_code globals layout owner s pc e)) rest (is_item_place e) (λ s at. store_code globals layout owner s at e) go
+          → GoesOn p reads (pc + length (load_code globals layout owner s pc e)) rest (pending_count e) (λ s at. store_code globals layout owner s at e) go
           → Does p reads pc (load_code globals layout owner s pc e ++ rest) [] (place_means globals call layout owner e go)
       place_does (leaf h) owner s pc rest go t k = local_place p reads (local_named h.op) pc layout.first s (λ s. push (kind_of globals layout (leaf h)) s) rest go k
       place_does (one h a) owner s pc rest go t k =
@@ -127,7 +125,7 @@ module _ (p : Plain) (reads : Reading → Ask → Read) where
           let at = pc + load_size layout owner a in
           let code_b = expr_code globals layout u at b in
           only_items (is_item h.op) pc (load_code globals layout owner s pc (two h a b) ++ rest) _
-          (item_place p reads pc s v (push j (push i v)) (λ s. push (kind_of globals layout (two h a b)) (pending globals layout s (two h a b))) load code_b rest (is_item_place a)
+          (item_place p reads pc s v (push j (push i v)) (λ s. push (kind_of globals layout (two h a b)) (pending globals layout s (two h a b))) load code_b rest (pending_count a)
           (λ s at. store_code globals layout owner s at a) (place_means globals call layout owner a) (expr_means globals call layout b) go
           (λ rest go k. place_does a owner s pc rest go t.0 k)
           (moved p reads at (pc + length load) code_b [] (expr_means globals call layout b) (omega (arith, load_sized globals layout owner s pc a)) (expr_does b u at t.1)) k)

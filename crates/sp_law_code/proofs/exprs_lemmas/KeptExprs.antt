@@ -1,5 +1,5 @@
 -- The code of an expression keeps to its shapes.
-use Rattle.std.proofs.Common.{◌≡◌, ℕ, ◌+◌, true, false, List, [], ◌∷◌, ◌++◌, length, Option, Some, None, refl, sym, ap, ◌∙◌, subst, arith}
+use Rattle.std.proofs.Common.{◌≡◌, ℕ, ◌+◌, true, false, List, [], ◌∷◌, ◌++◌, length, Option, Some, None, refl, sym, ap, ◌∙◌, subst, arith, append_assoc}
 use Rattle.sp_words.specs.declared.methods.Method.{Method}
 use Rattle.sp_words.specs.declared.methods.Method.TheVariants.{PushBack, PopBack}
 use Rattle.sp_value.specs.Val.{void}
@@ -14,13 +14,13 @@ use Rattle.sp_bodies.specs.Exprs.{negative_literal, offset_local, is_self, slot_
 use Rattle.sp_code.specs.declared.instr.Instr.TheVariants as does
 use Rattle.sp_code.specs.Kinds.{of_place}
 use Rattle.sp_code.specs.Machine.{Plain}
-use Rattle.sp_code.specs.Shapes.{Shape, Shapes, with_operands, push, IsMember}
+use Rattle.sp_code.specs.Shapes.{Shape, Shapes, with_operands, push, Shown, IsMember}
 use Rattle.sp_code_programs.specs.exprs.Marked.{Marked, mark, constant}
-use Rattle.sp_code_programs.specs.exprs.Sizes.{keep_size, expr_size, exprs_size, load_size}
-use Rattle.sp_code_programs.specs.exprs.Code.{one_code, keep_code, owner_code, member_of, count, kind_of, kinds_on, pending, place_local, expr_code, exprs_code, receiver_code, load_code, store_code}
+use Rattle.sp_code_programs.specs.exprs.Sizes.{under_size, keep_size, expr_size, exprs_size, load_size}
+use Rattle.sp_code_programs.specs.exprs.Code.{one_code, keep_code, owner_code, member_of, count, pending_count, under_code, kind_of, kinds_on, pending, place_local, expr_code, exprs_code, receiver_code, load_code, store_code}
 use Rattle.sp_law_code.specs.exprs.Parts.{OneFits, IsKept, Fits, AllFit, ReceiverFits, PlaceFits}
 use Rattle.sp_law_code.specs.exprs.Laws.{ExpressionsKeep}
-use Rattle.sp_law_code.proofs.exprs_lemmas.Sizes.{keep_sized, expr_sized, exprs_sized, load_sized}
+use Rattle.sp_law_code.proofs.exprs_lemmas.Sizes.{keep_sized, under_sized, expr_sized, exprs_sized, load_sized}
 use Rattle.sp_law_code.proofs.exprs_lemmas.Keeping.{Leads, shown_at, moved, nothing, behind, does_keep, constant_keeps, choice_keeps}
 use Rattle.sp_law_code.proofs.exprs_lemmas.KeptForms.{literal_keeps, one_keeps, load_keeps, leaf_keeps, two_keep, Changed, many_keep}
 
@@ -38,6 +38,19 @@ module _ (globals : Globals) (layout : Layout) where
   pub over_pending : (e : Expr) (s : Shape) (P : List Kind → Option ℕ → Type 0) → P s.locals s.unit → P (pending globals layout s e).locals (pending globals layout s e).unit
   over_pending (two h a b) s P fits = over_pending a s P fits
   over_pending _ s P fits = fits
+
+  -- the kinds of what waits
+  abbrev waiting : Expr → List Kind
+  waiting (two h a b) = kind_of globals layout b ∷ kind_of globals layout a ∷ waiting a
+  waiting _ = []
+
+  waiting_counted : (e : Expr) → length (waiting e) ≡ pending_count e
+  waiting_counted (two h a b) = omega (arith, waiting_counted a)
+  waiting_counted _ = refl
+
+  waits : (e : Expr) (s : Shape) → pending globals layout s e ≡ with_operands s (waiting e ++ s.operands)
+  waits (two h a b) s = ap (λ v. push (kind_of globals layout b) (push (kind_of globals layout a) v)) (waits a s)
+  waits _ s = refl
 
 module _ (p : Plain) (shapes : Shapes) (globals : Globals) (layout : Layout) where
   -- the owner of a member is kept, or it isn't, and is had again
@@ -73,9 +86,18 @@ module _ (p : Plain) (shapes : Shapes) (globals : Globals) (layout : Layout) whe
   method_keeps : (m : Method) (pc : ℕ) (u : Shape) (js ks outs : List Kind) → IsMethod m js outs → ks ≡ js ++ u.operands → Leads p shapes pc (mark (with_operands u ks) (does.Lib m) ∷ []) (with_operands u ks) (with_operands u (outs ++ u.operands))
   method_keeps m pc u js ks outs is e = does_keep p shapes pc (with_operands u ks) (with_operands u (outs ++ u.operands)) (does.Lib m) (λ shown. (js, outs, is, (u.operands, e, shown)))
 
-  no_pending : (e : Expr) (s : Shape) → is_item_place e ≡ false → pending globals layout s e ≡ s
-  no_pending (two h a b) s f = absurd (let q : true ≡ false = f in cc)
-  no_pending _ s f = refl
+  -- a result that stands on what waits goes under it
+  under_keeps : (r : Expr) (pc : ℕ) (s : Shape) (j k : Kind)
+      → Leads p shapes pc (under_code (is_item_place r) (pending_count r) (push j (push k (pending globals layout s r)))) (push j (push k (pending globals layout s r))) (push j (pending globals layout (push k s) r))
+  under_keeps (two h a b) pc s j k =
+      let r = two h a b in
+      let ws = waiting globals layout r in
+      let e = waits globals layout r s in
+      let same : push j (pending globals layout (push k s) r) ≡ with_operands (push j (push k (pending globals layout s r))) ((j ∷ (ws ++ k ∷ [])) ++ s.operands)
+      = ap (push j) (waits globals layout r (push k s)) ∙ ap (λ l. with_operands s (j ∷ l)) (sym (append_assoc ws (k ∷ []) s.operands)) ∙ ap (λ (v : Shape). with_operands v ((j ∷ (ws ++ k ∷ [])) ++ s.operands)) (sym e) in
+      does_keep p shapes pc (push j (push k (pending globals layout s r))) (push j (pending globals layout (push k s) r)) (does.Under (pending_count r))
+      (λ shown. (j, k, ws, waiting_counted globals layout r, (s.operands, ap (λ (v : Shape). j ∷ k ∷ v.operands) e, subst (Shown p shapes (pc + 1)) same shown)))
+  under_keeps _ pc s j k = nothing p shapes pc (push j (push k s))
 
   mutual
     pub expr_keeps : (e : Expr) (s : Shape) (pc : ℕ) → Fits p shapes globals layout s.locals s.unit e → Leads p shapes pc (expr_code globals layout s pc e) s (push (kind_of globals layout e) s)
@@ -132,7 +154,7 @@ module _ (p : Plain) (shapes : Shapes) (globals : Globals) (layout : Layout) whe
         let load = load_code globals layout owner s pc r in
         let at_args = pc + load_size layout owner r in
         let args = exprs_code globals layout u at_args es in
-        let at_store = at_args + exprs_size layout es + 1 in
+        let at_store = at_args + exprs_size layout es + 1 + 0 in
         let store = store_code globals layout owner s at_store r in
         let ks = kinds_on globals layout es u.operands in
         let w = with_operands u ks in
@@ -156,7 +178,9 @@ module _ (p : Plain) (shapes : Shapes) (globals : Globals) (layout : Layout) whe
         let load = load_code globals layout owner s pc r in
         let at_args = pc + load_size layout owner r in
         let args = exprs_code globals layout u at_args es in
-        let at_store = at_args + exprs_size layout es + 1 in
+        let at_store = at_args + exprs_size layout es + 1 + under_size (many_is.Method PopBack slot) r in
+        let v = push j (push k (pending globals layout s r)) in
+        let under = under_code (is_item_place r) (pending_count r) v in
         let store = store_code globals layout owner (push k s) at_store r in
         let ks = kinds_on globals layout es u.operands in
         let w = with_operands u ks in
@@ -164,16 +188,16 @@ module _ (p : Plain) (shapes : Shapes) (globals : Globals) (layout : Layout) whe
         let lib = mark w (does.Lib PopBack) ∷ [] in
         let n = load_sized globals layout owner s pc r in
         let m = exprs_sized globals layout u at_args es in
-        behind p shapes pc load (args ++ mark w (does.Lib PopBack) ∷ (store ++ [])) s u (push k s) (place_loads r owner s pc fits.0)
-        (behind p shapes q args (mark w (does.Lib PopBack) ∷ (store ++ [])) u w (push k s)
+        let t = push j (pending globals layout (push k s) r) in
+        behind p shapes pc load (args ++ mark w (does.Lib PopBack) ∷ ((under ++ store) ++ [])) s u (push k s) (place_loads r owner s pc fits.0)
+        (behind p shapes q args (mark w (does.Lib PopBack) ∷ ((under ++ store) ++ [])) u w (push k s)
         (moved p shapes at_args q args u w (omega (arith, n)) (exprs_keep es u at_args (over_pending globals layout r s (λ l u. AllFit p shapes globals layout l u es) fits.1)))
-        (behind p shapes (q + length args) lib (store ++ []) w (push j (push k s)) (push k s)
-        (subst (λ v. Leads p shapes (q + length args) lib w (push j (push k v))) (no_pending r s fits.2.0)
-        (method_keeps PopBack (q + length args) (pending globals layout s r) (kinds_on globals layout es (j ∷ [])) ks (j ∷ k ∷ []) fits.2.1 (kinds_apart globals layout es (j ∷ []) (pending globals layout s r).operands)))
-        (behind p shapes (q + length args + 1) store [] (push j (push k s)) (push k s) (push k s)
-        (moved p shapes at_store (q + length args + 1) store (push j (push k s)) (push k s) (omega (arith, n, m))
-        (subst (λ v. Leads p shapes at_store store (push j v) (push k s)) (no_pending r (push k s) fits.2.0) (place_stores r owner (push k s) at_store fits.0)))
-        (nothing p shapes (q + length args + 1 + length store) (push k s)))))
+        (behind p shapes (q + length args) lib ((under ++ store) ++ []) w v (push k s)
+        (method_keeps PopBack (q + length args) (pending globals layout s r) (kinds_on globals layout es (j ∷ [])) ks (j ∷ k ∷ []) fits.2 (kinds_apart globals layout es (j ∷ []) (pending globals layout s r).operands))
+        (behind p shapes (q + length args + 1) (under ++ store) [] v (push k s) (push k s)
+        (behind p shapes (q + length args + 1) under store v t (push k s) (under_keeps r (q + length args + 1) s j k)
+        (moved p shapes at_store (q + length args + 1 + length under) store t (push k s) (omega (arith, n, m, under_sized (is_item_place r) (pending_count r) v)) (place_stores r owner (push k s) at_store fits.0)))
+        (nothing p shapes (q + length args + 1 + length (under ++ store)) (push k s)))))
     receiver_keeps (more r es) (many_is.Method m slot) s pc k fits = λ c. absurd (let q : false ≡ true = c in cc)
     receiver_keeps es _ s pc k fits = tt
 

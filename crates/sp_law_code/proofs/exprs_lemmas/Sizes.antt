@@ -24,8 +24,8 @@ use Rattle.sp_bodies.specs.Exprs.{negative_literal, offset_local, is_self, slot_
 use Rattle.sp_code.specs.declared.instr.Instr.TheVariants as does
 use Rattle.sp_code.specs.Shapes.{Shape, push}
 use Rattle.sp_code_programs.specs.exprs.Marked.{Marked, mark, constant}
-use Rattle.sp_code_programs.specs.exprs.Sizes.{size_or, one_size, binary_size, two_size, many_size, keep_size, owner_size, method_size, expr_size, exprs_size, receiver_size, load_size, store_size}
-use Rattle.sp_code_programs.specs.exprs.Code.{unless_literal, one_code, keep_code, owner_code, count, result_code, kind_of, constant_code, parameter_code, leaf_code, pending, many_code, kept_offset, changing, method_code, binary_code, two_code, with_result, expr_code, exprs_code, receiver_code, load_code, store_code}
+use Rattle.sp_code_programs.specs.exprs.Sizes.{size_or, one_size, binary_size, two_size, many_size, keep_size, owner_size, method_size, stands_on, under_size, expr_size, exprs_size, receiver_size, load_size, store_size}
+use Rattle.sp_code_programs.specs.exprs.Code.{unless_literal, one_code, keep_code, owner_code, count, result_code, pending_count, under_code, kind_of, constant_code, parameter_code, leaf_code, pending, many_code, kept_offset, changing, method_code, binary_code, two_code, with_result, expr_code, exprs_code, receiver_code, load_code, store_code}
 
 literal_sized : (o : Option Val) (s : Shape) (ms : List Marked) (n : ℕ) → length ms ≡ n → length (unless_literal o s ms) ≡ size_or o n
 literal_sized (Some v) s ms n h = refl
@@ -49,6 +49,10 @@ result_sized m s = cases (gives_result m)
     cases : (b : Bool) → length (if b then [] else constant s void ∷ []) ≡ (if b then 0 else 1)
     cases true = refl
     cases false = refl
+
+pub under_sized : (b : Bool) (n : ℕ) (s : Shape) → length (under_code b n s) ≡ (if b then 1 else 0)
+under_sized true n s = refl
+under_sized false n s = refl
 
 module _ (globals : Globals) (layout : Layout) where
   method_sized : (op : ManyOp) (s t : Shape) (load args store : List Marked) (i j k : ℕ) → length load ≡ i → length args ≡ j → length store ≡ k → length (method_code globals layout op s t load args store) ≡ method_size op i j k
@@ -122,9 +126,12 @@ module _ (globals : Globals) (layout : Layout) where
         let owner = slot_local layout (slot_of_receiver op) in
         let t = push (kind_of globals layout r) (pending globals layout s r) in
         let at_args = at + load_size layout owner r in
-        let at_store = at_args + exprs_size layout es + 1 in
-        method_sized op s _ (load_code globals layout owner s at r) (exprs_code globals layout t at_args es) (store_code globals layout owner (with_result globals layout op k s) at_store r) _ _ _
-        (load_sized owner s at r) (exprs_sized t at_args es) (store_sized owner (with_result globals layout op k s) at_store r)
+        let at_store = at_args + exprs_size layout es + 1 + under_size op r in
+        let u = push (kind_of globals layout r) (push k (pending globals layout s r)) in
+        let under = under_code (stands_on op r) (pending_count r) u in
+        let store = store_code globals layout owner (with_result globals layout op k s) at_store r in
+        method_sized op s _ (load_code globals layout owner s at r) (exprs_code globals layout t at_args es) (under ++ store) _ _ _ (load_sized owner s at r) (exprs_sized t at_args es)
+        (omega (arith, length-append under store, under_sized (stands_on op r) (pending_count r) u, store_sized owner (with_result globals layout op k s) at_store r))
 
     pub load_sized : (owner : Option ℕ) (s : Shape) (at : ℕ) (e : Expr) → length (load_code globals layout owner s at e) ≡ load_size layout owner e
     load_sized owner s at (leaf h) = refl

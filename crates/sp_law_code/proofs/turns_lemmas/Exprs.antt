@@ -1,5 +1,5 @@
 -- The code of expressions and of places leads only further on.
-use Rattle.std.proofs.Common.{◌≡◌, ℕ, ◌+◌, ◌-◌, Bool, true, false, List, [], ◌∷◌, ◌++◌, length, Option, Some, None, arith, length-append}
+use Rattle.std.proofs.Common.{◌≡◌, ℕ, ◌+◌, ◌-◌, Bool, true, false, List, [], ◌∷◌, ◌++◌, length, Option, Some, None, refl, arith, length-append}
 use Rattle.std.specs.Prelude.{nat_lt, slice_get, if◌then◌else◌}
 use Rattle.sp_words.specs.declared.operators.BinaryOp.{BinaryOp}
 use Rattle.sp_words.specs.declared.operators.BinaryOp.TheVariants as op_is
@@ -24,9 +24,9 @@ use Rattle.sp_bodies.specs.Exprs.{negative_literal, offset_local, is_self, slot_
 use Rattle.sp_code.specs.declared.instr.Instr.TheVariants as does
 use Rattle.sp_code.specs.Shapes.{Shape, with_operands, push}
 use Rattle.sp_code_programs.specs.exprs.Marked.{Marked, mark, constant}
-use Rattle.sp_code_programs.specs.exprs.Sizes.{keep_size, owner_size, expr_size, exprs_size, load_size}
-use Rattle.sp_code_programs.specs.exprs.Code.{unless_literal, one_code, keep_code, owner_code, count, result_code, kind_of, kinds_on, constant_code, parameter_code, leaf_code, pending, many_code, kept_offset, changing, method_code, binary_code, two_code, with_result, expr_code, exprs_code, receiver_code, load_code, store_code}
-use Rattle.sp_law_code.proofs.exprs_lemmas.Sizes.{keep_sized, owner_sized, expr_sized, exprs_sized, load_sized, store_sized}
+use Rattle.sp_code_programs.specs.exprs.Sizes.{stands_on, under_size, keep_size, owner_size, expr_size, exprs_size, load_size}
+use Rattle.sp_code_programs.specs.exprs.Code.{unless_literal, one_code, keep_code, owner_code, count, result_code, pending_count, under_code, kind_of, kinds_on, constant_code, parameter_code, leaf_code, pending, many_code, kept_offset, changing, method_code, binary_code, two_code, with_result, expr_code, exprs_code, receiver_code, load_code, store_code}
+use Rattle.sp_law_code.proofs.exprs_lemmas.Sizes.{under_sized, keep_sized, owner_sized, expr_sized, exprs_sized, load_sized}
 use Rattle.sp_law_code.proofs.turns_lemmas.Forward.{IsForward, to_next, then_forward}
 
 literal_forward : (o : Option Val) (s : Shape) (pc : ℕ) (ms : List Marked) → IsForward 0 pc ms → IsForward 0 pc (unless_literal o s ms)
@@ -52,6 +52,10 @@ result_forward m s pc = cases (gives_result m)
     cases : (b : Bool) → IsForward 0 pc (if b then [] else constant s void ∷ [])
     cases true = tt
     cases false = (to_next pc 0 0, tt)
+
+under_forward : (b : Bool) (n : ℕ) (s : Shape) (pc : ℕ) → IsForward 0 pc (under_code b n s)
+under_forward true n s pc = (to_next pc 0 0, tt)
+under_forward false n s pc = tt
 
 module _ (globals : Globals) (layout : Layout) where
   constant_forward : (s : Shape) (o : Option (Option Val)) (pc : ℕ) → IsForward 0 pc (constant_code globals layout s o)
@@ -159,11 +163,17 @@ module _ (globals : Globals) (layout : Layout) where
         let owner = slot_local layout (slot_of_receiver op) in
         let t = push (kind_of globals layout r) (pending globals layout s r) in
         let at_args = pc + load_size layout owner r in
-        let at_store = at_args + exprs_size layout es + 1 in
+        let at_call = at_args + exprs_size layout es + 1 in
+        let at_store = at_call + under_size op r in
         let u = with_result globals layout op k s in
-        method_forward op s (with_operands t (kinds_on globals layout es t.operands)) pc _ _ _ (load_code globals layout owner s pc r) (exprs_code globals layout t at_args es) (store_code globals layout owner u at_store r)
-        (load_sized globals layout owner s pc r) (exprs_sized globals layout t at_args es) (store_sized globals layout owner u at_store r)
-        (load_forward owner s pc r) (exprs_forward t at_args es) (store_forward owner u at_store r)
+        let b = stands_on op r in
+        let v = push (kind_of globals layout r) (push k (pending globals layout s r)) in
+        let under = under_code b (pending_count r) v in
+        let store = store_code globals layout owner u at_store r in
+        let size = under_sized b (pending_count r) v in
+        method_forward op s (with_operands t (kinds_on globals layout es t.operands)) pc _ _ _ (load_code globals layout owner s pc r) (exprs_code globals layout t at_args es) (under ++ store)
+        (load_sized globals layout owner s pc r) (exprs_sized globals layout t at_args es) refl
+        (load_forward owner s pc r) (exprs_forward t at_args es) (then_forward 0 at_call (under_size op r) under store size (under_forward b (pending_count r) v at_call) (store_forward owner u at_store r))
 
     pub load_forward : (owner : Option ℕ) (s : Shape) (pc : ℕ) (e : Expr) → IsForward 0 pc (load_code globals layout owner s pc e)
     load_forward owner s pc (leaf h) = (to_next pc 0 0, tt)

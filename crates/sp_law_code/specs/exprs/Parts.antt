@@ -22,7 +22,7 @@ use Rattle.sp_typed.specs.Exprs.{Expr, Exprs, leaf, one, two, three, many, none,
 use Rattle.sp_running.specs.Scopes as called_is
 use Rattle.sp_running.specs.Types.{number_value, plain_type, zero_value, kind_of_type}
 use Rattle.sp_bodies.specs.Globals.{Globals, Layout, label_value}
-use Rattle.sp_bodies.specs.Exprs.{negative_literal, offset_local, is_self, slot_local, slot_of_receiver, gives_result, is_item_place}
+use Rattle.sp_bodies.specs.Exprs.{negative_literal, offset_local, is_self, slot_local, slot_of_receiver, gives_result}
 use Rattle.sp_code.specs.Kinds.{kind_of_two, kind_of_one, kind_of_cast, IsSized, IsPlaceIn, IsItemOf, in_turn}
 use Rattle.sp_code.specs.Machine.{Body, Plain}
 use Rattle.sp_code.specs.Shapes.{UnitKinds, Shapes, OfFunction, IsMember, Enters}
@@ -89,11 +89,10 @@ module _ (p : Plain) (shapes : Shapes) where
   ManyFits (many_is.OfUnit unit_method.Offset at) n js k = (u : ℕ) × (js ≡ UnitOf u ∷ []) × (k ≡ Unsigned)
   ManyFits op n js k = ⊥
 
-  -- A method that changes its receiver gives it anew, and maybe a result, which can't stand on a container.
-  abbrev pub ChangeFits : ManyOp → Bool → List Kind → Kind → Kind → Type 0
-  ChangeFits (many_is.Method m slot) on_item js r k =
-      OneOf (gives_result m) ((on_item ≡ false) × IsMethod m js (r ∷ k ∷ [])) (IsMethod m js (r ∷ []) × (k ≡ Void))
-  ChangeFits op on_item js r k = Unit {0}
+  -- a method that changes its receiver gives it anew, and maybe a result
+  abbrev pub ChangeFits : ManyOp → List Kind → Kind → Kind → Type 0
+  ChangeFits (many_is.Method m slot) js r k = OneOf (gives_result m) (IsMethod m js (r ∷ k ∷ [])) (IsMethod m js (r ∷ []) × (k ≡ Void))
+  ChangeFits op js r k = Unit {0}
 
   -- the offset of the field at hand is had from a local, or from `self`; a method changes its receiver, or it doesn't
   abbrev pub Demands : ManyOp → Option ℕ → (ℕ → Type 0) → Type 0 → Type 0 → Type 0
@@ -165,7 +164,7 @@ module _ (p : Plain) (shapes : Shapes) (globals : Globals) (layout : Layout) (lo
     pub ReceiverFits : ManyOp → Kind → Exprs → Type 0
     ReceiverFits op k none = ⊥
     ReceiverFits op k (more r es) =
-        PlaceFits (slot_local layout (slot_of_receiver op)) r × AllFit es × ChangeFits p shapes op (is_item_place r) (kinds_on globals layout es (kind_of globals layout r ∷ [])) (kind_of globals layout r) k
+        PlaceFits (slot_local layout (slot_of_receiver op)) r × AllFit es × ChangeFits p shapes op (kinds_on globals layout es (kind_of globals layout r ∷ [])) (kind_of globals layout r) k
 
     -- a place, by the local in which the owner of its member is kept
     pub PlaceFits : Option ℕ → Expr → Type 0

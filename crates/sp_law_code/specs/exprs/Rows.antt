@@ -1,5 +1,5 @@
 -- Expressions whose parts fit, and some whose parts don't.
-use Rattle.std.specs.Prelude.{◌≡◌, ℕ, true, false, List, [], ◌∷◌, Option, Some, None, refl}
+use Rattle.std.specs.Prelude.{◌≡◌, ℕ, List, [], ◌∷◌, Option, Some, None, refl}
 use Rattle.std.proofs.Common.{ap, arith}
 use Rattle.sp_base.specs.declared.places.Span.{Span}
 use Rattle.sp_numbers.specs.declared.width.Width.TheVariants.{W8}
@@ -96,7 +96,7 @@ pub a_member_of_a_tuple_fits : Fit (two_of bytes_row (two_is.Item 1) (many_of pa
 a_member_of_a_tuple_fits =
     (((refl, ((refl, (refl, of_place _ _ _ (in_vector Unsigned (VectorOf Unsigned) refl))), tt)), refl), of_tuple _ 1 _ refl)
 
--- `self.m.push_back(l)`, `rows[l].push_back(l)`, and `self.m.pop_back()`
+-- `self.m.push_back(l)`, `rows[l].push_back(l)`, `self.m.pop_back()` and `rows[l].pop_back()`
 pub a_push_to_a_member_fits : Fit (many_of (word word_is.Void) (many_is.Method PushBack None) (member ∷ first ∷ []))
 a_push_to_a_member_fits = (((0, refl, refl), tt, (0, refl, (the_unit, refl, refl))), (refl, tt), (push_back_takes Unsigned, refl))
 
@@ -104,11 +104,10 @@ pub a_push_to_an_item_fits : Fit (many_of (word word_is.Void) (many_is.Method Pu
 a_push_to_an_item_fits = ((refl, refl, in_vector Unsigned (VectorOf Unsigned) refl), (refl, tt), (push_back_takes Unsigned, refl))
 
 pub a_pop_from_a_member_fits : Fit (many_of byte (many_is.Method PopBack None) (member ∷ []))
-a_pop_from_a_member_fits = (((0, refl, refl), tt, (0, refl, (the_unit, refl, refl))), tt, (refl, pop_back_takes Unsigned))
+a_pop_from_a_member_fits = (((0, refl, refl), tt, (0, refl, (the_unit, refl, refl))), tt, pop_back_takes Unsigned)
 
--- `rows[l].pop_back()`, whose result would stand on the container
-pub no_pop_from_an_item : Fit (many_of byte (many_is.Method PopBack None) (item ∷ [])) → ⊥
-no_pop_from_an_item fits = absurd (let q : true ≡ false = fits.2.0 in cc)
+pub a_pop_from_an_item_fits : Fit (many_of byte (many_is.Method PopBack None) (item ∷ []))
+a_pop_from_an_item_fits = ((refl, refl, in_vector Unsigned (VectorOf Unsigned) refl), tt, pop_back_takes Unsigned)
 
 -- `f(l)` and `f(l, l)`, where the function takes one value
 pub one_is_counted : AreCounted program (many_of byte (many_is.Call 0) (first ∷ []))

@@ -18,7 +18,7 @@ use Rattle.sp_running.specs.Reads.{Bytes, Read, Got, Lacks, Shorts, NoWord, Verd
 use Rattle.sp_running.specs.Values.{item_at, with_at, members_of}
 use Rattle.sp_running.specs.Types.{width_bytes}
 use Rattle.sp_code.specs.declared.instr.Instr.{Instr}
-use Rattle.sp_code.specs.declared.instr.Instr.TheVariants.{Const, Load, Store, Param, SelfUnit, GetField, HasField, SetField, Unary, Binary, Cast, MakeTuple, MakeVector, MakeSet, MakeMap, Index, SetIndex, Size, Lib, AddKey, DeleteKey, Pop, Dup, Jump, JumpNot, Call, Return, Turn, EachStart, EachNext, Print, Assert, Throw, Fail, EnterUnit, LeaveUnit, Hook, Offset, ReadInt}
+use Rattle.sp_code.specs.declared.instr.Instr.TheVariants.{Const, Load, Store, Param, SelfUnit, GetField, HasField, SetField, Unary, Binary, Cast, MakeTuple, MakeVector, MakeSet, MakeMap, Index, SetIndex, Size, Lib, AddKey, DeleteKey, Pop, Dup, Under, Jump, JumpNot, Call, Return, Turn, EachStart, EachNext, Print, Assert, Throw, Fail, EnterUnit, LeaveUnit, Hook, Offset, ReadInt}
 use Rattle.sp_code.specs.Machine.{Body, UnitCode, Plain, Frame, Config, At, Ending, Next, Goes, Waits, Over, put, put_all, raise_with, raise, push_set, landed, caught_unless, caught, unless_caught, take_off, read_next, each_next, call_next, hook_next, unit_next, act, step}
 use Rattle.sp_code.specs.Can.{IsNumber, Can}
 use Rattle.sp_code.specs.Turns.{edges, AreLower, Turns}
@@ -153,6 +153,7 @@ module _ (p : Plain) (s : List ℕ) where
       act_falls (Some DeleteKey) (k ∷ c ∷ vs) h can = omega arith
       act_falls (Some Pop) (v ∷ vs) h can = omega arith
       act_falls (Some Dup) (k ∷ c ∷ vs) h can = omega arith
+      act_falls (Some (Under n)) vs h can = omega arith
       act_falls (Some (Jump to)) vs h can = omega arith
       act_falls (Some (JumpNot to)) (v ∷ vs) h can = jump_falls (truth_of v) (pc + 1) to vs h.1.0 h.0
       act_falls (Some (Call f)) vs h can = subst (λ o. Below here (call_next p.limits o (pc + 1) vs fs st)) (sym can.1) (call_falls can.0 vs)

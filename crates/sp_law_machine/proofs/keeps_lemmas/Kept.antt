@@ -1,5 +1,5 @@
 -- In sound code each instruction finds what it wants, and leads to where the shapes are kept.
-use Rattle.std.proofs.Common.{◌≡◌, ℕ, zero, suc, ◌+◌, ◌<◌, ◌≤◌, List, [], ◌∷◌, ◌++◌, length, take, drop, reverse, replicate, Option, Some, None, Result as Answer, Ok, Err, inl, inr, refl, sym, ap, ◌∙◌, subst, arith}
+use Rattle.std.proofs.Common.{◌≡◌, ℕ, zero, suc, ◌+◌, ◌<◌, ◌≤◌, List, [], ◌∷◌, ◌++◌, length, take, drop, reverse, replicate, Option, Some, None, Result as Answer, Ok, Err, inl, inr, refl, sym, ap, ◌∙◌, subst, arith, append_assoc}
 use Rattle.std.specs.Prelude.{Bool, true, false, nat_lt, slice_get, unwrap_or, IsTrue}
 use Rattle.std.proofs.lemmas.List.{length-replicate}
 use Rattle.sp_base.specs.declared.kinds.PKind.{PKind}
@@ -20,7 +20,7 @@ use Rattle.sp_running.specs.Reads.{Ask, Bytes, Read, Got, Lacks, Shorts, NoWord}
 use Rattle.sp_running.specs.Types.{width_bytes}
 use Rattle.sp_running.specs.Values.{item_at, with_at, members_of}
 use Rattle.sp_code.specs.declared.instr.Instr.{Instr}
-use Rattle.sp_code.specs.declared.instr.Instr.TheVariants.{Const, Load, Store, Param, SelfUnit, GetField, HasField, SetField, Unary, Binary, Cast, MakeTuple, MakeVector, MakeSet, MakeMap, Index, SetIndex, Size, Lib, AddKey, DeleteKey, Pop, Dup, Jump, JumpNot, Call, Return, Turn, EachStart, EachNext, Print, Assert, Throw, Fail, EnterUnit, LeaveUnit, Hook, Offset, ReadInt}
+use Rattle.sp_code.specs.declared.instr.Instr.TheVariants.{Const, Load, Store, Param, SelfUnit, GetField, HasField, SetField, Unary, Binary, Cast, MakeTuple, MakeVector, MakeSet, MakeMap, Index, SetIndex, Size, Lib, AddKey, DeleteKey, Pop, Dup, Under, Jump, JumpNot, Call, Return, Turn, EachStart, EachNext, Print, Assert, Throw, Fail, EnterUnit, LeaveUnit, Hook, Offset, ReadInt}
 use Rattle.sp_code.specs.Kinds.{in_turn, IsMessage}
 use Rattle.sp_code.specs.Machine.{Body, UnitCode, Plain, Frame, Config, At, Ending, Next, Goes, put, put_all, raise, raise_with, counted, nested, push_set, read_next, each_next, called_frame, begun, call_next, hook_event, is_failing, hook_frame, hook_next, entered, unit_frame, parts_frame, unit_next, const_of, act, step}
 use Rattle.sp_code.specs.Shapes.{UnitKinds, BodyKinds, Shape, Shapes, Round, OfUnit, OfEnding, OfFailing, OfFunction, OfHook, with_operands, body_shape, given_by, IsResult, HasIfSet, IsSelf, IsBody, IsUnitCode, read_kind, IsOfUnit, IsCalled, units_of, MayEnd, Shown, Keeps, known_unit, Framed, AllHaveKinds, Holds, ShapedAt, ShapedEnd, Shaped, IsSound}
@@ -310,6 +310,11 @@ module _ (p : Plain) (shapes : Shapes) (reads : Reading → Ask → Read) (units
   keep Pop vs (k, (ks, f, n)) have = one_of Pop k ks vs f have (λ v ws a g. (omega arith, on ks ws (pc + 1) st n holds g))
   keep Dup vs (j, k, (ks, f, n)) have =
       two_of Dup j k ks vs f have (λ i v ws a b g. (omega arith, on (j ∷ k ∷ j ∷ k ∷ ks) (i ∷ v ∷ i ∷ v ∷ ws) (pc + 1) st n holds (a, (b, (a, (b, g))))))
+  keep (Under m) vs (j, k, ins, len, (ks, f, n)) have =
+      two_of (Under m) j k (ins ++ ks) vs f have (λ y r ws a b g.
+      let t = taken ins ks m ws len g in
+      let below = subst (λ o. Have units o (take m ws ++ r ∷ drop m ws)) (sym (append_assoc ins (k ∷ []) ks)) (have_both units ins (k ∷ ks) (take m ws) (r ∷ drop m ws) t.1 (b, t.2)) in
+      (omega (arith, t.0), on (j ∷ ((ins ++ k ∷ []) ++ ks)) (y ∷ (take m ws ++ r ∷ drop m ws)) (pc + 1) st n holds (a, below)))
   keep (Jump to) vs n have = (tt, on s.operands vs to st n holds have)
   keep (JumpNot to) vs (ks, f, n, m) have =
       one_of (JumpNot to) Bools ks vs f have (λ v ws a g.

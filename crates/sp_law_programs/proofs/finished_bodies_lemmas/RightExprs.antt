@@ -1,6 +1,6 @@
 -- Expressions and places that fit and are built of what has a meaning end as they may, if calls do.
 use Rattle.std.proofs.Common.{◌≡◌, ℕ, ◌+◌, ◌-◌, Bool, true, false, List, [], ◌∷◌, reverse, Option, Some, None, Result as Answer, Ok, Err, refl, sym, ap, ◌∙◌, subst}
-use Rattle.std.specs.Prelude.{◌&&◌, nat_lt, slice_get, unwrap_or, is_some, if◌then◌else◌, IsTrue}
+use Rattle.std.specs.Prelude.{nat_lt, slice_get, unwrap_or, is_some, if◌then◌else◌, IsTrue}
 use Rattle.sp_base.specs.declared.kinds.PKind.{PKind}
 use Rattle.sp_numbers.specs.declared.width.Width.TheVariants.{W64}
 use Rattle.sp_words.specs.declared.operators.BinaryOp.{BinaryOp}
@@ -35,7 +35,7 @@ use Rattle.sp_running.specs.Scopes as called_is
 use Rattle.sp_running.specs.Types.{number_value, zero_value, plain_type}
 use Rattle.sp_running.specs.Values.{item_at, with_at, size_value, set_of, map_of}
 use Rattle.sp_bodies.specs.Globals.{Globals, Layout, label_value, parameter_in}
-use Rattle.sp_bodies.specs.Exprs.{Changes, known, given, taken, negative_literal, unless_literal, range_value, one_means, binary_means, two_means, converted, offset_from, is_self, offset_local, member_named, local_named, keep_owner, owner_means, slot_local, gives_result, is_item_place, leaf_means, many_means, expr_means, all_got, receiver_means, place_means}
+use Rattle.sp_bodies.specs.Exprs.{Changes, known, given, taken, negative_literal, unless_literal, range_value, one_means, binary_means, two_means, converted, offset_from, is_self, offset_local, member_named, local_named, keep_owner, owner_means, slot_local, gives_result, leaf_means, many_means, expr_means, all_got, receiver_means, place_means}
 use Rattle.sp_bodies.specs.Places.{put_means, key_means}
 use Rattle.sp_code.specs.Kinds.{kind_of_two, kind_of_one, kind_of_cast, of_place, in_turn}
 use Rattle.sp_code.specs.Machine.{Plain}
@@ -124,13 +124,6 @@ module _ (p : Plain) (shapes : Shapes) (units : List ℕ) (u : Option ℕ) (ls :
   in_two_right k r put (Ok (v ∷ w ∷ [])) h g = then_done p shapes units u ls c (AnExpression k) (put v) (ends (Gives w)) (g v h.0) (same_value p shapes units u ls c k k w refl h.1.0)
   in_two_right k r put (Ok (v ∷ w ∷ x ∷ vs)) h g = absurd h.1.1
   in_two_right k r put (Err kind) h g = failing p shapes units u ls c (AnExpression k) kind
-
-  -- a method that gives a result doesn't stand on an item of a container
-  unrefused : (gives item : Bool) (A B : Type 0) (y : Part) (f : State → Result) → OneOf gives ((item ≡ false) × A) B → (OneOf gives A B → Makes p shapes units u ls c y f)
-      → Makes p shapes units u ls c y (chosen (gives && item) (ends Unfinished) f)
-  unrefused true true A B y f h g = absurd (let q : true ≡ false = h.0 in cc)
-  unrefused true false A B y f h g = g h.1
-  unrefused false item A B y f h g = g h
 
   -- what a method makes of its receiver and its arguments is put where the receiver was
   changed_right : (gives : Bool) (m : Method) (js : List Kind) (r k : Kind) (put : Val → State → Result) (vs : List Val) → OneOf gives (IsMethod m js (r ∷ k ∷ [])) (IsMethod m js (r ∷ []) × (k ≡ Void))
@@ -260,11 +253,10 @@ module _ (p : Plain) (shapes : Shapes) (units : List ℕ) (u : Option ℕ) (ls :
           receiver_right : (es : Exprs) (m : Method) (slot : Option ℕ) (k : Kind) → ReceiverFits p shapes globals layout ls u (many_is.Method m slot) k es → ReceiverIsBuilt globals functions es
               → Gets k (receiver_means globals call layout (many_is.Method m slot) es)
           receiver_right none m slot k f b = absurd f
-          receiver_right (more r es) m slot k (fr, fs, fit) b =
+          receiver_right (more r es) m slot k (fr, fs, im) b =
               let js = kinds_on globals layout es (kind r ∷ []) in
-              unrefused (gives_result m) (is_item_place r) (IsMethod m js (kind r ∷ k ∷ [])) (IsMethod m js (kind r ∷ []) × (k ≡ Void)) (AnExpression k) _ fit (λ im.
               place_right (slot_local layout slot) r (AnExpression k) (λ x put st. all_got globals call layout es (x ∷ []) (λ vs st. taken put (method m vs) st) st) fr b.0 (λ x put h puts.
-              all_right es (kind r ∷ []) (x ∷ []) (AnExpression k) (λ vs st. taken put (method m vs) st) fs b.1 (h, tt) (λ vs w. changed_right (gives_result m) m js (kind r) k put vs im w puts)))
+              all_right es (kind r ∷ []) (x ∷ []) (AnExpression k) (λ vs st. taken put (method m vs) st) fs b.1 (h, tt) (λ vs w. changed_right (gives_result m) m js (kind r) k put vs im w puts))
 
           pub place_right : (owner : Option ℕ) (e : Expr) (y : Part) (go : Changes) → PlaceFits p shapes globals layout ls u owner e → PlaceIsBuilt globals functions e → Changed (kind_of globals layout e) y go
               → Makes p shapes units u ls c y (place_means globals call layout owner e go)

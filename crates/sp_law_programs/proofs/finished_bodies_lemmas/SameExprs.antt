@@ -1,6 +1,6 @@
 -- Expressions and places agree where the calls in them do.
 use Rattle.std.proofs.Common.{ℕ, ◌+◌, List, [], ◌∷◌, Option, Some, None, refl, arith, inl}
-use Rattle.std.specs.Prelude.{◌&&◌, slice_get}
+use Rattle.std.specs.Prelude.{slice_get}
 use Rattle.sp_words.specs.declared.operators.BinaryOp.{BinaryOp}
 use Rattle.sp_words.specs.declared.operators.BinaryOp.TheVariants as op_is
 use Rattle.sp_words.specs.Methods.{changes}
@@ -22,7 +22,7 @@ use Rattle.sp_typed.specs.Exprs.{Expr, Exprs, leaf, one, two, three, many, none,
 use Rattle.sp_running.specs.States.{State, Result, Gives, Fine, Unfinished, ends, got, answer, local_of, set_local, member_of, value_or_unset}
 use Rattle.sp_running.specs.Values.{item_at, with_at}
 use Rattle.sp_bodies.specs.Globals.{Globals, Layout}
-use Rattle.sp_bodies.specs.Exprs.{Changes, negative_literal, one_means, binary_means, two_means, converted, offset_from, is_self, offset_local, offset_means, member_named, is_item, local_named, keep_owner, owner_means, slot_local, slot_of_receiver, called_method, gives_result, is_item_place, leaf_means, many_means, expr_means, all_got, receiver_means, place_means}
+use Rattle.sp_bodies.specs.Exprs.{Changes, negative_literal, one_means, binary_means, two_means, converted, offset_from, is_self, offset_local, offset_means, member_named, is_item, local_named, keep_owner, owner_means, slot_local, slot_of_receiver, called_method, leaf_means, many_means, expr_means, all_got, receiver_means, place_means}
 use Rattle.sp_bodies.specs.Places.{put_means, key_means}
 use Rattle.sp_law_programs.proofs.finished_bodies_lemmas.Agree.{Same, at_once, then_got, chosen_same, known_same, literal_same, answer_same, member_same, put_same, given_same, taken_same}
 
@@ -127,8 +127,8 @@ module _ (May : Type 0) (globals : Globals) (layout : Layout) (c : ℕ) (call al
     receiver_same : (o : ManyOp) (es : Exprs) → Same May c (receiver_means globals call layout o es) (receiver_means globals also layout o es)
     receiver_same o none = at_once May c Unfinished
     receiver_same o (more r es) =
-        known_same May c (called_method o) _ _ (λ m. chosen_same May c (gives_result m && is_item_place r) _ _ _ _ (at_once May c Unfinished)
-        (place_same (slot_local layout (slot_of_receiver o)) r _ _ (λ x put puts k. all_same es (x ∷ []) _ _ (λ vs. taken_same May c put puts (method m vs) k))))
+        known_same May c (called_method o) _ _ (λ m.
+        place_same (slot_local layout (slot_of_receiver o)) r _ _ (λ x put puts k. all_same es (x ∷ []) _ _ (λ vs. taken_same May c put puts (method m vs) k)))
 
     pub place_same : (owner : Option ℕ) (e : Expr) (go on : Changes) → SameChanges May c go on → Same May c (place_means globals call layout owner e go) (place_means globals also layout owner e on)
     place_same owner (leaf h) go on k = known_same May c (local_named h.op) _ _ (λ s st l. k (local_of st (layout.first + s)) _ _ (set_same May c (layout.first + s)) st l)

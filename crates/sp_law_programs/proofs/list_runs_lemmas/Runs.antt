@@ -26,7 +26,7 @@ use Rattle.sp_law_programs.specs.finished_units.Meaning.{meaning, RunsUnit}
 use Rattle.sp_law_programs.specs.finished_units.Laws.{IsLast}
 use Rattle.sp_law_programs.proofs.finished_units_lemmas.Meanings.{meanings_end, meanings_are_reached, stops_tell, meanings_stay, ended_inputs_decide, feeds_tell}
 use Rattle.sp_law_programs.proofs.whole_program_lemmas.Programs.{units_have_kinds, units_mean_theirs}
-use Rattle.sp_law_programs.proofs.whole_program_lemmas.Fitting.{listed_units_fit, compiled_lists_are_sound, fitting_programs_start}
+use Rattle.sp_law_programs.proofs.whole_program_lemmas.Fitting.{listed_units_fit, compiled_lists_are_sound, fitting_programs_start, fitting_lists_stand}
 use Rattle.sp_law_programs.specs.list_runs.Runs.{IsRunnable, list_meaning}
 use Rattle.sp_law_programs.specs.list_runs.Laws.{ProgramsRun, MeaningsAreTheLists, CompiledListsRun, UnitsAreRunnable, UnitsTakeNone, RunnableUnitsRun, ListMeaningsEnd, HasTold, ListMeaningsAreReached, ListStopsTell, StaysOn, ListMeaningsStay, ListEndedInputsDecide, ListFeedsTell}
 use Rattle.sp_law_programs.proofs.list_runs_lemmas.Entered.{functions_fit_as_called, hooks_fit_as_run}
@@ -65,6 +65,10 @@ compiled_lists_run list program is fits bodies = (
       let p = plain_of limits program in
       let shapes = shapes_of program in
       programs_run list p shapes (is limits) (fits p shapes (is limits)) bodies u x listed built ws have,
+  let limits : Limits = record { turns = 0; depth = 0; fibers = 0 } in
+      let p = plain_of limits program in
+      let shapes = shapes_of program in
+      fitting_lists_stand list p shapes (is limits) (fits p shapes (is limits)),
 )
 
 pub units_are_runnable : UnitsAreRunnable

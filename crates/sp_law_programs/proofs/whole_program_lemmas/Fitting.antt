@@ -36,6 +36,7 @@ use Rattle.sp_law_programs.proofs.program_laid_lemmas.Counted.{expr_counted, lai
 use Rattle.sp_law_programs.proofs.program_laid_lemmas.Zeros.{zero_has}
 use Rattle.sp_law_programs.proofs.unit_told_lemmas.Kept.{started_keeps}
 use Rattle.sp_law_programs.specs.whole_program.Fits.{IsOfValue, AreOfField, AreOfValue, HasMember, StoreFits, IntegerFits, PartFits, PartsFit, ValueFits, VariablesFit, ListFits}
+use Rattle.sp_law_meaning.specs.Standing.{ValueStands, VariablesStand, AreHanded, PartStands, PartsStand, UnitStands, ListStands}
 use Rattle.sp_law_programs.specs.whole_program.Laws.{ListedUnitsFit, ListedCallsCount, FittingProgramsAreSound, CompiledListsAreSound, FittingProgramsStart}
 use Rattle.sp_law_programs.proofs.whole_program_lemmas.Tables.{member_among}
 use Rattle.sp_law_programs.proofs.whole_program_lemmas.Listed.{AreListed, bodies_listed, of_unit}
@@ -145,7 +146,7 @@ module _ (list : Typed) (p : Plain) (shapes : Shapes) (is : IsProgramOf list p s
 
     -- how many values are handed on
     value_counted : (m : ℕ) (value : Option Expr) → ValueFits list p shapes u x m value → ValueIsCounted p value
-    value_counted m (Some e) f = expr_counted p (hook_names_of list) list (programs_have_bodies list p shapes is) e f.1
+    value_counted m (Some e) f = expr_counted p (hook_names_of list) list (programs_have_bodies list p shapes is) false e f.1
     value_counted m None f = tt
 
     variables_counted : (vs : List Variable) → VariablesFit list p shapes u x vs → VariablesAreCounted p vs
@@ -190,12 +191,46 @@ module _ (list : Typed) (p : Plain) (shapes : Shapes) (is : IsProgramOf list p s
           finally = event_counted Finally;
         }
 
+    -- and what the meaning asks of it
+    handed_so : (k : ℕ) (hs : List ℕ) → AllTake list k hs → AreHanded list k hs
+    handed_so k [] take = tt
+    handed_so k (h ∷ hs) take = (take.0, handed_so k hs take.1)
+
+    value_stands : (m : ℕ) (value : Option Expr) → ValueFits list p shapes u x m value → ValueStands list.functions value
+    value_stands m (Some e) f = f.1
+    value_stands m None f = tt
+
+    variables_stand : (vs : List Variable) → VariablesFit list p shapes u x vs → VariablesStand list.functions vs
+    variables_stand [] f = tt
+    variables_stand (v ∷ vs) f = (value_stands v.member v.value f.1, variables_stand vs f.2)
+
+    part_stands : (o : Option ℕ) (part : Part) → PartFits list u x o part → PartStands list part
+    part_stands o (field g) f = handed_so 2 g.hooks (hooks_take g.hooks f.0)
+    part_stands o _ f = tt
+
+    parts_stand : (o : Option ℕ) (ps : Parts) → PartsFit list u x o ps → PartsStand list ps
+    parts_stand o no_parts f = tt
+    parts_stand o (more_parts part ps) f = (part_stands o part f.0, parts_stand o ps f.1)
+
+    unit_stands : UnitStands list u x
+    unit_stands =
+        let f = fits.units u x listed in
+        record {
+          variables = variables_stand x.variables f.variables;
+          of_parts = parts_stand (last_order (module_order x.«module» None list.orders) x.orders) (parts x.parts) f.parts;
+          hooks = λ name. handed_so 0 (hook_bodies (is_of_unit u name) list.hooks) (event_counted name);
+        }
+
 pub listed_units_fit : ListedUnitsFit
 listed_units_fit list p shapes is fits u x listed = unit_fits list p shapes is fits u x listed
 
 pub listed_calls_count : ListedCallsCount
 listed_calls_count list p shapes is fits =
     (laid_programs_count p shapes (hook_names_of list) (currents_of list) list (behind_bodies list) is.laid fits.arguments, λ u x listed. unit_counted list p shapes is fits u x listed)
+
+-- so a list that fits names only what there is
+pub fitting_lists_stand : (list : Typed) (p : Plain) (shapes : Shapes) → IsProgramOf list p shapes → ListFits list p shapes → ListStands list
+fitting_lists_stand list p shapes is fits = record { bodies = fits.arguments; units = λ u x listed. unit_stands list p shapes is fits u x listed }
 
 pub fitting_programs_are_sound : FittingProgramsAreSound
 fitting_programs_are_sound list p shapes is fits =

@@ -18,6 +18,7 @@ use Rattle.sp_code.specs.Shapes.{Shapes, Shaped}
 use Rattle.sp_code_programs.specs.units.Units.{starter_kinds}
 use Rattle.sp_code_programs.specs.programs.Named.{hook_names_of}
 use Rattle.sp_code_programs.specs.programs.Whole.{starter_at, IsProgramOf, IsCompiled}
+use Rattle.sp_law_meaning.specs.Standing.{ListStands}
 use Rattle.sp_law_machine.specs.continues.Laws.{IsSteady}
 use Rattle.sp_law_machine.specs.ends.Ending.{IsStop}
 use Rattle.sp_law_programs.specs.finished_bodies.Finished.{FunctionsFit}
@@ -50,13 +51,15 @@ MeaningsAreTheLists =
     (list : Typed) (p : Plain) (shapes : Shapes) → IsProgramOf list p shapes → (reads : Reading → Ask → Read) (u : ℕ) (ws : List Val) →
     meaning p (hook_names_of list) list reads u ws ≡ list_meaning list p.limits reads u ws
 
--- A compiled program of such a list is sound, and runs each unit that is built, whatever the limits.
+-- A compiled program of such a list is sound, and runs each unit that is built, whatever the limits; and the list names only what there
+-- is, as the law on meanings asks.
 abbrev pub CompiledListsRun : Type 0
 CompiledListsRun =
     (list : Typed) (program : Program) → IsCompiled list program → AlwaysFits list → BodiesAreBuilt list →
     IsSoundProgram program
     × ((u : ℕ) (x : TypedUnit) → slice_get list.units u ≡ Some x → UnitIsBuilt list u x → (ws : List Val) → Have [] (starter_kinds list x) ws → (limits : Limits) →
     RunsUnit (plain_of limits program) (shapes_of program) (hook_names_of list) list (starter_at list u) u ws)
+    × ListStands list
 
 -- Where all that can be decided from a list holds of it, each of its units is runnable in its compiled program.
 abbrev pub UnitsAreRunnable : Type 0

@@ -22,7 +22,7 @@ use Rattle.sp_law_code.specs.turns.Falling.{AllTurn}
 use Rattle.sp_law_programs.specs.program_laid.Fits.{BodiesFit}
 use Rattle.sp_law_programs.specs.program_laid.Places.{StmtChangesPlaces}
 use Rattle.sp_law_programs.specs.program_laid.Turning.{BodiesKeepToLoops}
-use Rattle.sp_law_programs.specs.program_laid.Arguments.{BodiesArgumentsMatch}
+use Rattle.sp_law_meaning.specs.Standing.{BodiesStand}
 
 -- A program that is laid out has all bodies of the list, so that the laws of functions and hooks are ones of it.
 abbrev pub LaidProgramsHaveBodies : Type 0
@@ -87,5 +87,5 @@ LaidProgramsTurn =
 abbrev pub LaidProgramsCount : Type 0
 LaidProgramsCount =
     (p : Plain) (shapes : Shapes) (hook_names : List (List ℕ)) (currents : List Kind) (list : Typed) (rest : List Marked) →
-    IsLaid p shapes hook_names currents list rest → BodiesArgumentsMatch list →
+    IsLaid p shapes hook_names currents list rest → BodiesStand list →
     BodiesAreCounted p list

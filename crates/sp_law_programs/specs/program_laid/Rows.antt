@@ -13,6 +13,7 @@ use Rattle.sp_typed.specs.Exprs.{Expr, Exprs, leaf, many, exprs}
 use Rattle.sp_typed_units.specs.declared.declarations.Function.{Function}
 use Rattle.sp_typed_units.specs.declared.declarations.Hook.{Hook}
 use Rattle.sp_running.specs.Scopes.{Called}
+use Rattle.sp_bodies.specs.Calls.{has_current}
 use Rattle.sp_bodies.specs.Globals.{Globals, globals_of}
 use Rattle.sp_code.specs.Shapes.{OfFunction, OfHook, IsSound, Keeps, Enters}
 use Rattle.sp_code.specs.Turns.{Turns}
@@ -22,7 +23,7 @@ use Rattle.sp_law_code.specs.exprs.Laws.{AllKeep}
 use Rattle.sp_law_code.specs.bodies.Parts.{BodiesAreCounted}
 use Rattle.sp_law_code.specs.turns.Falling.{AllTurn}
 use Rattle.sp_law_programs.specs.program_laid.Places.{ChangesPlaces}
-use Rattle.sp_law_programs.specs.program_laid.Arguments.{ArgumentsMatch, StmtArgumentsMatch}
+use Rattle.sp_law_meaning.specs.Standing.{ExprStands, StmtStands}
 use Rattle.sp_law_programs.specs.program_laid.Fits.{FunctionFits, HookFits, BodiesFit}
 use Rattle.sp_law_programs.specs.program_laid.Laws.{LaidFunctionsEnter, LaidHooksEnter, LaidProgramsAreSound, FittingBodiesKeepToLoops, LaidProgramsTurn, LaidProgramsCount}
 
@@ -90,22 +91,22 @@ pub no_push_to_a_result : ChangesPlaces (row_of (many_is.Method PushBack None) (
 no_push_to_a_result changes = changes.0 refl
 
 -- `same(7)` has its argument, and so has each call of the list
-functions_match : (n : ℕ) (x : Function) → slice_get modules.functions n ≡ Some x → StmtArgumentsMatch modules.functions x.body
-functions_match zero x e = subst (λ x. StmtArgumentsMatch modules.functions x.body) (ap (λ o. unwrap_or o same) e) tt
-functions_match (suc zero) x e = subst (λ x. StmtArgumentsMatch modules.functions x.body) (ap (λ o. unwrap_or o seven) e) ((tt, ((same, refl, refl), (tt, tt))), (tt, tt))
+functions_match : (n : ℕ) (x : Function) → slice_get modules.functions n ≡ Some x → StmtStands false modules.functions x.body
+functions_match zero x e = subst (λ x. StmtStands false modules.functions x.body) (ap (λ o. unwrap_or o same) e) tt
+functions_match (suc zero) x e = subst (λ x. StmtStands false modules.functions x.body) (ap (λ o. unwrap_or o seven) e) ((tt, ((same, refl, refl), (tt, tt))), (tt, tt))
 functions_match (suc (suc n)) x e = absurd (let q : None ≡ Some x = e in cc)
 
-hooks_match : (n : ℕ) (x : Hook) → slice_get modules.hooks n ≡ Some x → StmtArgumentsMatch modules.functions x.body
-hooks_match zero x e = subst (λ x. StmtArgumentsMatch modules.functions x.body) (ap (λ o. unwrap_or o shown) e) (tt, tt)
+hooks_match : (n : ℕ) (x : Hook) → slice_get modules.hooks n ≡ Some x → StmtStands (has_current x.of) modules.functions x.body
+hooks_match zero x e = subst (λ x. StmtStands (has_current x.of) modules.functions x.body) (ap (λ o. unwrap_or o shown) e) (refl, tt)
 hooks_match (suc n) x e = absurd (let q : None ≡ Some x = e in cc)
 
 pub the_calls_are_counted : LaidProgramsCount → BodiesAreCounted program modules
 the_calls_are_counted law = law program shapes hook_names currents modules rest the_program_is_laid (record { functions = functions_match; hooks = hooks_match })
 
 -- `same()` lacks its argument
-pub no_call_lacks_an_argument : ArgumentsMatch modules.functions (row_of (many_is.Call 0) (exprs [])) → ⊥
+pub no_call_lacks_an_argument : ExprStands false modules.functions (row_of (many_is.Call 0) (exprs [])) → ⊥
 no_call_lacks_an_argument ((x, is, e), rest) = let n : 1 ≡ length x.parameters = ap (λ o. length (unwrap_or o same).parameters) is in omega (arith, n, e)
 
 -- and there are two functions
-pub no_third_function : ArgumentsMatch modules.functions (row_of (many_is.Call 2) (exprs [])) → ⊥
+pub no_third_function : ExprStands false modules.functions (row_of (many_is.Call 2) (exprs [])) → ⊥
 no_third_function ((x, is, e), rest) = absurd (let q : None ≡ Some x = is in cc)

@@ -25,7 +25,7 @@ use Rattle.sp_code_programs.specs.programs.Whole.{IsProgramOf}
 use Rattle.sp_law_code.specs.exprs.Parts as expressions
 use Rattle.sp_law_programs.specs.program_laid.Fits.{BodiesFit}
 use Rattle.sp_law_programs.specs.program_laid.Places.{StmtChangesPlaces}
-use Rattle.sp_law_programs.specs.program_laid.Arguments.{ArgumentsMatch, BodiesArgumentsMatch}
+use Rattle.sp_law_meaning.specs.Standing.{ExprStands, BodiesStand}
 
 -- what bodies change are places
 pub record BodiesChangePlaces (list : Typed) : Type 0 where
@@ -83,7 +83,7 @@ module _ (list : Typed) where
     -- the value that a variable has of its own is of the kind of its member
     abbrev pub ValueFits : ℕ → TypedUnit → ℕ → Option Expr → Type 0
     ValueFits u x m (Some e) =
-        expressions.Fits p shapes (globals_of list) unit_layout slot_kinds (Some u) e × ArgumentsMatch list.functions e × HasMember x m (kind_of (globals_of list) unit_layout e)
+        expressions.Fits p shapes (globals_of list) unit_layout slot_kinds (Some u) e × ExprStands false list.functions e × HasMember x m (kind_of (globals_of list) unit_layout e)
     ValueFits u x m None = Unit {0}
 
     abbrev pub VariablesFit : ℕ → TypedUnit → List Variable → Type 0
@@ -99,7 +99,7 @@ module _ (list : Typed) where
     pub record ListFits : Type 0 where
       pub bodies : BodiesFit p shapes (currents_of list) list
       pub places : BodiesChangePlaces list
-      pub arguments : BodiesArgumentsMatch list
+      pub arguments : BodiesStand list
       pub events : UnitHooksTakeNothing
       pub units : (u : ℕ) (x : TypedUnit) → slice_get list.units u ≡ Some x → UnitFits u x
 

@@ -1,5 +1,5 @@
 -- A list that fits in its program, so that the laws speak of it, and what doesn't fit.
-use Rattle.std.specs.Prelude.{◌≡◌, ℕ, zero, suc, true, [], ◌∷◌, Some, None, codes, refl, slice_get, unwrap_or}
+use Rattle.std.specs.Prelude.{◌≡◌, ℕ, zero, suc, true, false, [], ◌∷◌, Some, None, codes, refl, slice_get, unwrap_or}
 use Rattle.std.proofs.Common.{subst, ap, ◌∙◌, arith}
 use Rattle.sp_numbers.specs.declared.width.Width.TheVariants.{W8}
 use Rattle.sp_words.specs.declared.words.HookName.{HookName}
@@ -10,6 +10,7 @@ use Rattle.sp_typed_units.specs.declared.declarations.Hook.{Hook}
 use Rattle.sp_typed_units.specs.declared.declarations.MemberKind.TheVariants as member_is
 use Rattle.sp_typed_units.specs.declared.declarations.Unit.{Unit as TypedUnit}
 use Rattle.sp_running.specs.Scopes.{Called}
+use Rattle.sp_bodies.specs.Calls.{has_current}
 use Rattle.sp_bodies.specs.Globals.{globals_of}
 use Rattle.sp_bodies.specs.Units.{is_of_unit}
 use Rattle.sp_code.specs.Shapes.{OfFunction, Enters, Shaped, IsSound}
@@ -21,7 +22,7 @@ use Rattle.sp_code_programs.specs.programs.Rows.{byte, same, seven}
 use Rattle.sp_code_programs.specs.programs.WholeRows.{with_hook, with_parameter, told_byte, whole_list, whole_program, whole_shapes, it_is_the_program}
 use Rattle.sp_law_programs.specs.program_laid.Fits.{FunctionFits, HookFits}
 use Rattle.sp_law_programs.specs.program_laid.Places.{StmtChangesPlaces}
-use Rattle.sp_law_programs.specs.program_laid.Arguments.{StmtArgumentsMatch}
+use Rattle.sp_law_meaning.specs.Standing.{StmtStands}
 use Rattle.sp_law_programs.specs.unit_told.Told.{started, Starts}
 use Rattle.sp_law_programs.specs.whole_program.Fits.{IsOfField, IsOfValue, UnitFits, ListFits}
 use Rattle.sp_law_programs.specs.whole_program.Laws.{FittingProgramsAreSound, FittingProgramsStart}
@@ -63,13 +64,13 @@ hooks_change : (n : ℕ) (x : Hook) → slice_get whole_list.hooks n ≡ Some x 
 hooks_change zero x e = subst (λ x. StmtChangesPlaces x.body) (ap (λ o. unwrap_or o told_byte) e) (tt, tt)
 hooks_change (suc n) x e = absurd (let q : None ≡ Some x = e in cc)
 
-functions_match : (n : ℕ) (x : Function) → slice_get whole_list.functions n ≡ Some x → StmtArgumentsMatch whole_list.functions x.body
-functions_match zero x e = subst (λ x. StmtArgumentsMatch whole_list.functions x.body) (ap (λ o. unwrap_or o same) e) tt
-functions_match (suc zero) x e = subst (λ x. StmtArgumentsMatch whole_list.functions x.body) (ap (λ o. unwrap_or o seven) e) ((tt, ((same, refl, refl), (tt, tt))), (tt, tt))
+functions_match : (n : ℕ) (x : Function) → slice_get whole_list.functions n ≡ Some x → StmtStands false whole_list.functions x.body
+functions_match zero x e = subst (λ x. StmtStands false whole_list.functions x.body) (ap (λ o. unwrap_or o same) e) tt
+functions_match (suc zero) x e = subst (λ x. StmtStands false whole_list.functions x.body) (ap (λ o. unwrap_or o seven) e) ((tt, ((same, refl, refl), (tt, tt))), (tt, tt))
 functions_match (suc (suc n)) x e = absurd (let q : None ≡ Some x = e in cc)
 
-hooks_match : (n : ℕ) (x : Hook) → slice_get whole_list.hooks n ≡ Some x → StmtArgumentsMatch whole_list.functions x.body
-hooks_match zero x e = subst (λ x. StmtArgumentsMatch whole_list.functions x.body) (ap (λ o. unwrap_or o told_byte) e) (tt, tt)
+hooks_match : (n : ℕ) (x : Hook) → slice_get whole_list.hooks n ≡ Some x → StmtStands (has_current x.of) whole_list.functions x.body
+hooks_match zero x e = subst (λ x. StmtStands (has_current x.of) whole_list.functions x.body) (ap (λ o. unwrap_or o told_byte) e) (refl, tt)
 hooks_match (suc n) x e = absurd (let q : None ≡ Some x = e in cc)
 
 take_nothing : (n u : ℕ) (name : HookName) (x : Hook) → slice_get whole_list.hooks n ≡ Some x → is_of_unit u name x.of ≡ true → x.parameters ≡ []

@@ -1,6 +1,6 @@
 -- A statement passes where its test says so.
 use Rattle.std.proofs.Common.{◌≡◌, ℕ, ◌+◌, Bool, true, ◌&&◌, Some}
-use Rattle.std.specs.Prelude.{slice_get}
+use Rattle.std.specs.Prelude.{slice_get, is_some}
 use Rattle.std.proofs.lemmas.Bool.{and_parts}
 use Rattle.sp_types.specs.Types.{Ty}
 use Rattle.sp_typed.specs.Exprs.{type_of}
@@ -14,7 +14,7 @@ use Rattle.sp_code.specs.Shapes.{Round, Shapes}
 use Rattle.sp_law_code.specs.bodies.Fits.{StmtsFit, BranchesFit, CasesFit}
 use Rattle.sp_law_programs.specs.finished_bodies.Built.{StmtsAreBuilt, BranchesAreBuilt, CasesAreBuilt}
 use Rattle.sp_emit_stmt.specs.Literals.{StmtsLiteralsFit, BranchesLiteralsFit, CasesLiteralsFit}
-use Rattle.sp_law_programs.specs.program_laid.Arguments.{StmtsArgumentsMatch, BranchesArgumentsMatch, CasesArgumentsMatch}
+use Rattle.sp_law_meaning.specs.Standing.{StmtsStand, BranchesStand, CasesStand}
 use Rattle.sp_law_programs.specs.program_laid.Places.{StmtsChangePlaces, BranchesChangePlaces, CasesChangePlaces}
 use Rattle.sp_list_laws.specs.fit_expr.Around.{globals_in, locals_in}
 use Rattle.sp_list_laws.specs.fit_expr.Passes.{Tables}
@@ -44,31 +44,31 @@ module _ (body : Body) where
     fits : (p : Plain) (shapes : Shapes) → Tables list p shapes → StmtsFit p shapes globals layout (locals_in body.around) body.around.unit round in_loop ss
     built : StmtsAreBuilt globals list.functions ss
     literals : StmtsLiteralsFit ss
-    arguments : StmtsArgumentsMatch list.functions ss
+    stands : StmtsStand (is_some layout.offset) list.functions ss
     places : StmtsChangePlaces ss
 
   record BranchesPass (in_loop : Bool) (bs : Branches) : Type 0 where
     fits : (p : Plain) (shapes : Shapes) → Tables list p shapes → BranchesFit p shapes globals layout (locals_in body.around) body.around.unit round in_loop bs
     built : BranchesAreBuilt globals list.functions bs
     literals : BranchesLiteralsFit bs
-    arguments : BranchesArgumentsMatch list.functions bs
+    stands : BranchesStand (is_some layout.offset) list.functions bs
     places : BranchesChangePlaces bs
 
   record CasesPass (in_loop : Bool) (l : ℕ) (cs : Cases) : Type 0 where
     fits : (p : Plain) (shapes : Shapes) → Tables list p shapes → CasesFit p shapes globals layout (locals_in body.around) body.around.unit round in_loop l cs
     built : CasesAreBuilt globals list.functions cs
     literals : CasesLiteralsFit cs
-    arguments : CasesArgumentsMatch list.functions cs
+    stands : CasesStand (is_some layout.offset) list.functions cs
     places : CasesChangePlaces cs
 
   mutual
     pub stmt_sound : (in_loop : Bool) (s : Stmt) → stmt_passes body in_loop s ≡ true → StmtPasses list layout (locals_in body.around) body.around.unit round in_loop s
     stmt_sound in_loop (bare m) h =
         let q = bare_sound body in_loop m.op h in
-        record { fits = λ p shapes tables. q.fits p shapes; built = q.built; literals = tt; arguments = tt; places = tt }
+        record { fits = λ p shapes tables. q.fits p shapes; built = q.built; literals = tt; stands = tt; places = tt }
     stmt_sound in_loop (valued m e) h =
         let q = valued_sound body m.op e h in
-        record { fits = q.fits; built = q.built; literals = q.literals; arguments = q.arguments; places = (q.target, q.places) }
+        record { fits = q.fits; built = q.built; literals = q.literals; stands = q.stands; places = (q.target, q.places) }
     stmt_sound in_loop (assign m target e) h =
         let q = and_parts (place_passes body.around (slot_local layout m.owner) target && expr_passes body.around e) (assigns m.op (type_of target) (type_of e)) h in
         let r = and_parts (place_passes body.around (slot_local layout m.owner) target) (expr_passes body.around e) q.0 in
@@ -78,15 +78,15 @@ module _ (body : Body) where
           fits = λ p shapes tables. (t.fits p shapes tables, v.fits p shapes tables, assigned_kinds globals.ranges m.op (type_of target) (type_of e) q.1);
           built = (t.built, v.built);
           literals = (t.literals, v.literals);
-          arguments = (t.arguments, v.arguments);
+          stands = (t.stands, v.stands);
           places = (t.place, t.places, v.places);
         }
     stmt_sound in_loop (print at es) h =
         let q = exprs_sound body.around es h in
-        record { fits = q.fits; built = q.built; literals = q.literals; arguments = q.arguments; places = q.places }
+        record { fits = q.fits; built = q.built; literals = q.literals; stands = q.stands; places = q.places }
     stmt_sound in_loop (block ss) h =
         let q = stmts_sound in_loop ss h in
-        record { fits = q.fits; built = q.built; literals = q.literals; arguments = q.arguments; places = q.places }
+        record { fits = q.fits; built = q.built; literals = q.literals; stands = q.stands; places = q.places }
     stmt_sound in_loop (branch bs b) h =
         let q = and_parts (branches_pass body in_loop bs) (stmt_passes body in_loop b) h in
         let r = branches_sound in_loop bs q.0 in
@@ -95,7 +95,7 @@ module _ (body : Body) where
           fits = λ p shapes tables. (r.fits p shapes tables, s.fits p shapes tables);
           built = (r.built, s.built);
           literals = (r.literals, s.literals);
-          arguments = (r.arguments, s.arguments);
+          stands = (r.stands, s.stands);
           places = (r.places, s.places);
         }
     stmt_sound in_loop (while_loop e b) h =
@@ -106,7 +106,7 @@ module _ (body : Body) where
           fits = λ p shapes tables. ((t.0.fits p shapes tables, t.1), s.fits p shapes tables);
           built = (t.0.built, s.built);
           literals = (t.0.literals, s.literals);
-          arguments = (t.0.arguments, s.arguments);
+          stands = (t.0.stands, s.stands);
           places = (t.0.places, s.places);
         }
     stmt_sound in_loop (for_loop m e b) h =
@@ -119,7 +119,7 @@ module _ (body : Body) where
           fits = λ p shapes tables. (v.fits p shapes tables, over_kinds globals.ranges (type_of e) m.ty o.1, slot_kind body.around m.slot m.ty r.1, s.fits p shapes tables);
           built = (v.built, s.built);
           literals = (v.literals, s.literals);
-          arguments = (v.arguments, s.arguments);
+          stands = (v.stands, s.stands);
           places = (v.places, s.places);
         }
     stmt_sound in_loop (switch slot e cs b) h =
@@ -134,12 +134,12 @@ module _ (body : Body) where
           fits = λ p shapes tables. (v.fits p shapes tables, kept, c.fits p shapes tables, s.fits p shapes tables);
           built = (v.built, c.built, s.built);
           literals = (v.literals, c.literals, s.literals);
-          arguments = (v.arguments, c.arguments, s.arguments);
+          stands = (v.stands, c.stands, s.stands);
           places = (v.places, c.places, s.places);
         }
 
     stmts_sound : (in_loop : Bool) (ss : Stmts) → stmts_pass body in_loop ss ≡ true → StmtsPass in_loop ss
-    stmts_sound in_loop no_stmts h = record { fits = λ p shapes tables. tt; built = tt; literals = tt; arguments = tt; places = tt }
+    stmts_sound in_loop no_stmts h = record { fits = λ p shapes tables. tt; built = tt; literals = tt; stands = tt; places = tt }
     stmts_sound in_loop (more_stmts b ss) h =
         let q = and_parts (stmt_passes body in_loop b) (stmts_pass body in_loop ss) h in
         let s = stmt_sound in_loop b q.0 in
@@ -148,12 +148,12 @@ module _ (body : Body) where
           fits = λ p shapes tables. (s.fits p shapes tables, r.fits p shapes tables);
           built = (s.built, r.built);
           literals = (s.literals, r.literals);
-          arguments = (s.arguments, r.arguments);
+          stands = (s.stands, r.stands);
           places = (s.places, r.places);
         }
 
     branches_sound : (in_loop : Bool) (bs : Branches) → branches_pass body in_loop bs ≡ true → BranchesPass in_loop bs
-    branches_sound in_loop no_branches h = record { fits = λ p shapes tables. tt; built = tt; literals = tt; arguments = tt; places = tt }
+    branches_sound in_loop no_branches h = record { fits = λ p shapes tables. tt; built = tt; literals = tt; stands = tt; places = tt }
     branches_sound in_loop (more_branches e b bs) h =
         let q = and_parts (test_passes body.around e && stmt_passes body in_loop b) (branches_pass body in_loop bs) h in
         let o = and_parts (test_passes body.around e) (stmt_passes body in_loop b) q.0 in
@@ -164,12 +164,12 @@ module _ (body : Body) where
           fits = λ p shapes tables. ((t.0.fits p shapes tables, t.1), s.fits p shapes tables, r.fits p shapes tables);
           built = (t.0.built, s.built, r.built);
           literals = (t.0.literals, s.literals, r.literals);
-          arguments = (t.0.arguments, s.arguments, r.arguments);
+          stands = (t.0.stands, s.stands, r.stands);
           places = (t.0.places, s.places, r.places);
         }
 
     cases_sound : (in_loop : Bool) (l : ℕ) (t : Ty) → slice_get (locals_in body.around) l ≡ Some (kind_of_type globals.ranges t) → (cs : Cases) → cases_pass body in_loop t cs ≡ true → CasesPass in_loop l cs
-    cases_sound in_loop l t is no_cases h = record { fits = λ p shapes tables. tt; built = tt; literals = tt; arguments = tt; places = tt }
+    cases_sound in_loop l t is no_cases h = record { fits = λ p shapes tables. tt; built = tt; literals = tt; stands = tt; places = tt }
     cases_sound in_loop l t is (more_cases es b cs) h =
         let q = and_parts (values_pass body.around t es && stmt_passes body in_loop b) (cases_pass body in_loop t cs) h in
         let o = and_parts (values_pass body.around t es) (stmt_passes body in_loop b) q.0 in
@@ -180,6 +180,6 @@ module _ (body : Body) where
           fits = λ p shapes tables. (v.fits p shapes tables, s.fits p shapes tables, r.fits p shapes tables);
           built = (v.built, s.built, r.built);
           literals = (v.literals, s.literals, r.literals);
-          arguments = (v.arguments, s.arguments, r.arguments);
+          stands = (v.stands, s.stands, r.stands);
           places = (v.places, s.places, r.places);
         }

@@ -1,6 +1,6 @@
 -- Statements in which no other one stands pass where the test says so.
 use Rattle.std.proofs.Common.{◌≡◌, ℕ, ◌+◌, Bool, true, false, ◌&&◌, Option, Some, sym, ap, subst}
-use Rattle.std.specs.Prelude.{slice_get, unwrap_or}
+use Rattle.std.specs.Prelude.{slice_get, unwrap_or, is_some}
 use Rattle.std.proofs.lemmas.Bool.{and_parts}
 use Rattle.sp_words.specs.declared.operators.BinaryOp.TheVariants as op_is
 use Rattle.sp_methods.specs.Kinds.{Kind, Void, Bools, Text}
@@ -24,7 +24,7 @@ use Rattle.sp_law_code.specs.bodies.Fits.{BareFits, ValuedFits, ValuesFit}
 use Rattle.sp_law_programs.specs.finished_bodies.Built.{ExprIsBuilt, PlaceIsBuilt, AllAreBuilt, BareIsBuilt, ValuedIsBuilt}
 use Rattle.sp_emit_expr.specs.Literals.{AllLiteralsFit}
 use Rattle.sp_emit_stmt.specs.Literals.{ValuedLiteralsFit}
-use Rattle.sp_law_programs.specs.program_laid.Arguments.{ArgumentsMatch, AllArgumentsMatch}
+use Rattle.sp_law_meaning.specs.Standing.{ExprStands, AllStand}
 use Rattle.sp_law_programs.specs.program_laid.Places.{ChangesPlaces, AllChangePlaces, HasTarget}
 use Rattle.sp_law_programs.proofs.program_laid_lemmas.Zeros.{zero_has}
 use Rattle.sp_list_laws.specs.fit_expr.Around.{Around, globals_in, locals_in}
@@ -86,11 +86,11 @@ module _ (body : Body) where
     pub fits : (p : Plain) (shapes : Shapes) → Tables its_list p shapes → ValuesFit p shapes globals layout (locals_in body.around) body.around.unit round l es
     pub built : AllAreBuilt globals its_list.functions es
     pub literals : AllLiteralsFit es
-    pub arguments : AllArgumentsMatch its_list.functions es
+    pub stands : AllStand (is_some layout.offset) its_list.functions es
     pub places : AllChangePlaces es
 
   pub values_sound : (l : ℕ) (t : Ty) → slice_get (locals_in body.around) l ≡ Some (kind_of_type globals.ranges t) → (es : Exprs) → values_pass body.around t es ≡ true → ValuesPass l es
-  values_sound l t is none h = record { fits = λ p shapes tables. tt; built = tt; literals = tt; arguments = tt; places = tt }
+  values_sound l t is none h = record { fits = λ p shapes tables. tt; built = tt; literals = tt; stands = tt; places = tt }
   values_sound l t is (more e es) h =
       let q = and_parts (expr_passes body.around e && equals t (type_of e)) (values_pass body.around t es) h in
       let v = expr_and body.around e (equals t (type_of e)) q.0 in
@@ -101,7 +101,7 @@ module _ (body : Body) where
         fits = λ p shapes tables. (v.0.fits p shapes tables, equal, rest.fits p shapes tables);
         built = (v.0.built, rest.built);
         literals = (v.0.literals, rest.literals);
-        arguments = (v.0.arguments, rest.arguments);
+        stands = (v.0.stands, rest.stands);
         places = (v.0.places, rest.places);
       }
 
@@ -122,7 +122,7 @@ module _ (body : Body) where
     pub fits : (p : Plain) (shapes : Shapes) → Tables its_list p shapes → ValuedFits p shapes globals layout (locals_in body.around) body.around.unit round op e
     pub built : ValuedIsBuilt op (ExprIsBuilt globals its_list.functions e) (PlaceIsBuilt globals its_list.functions e)
     pub literals : ValuedLiteralsFit op e
-    pub arguments : ArgumentsMatch its_list.functions e
+    pub stands : ExprStands (is_some layout.offset) its_list.functions e
     pub target : HasTarget op e
     pub places : ChangesPlaces e
 
@@ -137,7 +137,7 @@ module _ (body : Body) where
         fits = λ p shapes tables. (c.fits p shapes tables, k.fits p shapes tables, set_kinds globals.ranges (type_of a) (type_of b) q.1);
         built = (index_is m.op r.1, c.built, k.built);
         literals = (c.literals, k.literals);
-        arguments = (c.arguments, k.arguments);
+        stands = (c.stands, k.stands);
         target = c.place;
         places = (c.places, k.places);
       }
@@ -157,7 +157,7 @@ module _ (body : Body) where
         fits = λ p shapes tables. (c.fits p shapes tables, k.fits p shapes tables, keyed_kinds globals.ranges (type_of a) (type_of b) q.1);
         built = (index_is m.op r.1, c.built, k.built);
         literals = (c.literals, k.literals);
-        arguments = (c.arguments, k.arguments);
+        stands = (c.stands, k.stands);
         target = c.place;
         places = (c.places, k.places);
       }
@@ -173,7 +173,7 @@ module _ (body : Body) where
         fits = λ p shapes tables. (q.0.fits p shapes tables, slot_kind body.around l.slot (type_of e) q.1);
         built = q.0.built;
         literals = q.0.literals;
-        arguments = q.0.arguments;
+        stands = q.0.stands;
         target = tt;
         places = q.0.places;
       }
@@ -183,7 +183,7 @@ module _ (body : Body) where
         fits = λ p shapes tables. (q.0.fits p shapes tables, value_kind globals.ranges body.returns (type_of e) q.1);
         built = q.0.built;
         literals = q.0.literals;
-        arguments = q.0.arguments;
+        stands = q.0.stands;
         target = tt;
         places = q.0.places;
       }
@@ -193,7 +193,7 @@ module _ (body : Body) where
         fits = λ p shapes tables. (q.0.fits p shapes tables, of_sort globals.ranges (type_of e) sort_is.Text q.1);
         built = q.0.built;
         literals = q.0.literals;
-        arguments = q.0.arguments;
+        stands = q.0.stands;
         target = tt;
         places = q.0.places;
       }
@@ -203,7 +203,7 @@ module _ (body : Body) where
         fits = λ p shapes tables. (q.0.fits p shapes tables, q.1);
         built = q.0.built;
         literals = q.0.literals;
-        arguments = q.0.arguments;
+        stands = q.0.stands;
         target = tt;
         places = q.0.places;
       }
@@ -211,4 +211,4 @@ module _ (body : Body) where
   valued_sound (valued_is.Delete slot) e h = delete_sound slot e h
   valued_sound valued_is.Expr e h =
       let q = expr_sound body.around e h in
-      record { fits = q.fits; built = q.built; literals = q.literals; arguments = q.arguments; target = tt; places = q.places }
+      record { fits = q.fits; built = q.built; literals = q.literals; stands = q.stands; target = tt; places = q.places }

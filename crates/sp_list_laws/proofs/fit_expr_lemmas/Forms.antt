@@ -1,6 +1,6 @@
 -- What is made of parts that pass.
-use Rattle.std.specs.Prelude.{◌&&◌, not, Option, Some, None, slice_get}
-use Rattle.std.proofs.Common.{◌≡◌, ◌∙◌, ℕ, Bool, true, false, List, [], ◌∷◌, reverse, refl, sym, ap, subst}
+use Rattle.std.specs.Prelude.{◌&&◌, Option, Some, None, slice_get, is_some}
+use Rattle.std.proofs.Common.{◌≡◌, ◌∙◌, ℕ, true, false, List, [], ◌∷◌, reverse, refl, sym, ap, subst}
 use Rattle.std.proofs.lemmas.Bool.{and_parts}
 use Rattle.std.proofs.lemmas.List.{reverse-reverse}
 use Rattle.sp_base.specs.declared.places.Span.{Span}
@@ -31,7 +31,7 @@ use Rattle.sp_code.specs.Shapes.{Shapes, OfFunction, Enters}
 use Rattle.sp_code_programs.specs.exprs.Code.{kinds_on, count}
 use Rattle.sp_code_programs.specs.programs.Routines.{parameter_kinds}
 use Rattle.sp_law_code.specs.exprs.Parts.{OneFits, BinaryFits, TwoFits, ManyFits, ChangeFits}
-use Rattle.sp_law_programs.specs.program_laid.Arguments.{CallMatches}
+use Rattle.sp_law_meaning.specs.Standing.{CallStands}
 use Rattle.sp_law_programs.specs.finished_bodies.Built.{IsThere}
 use Rattle.sp_list_laws.specs.fit_expr.Around.{Around, globals_in}
 use Rattle.sp_list_laws.specs.fit_expr.Sorts.{Sort, sort_of, takes, is_sized, is_integer, casts}
@@ -298,23 +298,17 @@ module _ (around : Around) where
       let b = and_parts (sorts_are (wanted m) es) (gives m t) h in
       simple_fits m es t b.0 b.1
 
-  false_is : (b : Bool) → not b ≡ true → b ≡ false
-  false_is false h = refl
-  false_is true h = absurd (let z : false ≡ true = h in cc)
-
   -- a method that changes its receiver
-  pub change_fits : (p : Plain) (shapes : Shapes) (m : Method) (slot : Option ℕ) (on_item : Bool) (r : Expr) (es : Exprs) (t : Ty) → change_is m on_item (type_of r) es t ≡ true →
-      ChangeFits p shapes (many_is.Method m slot) on_item (on es (there (type_of r) ∷ [])) (there (type_of r)) (there t)
-  change_fits p shapes PushBack slot on_item r none t h = absurd (let z : false ≡ true = h in cc)
-  change_fits p shapes PushBack slot on_item r (more e none) t h =
+  pub change_fits : (p : Plain) (shapes : Shapes) (m : Method) (slot : Option ℕ) (r : Expr) (es : Exprs) (t : Ty) → change_is m (type_of r) es t ≡ true →
+      ChangeFits p shapes (many_is.Method m slot) (on es (there (type_of r) ∷ [])) (there (type_of r)) (there t)
+  change_fits p shapes PushBack slot r none t h = absurd (let z : false ≡ true = h in cc)
+  change_fits p shapes PushBack slot r (more e none) t h =
       let b = and_parts (vector_of (type_of r) (type_of e)) (is_sort t sort_is.Void) h in
       (rw (vector_kind (globals_in around).ranges (type_of r) (type_of e) b.0) (push_back_takes (there (type_of e))), of_sort (globals_in around).ranges t sort_is.Void b.1)
-  change_fits p shapes PushBack slot on_item r (more e (more d es)) t h = absurd (let z : false ≡ true = h in cc)
-  change_fits p shapes PopBack slot on_item r none t h =
-      let b = and_parts (not on_item) (vector_of (type_of r) t) h in
-      (false_is on_item b.0, rw (vector_kind (globals_in around).ranges (type_of r) t b.1) (pop_back_takes (there t)))
-  change_fits p shapes PopBack slot on_item r (more e es) t h = absurd (let z : false ≡ true = h in cc)
-  change_fits p shapes _ slot on_item r es t h = absurd (let z : false ≡ true = h in cc)
+  change_fits p shapes PushBack slot r (more e (more d es)) t h = absurd (let z : false ≡ true = h in cc)
+  change_fits p shapes PopBack slot r none t h = rw (vector_kind (globals_in around).ranges (type_of r) t h) (pop_back_takes (there t))
+  change_fits p shapes PopBack slot r (more e es) t h = absurd (let z : false ≡ true = h in cc)
+  change_fits p shapes _ slot r es t h = absurd (let z : false ≡ true = h in cc)
 
   -- containers that are written out
   tuple_made : (p : Plain) (shapes : Shapes) (es : Exprs) (t : Ty) → tuple_of t es ≡ true → ManyFits p shapes many_is.Tuple (count es) (on es []) (there t)
@@ -385,11 +379,11 @@ module _ (around : Around) where
       rw x.1 tt
 
   -- with as many arguments as it has parameters
-  pub call_matches : (o : ManyOp) (es : Exprs) (t : Ty) → many_is_of around o es t ≡ true → CallMatches around.list.functions o (count es)
-  call_matches (many_is.Call f) es t h =
+  pub call_stands : (o : ManyOp) (es : Exprs) (t : Ty) → many_is_of around o es t ≡ true → CallStands (is_some around.places.offset) around.list.functions o (count es)
+  call_stands (many_is.Call f) es t h =
       let x = call_there f es t (slice_get around.list.functions f) refl h in
       (x.0, x.1, arguments_counted (globals_in around).ranges x.0.parameters es x.2)
-  call_matches _ es t h = tt
+  call_stands _ es t h = tt
 
   call_made : (p : Plain) (shapes : Shapes) (tables : Tables around.list p shapes) (f : ℕ) (es : Exprs) (t : Ty) → call_is (slice_get around.list.functions f) es t ≡ true → ManyFits p shapes (many_is.Call f) (count es) (on es []) (there t)
   call_made p shapes tables f es t h =

@@ -1,5 +1,5 @@
 -- What has no parts, and what a list of modules has by numbers.
-use Rattle.std.specs.Prelude.{◌<◌, ◌-◌, nat_lt, if◌then◌else◌, Option, Some, None, slice_get}
+use Rattle.std.specs.Prelude.{◌<◌, ◌-◌, nat_lt, if◌then◌else◌, Option, Some, None, slice_get, is_some}
 use Rattle.std.proofs.Common.{◌≡◌, ◌∙◌, ◌+◌, ℕ, zero, suc, Bool, true, false, List, [], ◌∷◌, refl, sym, ap, subst, arith}
 use Rattle.std.proofs.lemmas.Bool.{and_parts}
 use Rattle.std.proofs.lemmas.Bool.Decides.{nat_tests}
@@ -30,7 +30,7 @@ use Rattle.sp_list_laws.specs.fit_expr.Around.{Around, globals_in, locals_in}
 use Rattle.sp_list_laws.specs.fit_expr.Sorts as sort_is
 use Rattle.sp_list_laws.specs.fit_expr.Lists.{is_type}
 use Rattle.sp_list_laws.specs.fit_expr.Passes.{Tables}
-use Rattle.sp_list_laws.specs.fit_expr.Test.{number_is, is_enum, is_unit, has_value, constant_is_of, member_type, parameter_type, member_is, parameter_is, unit_parameter, leaf_is_of, has_member, has_range}
+use Rattle.sp_list_laws.specs.fit_expr.Test.{local_is, number_is, is_enum, is_unit, has_value, constant_is_of, member_type, parameter_type, member_is, parameter_is, unit_parameter, leaf_is_of, has_member, has_range}
 use Rattle.sp_list_laws.proofs.fit_expr_lemmas.OfSorts.{equal_numbers, of_sort}
 use Rattle.sp_list_laws.proofs.fit_expr_lemmas.OfTypes.{same_kind, local_kind}
 
@@ -177,7 +177,7 @@ module _ (around : Around) where
     leaf_fits (leaf_is.Bytes b) t h = λ units. rw (of_sort (globals_in around).ranges t sort_is.Bytes h) (b, refl)
     leaf_fits (leaf_is.Empty w) t h = λ units. zero_has (globals_in around).ranges units t
     leaf_fits (leaf_is.Itself s) t h = unit_kind (globals_in around).ranges around.unit t h
-    leaf_fits (leaf_is.Current s) t h = local_kind (globals_in around).ranges around.locals around.places.current t h
+    leaf_fits (leaf_is.Current s) t h = local_kind (globals_in around).ranges around.locals around.places.current t (and_parts (is_some around.places.offset) (local_is around around.places.current t) h).1
     leaf_fits (leaf_is.Local l) t h = local_kind (globals_in around).ranges around.locals (around.places.first + l) t h
     leaf_fits (leaf_is.Parameter n s) t h =
         either (nat_lt n around.places.own) (local_kind (globals_in around).ranges around.locals n t) (parameter_fits around.unit (n - around.places.own) t) h

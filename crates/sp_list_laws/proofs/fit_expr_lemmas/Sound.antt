@@ -1,6 +1,6 @@
 -- What passes fits, is built, has literals that fit, arguments that match, and changes places.
-use Rattle.std.specs.Prelude.{◌&&◌, if◌then◌else◌, Option, Some, None, slice_get}
-use Rattle.std.proofs.Common.{◌≡◌, ◌∙◌, ◌+◌, ℕ, Bool, true, false, [], refl, sym}
+use Rattle.std.specs.Prelude.{◌&&◌, if◌then◌else◌, Option, Some, None, slice_get, is_some}
+use Rattle.std.proofs.Common.{◌≡◌, ◌∙◌, ◌+◌, ℕ, Bool, true, false, [], refl, sym, subst}
 use Rattle.std.proofs.lemmas.Bool.{and_parts}
 use Rattle.sp_base.specs.declared.places.Span.{Span}
 use Rattle.sp_words.specs.declared.methods.Method.{Method}
@@ -20,7 +20,7 @@ use Rattle.sp_typed.specs.declared.words.ManyOp.TheVariants as many_is
 use Rattle.sp_typed.specs.declared.words.UnitMethod.TheVariants as unit_method
 use Rattle.sp_typed.specs.Exprs.{Expr, Exprs, leaf, one, two, three, many, none, more, type_of}
 use Rattle.sp_running.specs.Types.{kind_of_type}
-use Rattle.sp_bodies.specs.Exprs.{negative, negative_literal, offset_local, is_self, slot_local, is_item, is_item_place, member_named, local_named}
+use Rattle.sp_bodies.specs.Exprs.{negative, negative_literal, offset_local, is_self, slot_local, is_item, member_named, local_named}
 use Rattle.sp_code.specs.Machine.{Plain}
 use Rattle.sp_code.specs.Shapes.{Shapes, IsMember}
 use Rattle.sp_code_programs.specs.exprs.Code.{count, member_of, place_local, kinds_on}
@@ -29,17 +29,17 @@ use Rattle.sp_law_programs.specs.finished_bodies.Built.{IsThere, PartIsBuilt, Pa
 use Rattle.sp_emit_expr.specs.declared.rows.Row.TheVariants as row_is
 use Rattle.sp_emit_expr.specs.Many.{row_of}
 use Rattle.sp_emit_expr.specs.Literals.{number_behind, negative_number, NegativeFits, LeafFits, LiteralsFit, AllLiteralsFit, PlaceFits, ReceiverFits}
-use Rattle.sp_law_programs.specs.program_laid.Arguments.{CallMatches, ArgumentsMatch, AllArgumentsMatch}
+use Rattle.sp_law_meaning.specs.Standing.{LeafStands, CallStands, ExprStands, AllStand}
 use Rattle.sp_law_programs.specs.program_laid.Places.{IsPlace, BeginsWithPlace, HasReceiver, ChangesPlaces, AllChangePlaces}
 use Rattle.sp_list_laws.specs.fit_expr.Around.{Around, globals_in, locals_in}
 use Rattle.sp_list_laws.specs.fit_expr.Sorts as sort_is
 use Rattle.sp_list_laws.specs.fit_expr.Passes.{Tables, ExprPasses, ExprsPass, PlacePasses}
-use Rattle.sp_list_laws.specs.fit_expr.Test.{is_sort, three_is, two_is_of, item_is, change_is, local_is, one_is_of, member_place, local_place, owner_is, one_or_literal, many_is_of, row_is_of, is_index, expr_passes, exprs_pass, change_passes, place_passes}
+use Rattle.sp_list_laws.specs.fit_expr.Test.{is_sort, three_is, two_is_of, item_is, change_is, local_is, leaf_is_of, one_is_of, member_place, local_place, owner_is, one_or_literal, many_is_of, row_is_of, is_index, expr_passes, exprs_pass, change_passes, place_passes}
 use Rattle.sp_types.specs.Types.{same}
 use Rattle.sp_list_laws.proofs.fit_expr_lemmas.OfSorts.{of_sort}
 use Rattle.sp_list_laws.proofs.fit_expr_lemmas.OfTypes.{same_kind, local_kind}
 use Rattle.sp_list_laws.proofs.fit_expr_lemmas.Leaves.{number_fits, number_has, leaf_built, leaf_literal, leaf_fits, member_fits}
-use Rattle.sp_list_laws.proofs.fit_expr_lemmas.Forms.{item_fits, one_fits, two_fits, many_fits, change_fits, call_matches, function_there}
+use Rattle.sp_list_laws.proofs.fit_expr_lemmas.Forms.{item_fits, one_fits, two_fits, many_fits, change_fits, call_stands, function_there}
 
 -- three tests in turn, and four
 three_parts : (x y z : Bool) → (x && y && z) ≡ true → (x ≡ true) × (y ≡ true) × (z ≡ true)
@@ -182,7 +182,7 @@ module _ (around : Around) where
     receiver_built : (m : Method) (slot : Option ℕ) (t : Ty) (es : Exprs) → change_passes around m slot t es ≡ true → ReceiverIsBuilt (globals_in around) around.list.functions es
     receiver_built m slot t none q = absurd (let z : false ≡ true = q in cc)
     receiver_built m slot t (more r es) q =
-        let x = three_parts (place_passes around (slot_local around.places slot) r) (exprs_pass around es) (change_is m (is_item_place r) (type_of r) es t) q in
+        let x = three_parts (place_passes around (slot_local around.places slot) r) (exprs_pass around es) (change_is m (type_of r) es t) q in
         (place_built (slot_local around.places slot) r x.0, all_built es x.1)
 
     pub place_built : (owner : Option ℕ) (e : Expr) → place_passes around owner e ≡ true → PlaceIsBuilt (globals_in around) around.list.functions e
@@ -265,7 +265,7 @@ module _ (around : Around) where
     receiver_literals : (m : Method) (slot : Option ℕ) (t : Ty) (es : Exprs) → change_passes around m slot t es ≡ true → AllLiteralsFit es × BeginsFitting es
     receiver_literals m slot t none q = absurd (let z : false ≡ true = q in cc)
     receiver_literals m slot t (more r es) q =
-        let x = three_parts (place_passes around (slot_local around.places slot) r) (exprs_pass around es) (change_is m (is_item_place r) (type_of r) es t) q in
+        let x = three_parts (place_passes around (slot_local around.places slot) r) (exprs_pass around es) (change_is m (type_of r) es t) q in
         let y = place_literals (slot_local around.places slot) r x.0 in
         ((y.1, all_literals es x.1), y.0)
 
@@ -284,62 +284,70 @@ module _ (around : Around) where
     place_literals owner (three h c a b) q = absurd (let z : false ≡ true = q in cc)
     place_literals owner (many h es) q = absurd (let z : false ≡ true = q in cc)
 
-  -- calls have as many arguments as parameters
+  leaf_stands : (op : LeafOp) (t : Ty) → leaf_is_of around op t ≡ true → LeafStands (is_some around.places.offset) around.list.functions op
+  leaf_stands (leaf_is.Current s) t q = (and_parts (is_some around.places.offset) (local_is around around.places.current t) q).0
+  leaf_stands _ t q = tt
+
+  local_stands : (op : LeafOp) (t : Ty) → local_place around op t ≡ true → LeafStands (is_some around.places.offset) around.list.functions op
+  local_stands (leaf_is.Local l) t q = tt
+  local_stands _ t q = absurd (let z : false ≡ true = q in cc)
+
+  -- calls have as many arguments as parameters, and `$$` stands where there is one
   mutual
-    pub expr_arguments : (e : Expr) → expr_passes around e ≡ true → ArgumentsMatch around.list.functions e
-    expr_arguments (leaf h) q = tt
-    expr_arguments (one h a) q =
+    pub expr_stands : (e : Expr) → expr_passes around e ≡ true → ExprStands (is_some around.places.offset) around.list.functions e
+    expr_stands (leaf h) q = leaf_stands h.op h.ty q
+    expr_stands (one h a) q =
         by_literal
         h
         a
         (expr_passes around a && one_is_of around h.op (type_of a) h.ty)
-        (λ (e : Expr). ArgumentsMatch around.list.functions e)
-        (λ i n is. tt)
-        (λ r. expr_arguments a (and_parts (expr_passes around a) (one_is_of around h.op (type_of a) h.ty) r).0)
+        (λ (e : Expr). ExprStands (is_some around.places.offset) around.list.functions e)
+        (λ i n is. subst (LeafStands (is_some around.places.offset) around.list.functions) (sym is) tt)
+        (λ r. expr_stands a (and_parts (expr_passes around a) (one_is_of around h.op (type_of a) h.ty) r).0)
         q
-    expr_arguments (two h a b) q =
+    expr_stands (two h a b) q =
         let x = three_parts (expr_passes around a) (expr_passes around b) (two_is_of h.op (type_of a) (type_of b) h.ty) q in
-        (expr_arguments a x.0, expr_arguments b x.1)
-    expr_arguments (three h c a b) q =
+        (expr_stands a x.0, expr_stands b x.1)
+    expr_stands (three h c a b) q =
         let x = four_parts (expr_passes around c) (expr_passes around a) (expr_passes around b) (three_is (type_of c) (type_of a) (type_of b) h.ty) q in
-        (expr_arguments c x.0, expr_arguments a x.1, expr_arguments b x.2)
-    expr_arguments (many h es) q =
+        (expr_stands c x.0, expr_stands a x.1, expr_stands b x.2)
+    expr_stands (many h es) q =
         by_row
         h.op
         (offset_local around.places (is_self es))
         (kept_row h.ty es)
         (change_row h.ty es)
         (values_row h.ty es)
-        (λ (o : ManyOp). CallMatches around.list.functions o (count es) × AllArgumentsMatch around.list.functions es)
-        (λ at n is r. (tt, all_arguments es (and_parts (exprs_pass around es) (local_is around n h.ty) r).0))
-        (λ m slot c r. (tt, receiver_arguments m slot h.ty es r))
-        (λ m slot c r. (tt, all_arguments es (and_parts (exprs_pass around es) (many_is_of around (many_is.Method m slot) es h.ty) r).0))
+        (λ (o : ManyOp). CallStands (is_some around.places.offset) around.list.functions o (count es) × AllStand (is_some around.places.offset) around.list.functions es)
+        (λ at n is r. (tt, all_stand es (and_parts (exprs_pass around es) (local_is around n h.ty) r).0))
+        (λ m slot c r. (tt, receiver_stands m slot h.ty es r))
+        (λ m slot c r. (tt, all_stand es (and_parts (exprs_pass around es) (many_is_of around (many_is.Method m slot) es h.ty) r).0))
         (λ o is apart r.
         let x = and_parts (exprs_pass around es) (many_is_of around o es h.ty) r in
-        (call_matches around o es h.ty x.1, all_arguments es x.0))
+        (call_stands around o es h.ty x.1, all_stand es x.0))
         q
 
-    pub all_arguments : (es : Exprs) → exprs_pass around es ≡ true → AllArgumentsMatch around.list.functions es
-    all_arguments none q = tt
-    all_arguments (more e es) q =
+    pub all_stand : (es : Exprs) → exprs_pass around es ≡ true → AllStand (is_some around.places.offset) around.list.functions es
+    all_stand none q = tt
+    all_stand (more e es) q =
         let x = and_parts (expr_passes around e) (exprs_pass around es) q in
-        (expr_arguments e x.0, all_arguments es x.1)
+        (expr_stands e x.0, all_stand es x.1)
 
-    receiver_arguments : (m : Method) (slot : Option ℕ) (t : Ty) (es : Exprs) → change_passes around m slot t es ≡ true → AllArgumentsMatch around.list.functions es
-    receiver_arguments m slot t none q = absurd (let z : false ≡ true = q in cc)
-    receiver_arguments m slot t (more r es) q =
-        let x = three_parts (place_passes around (slot_local around.places slot) r) (exprs_pass around es) (change_is m (is_item_place r) (type_of r) es t) q in
-        (place_arguments (slot_local around.places slot) r x.0, all_arguments es x.1)
+    receiver_stands : (m : Method) (slot : Option ℕ) (t : Ty) (es : Exprs) → change_passes around m slot t es ≡ true → AllStand (is_some around.places.offset) around.list.functions es
+    receiver_stands m slot t none q = absurd (let z : false ≡ true = q in cc)
+    receiver_stands m slot t (more r es) q =
+        let x = three_parts (place_passes around (slot_local around.places slot) r) (exprs_pass around es) (change_is m (type_of r) es t) q in
+        (place_stands (slot_local around.places slot) r x.0, all_stand es x.1)
 
-    pub place_arguments : (owner : Option ℕ) (e : Expr) → place_passes around owner e ≡ true → ArgumentsMatch around.list.functions e
-    place_arguments owner (leaf h) q = tt
-    place_arguments owner (one h a) q =
-        expr_arguments a (three_parts (expr_passes around a) (owner_is around owner (type_of a)) (member_place around h.op (type_of a) h.ty) q).0
-    place_arguments owner (two h a b) q =
+    pub place_stands : (owner : Option ℕ) (e : Expr) → place_passes around owner e ≡ true → ExprStands (is_some around.places.offset) around.list.functions e
+    place_stands owner (leaf h) q = local_stands h.op h.ty q
+    place_stands owner (one h a) q =
+        expr_stands a (three_parts (expr_passes around a) (owner_is around owner (type_of a)) (member_place around h.op (type_of a) h.ty) q).0
+    place_stands owner (two h a b) q =
         let x = four_parts (place_passes around owner a) (expr_passes around b) (is_index h.op) (item_is (type_of a) (type_of b) h.ty) q in
-        (place_arguments owner a x.0, expr_arguments b x.1)
-    place_arguments owner (three h c a b) q = absurd (let z : false ≡ true = q in cc)
-    place_arguments owner (many h es) q = absurd (let z : false ≡ true = q in cc)
+        (place_stands owner a x.0, expr_stands b x.1)
+    place_stands owner (three h c a b) q = absurd (let z : false ≡ true = q in cc)
+    place_stands owner (many h es) q = absurd (let z : false ≡ true = q in cc)
 
   -- a place that passes is one
   pub is_place : (owner : Option ℕ) (e : Expr) → place_passes around owner e ≡ true → IsPlace e
@@ -356,7 +364,7 @@ module _ (around : Around) where
       is_place
       (slot_local around.places slot)
       r
-      (three_parts (place_passes around (slot_local around.places slot) r) (exprs_pass around es) (change_is m (is_item_place r) (type_of r) es t) q).0
+      (three_parts (place_passes around (slot_local around.places slot) r) (exprs_pass around es) (change_is m (type_of r) es t) q).0
 
   has_no_receiver : (o : ManyOp) (es : Exprs) → IsNoMethod o → HasReceiver o es
   has_no_receiver (many_is.Method m slot) es apart = absurd apart
@@ -405,7 +413,7 @@ module _ (around : Around) where
     receiver_places : (m : Method) (slot : Option ℕ) (t : Ty) (es : Exprs) → change_passes around m slot t es ≡ true → AllChangePlaces es
     receiver_places m slot t none q = absurd (let z : false ≡ true = q in cc)
     receiver_places m slot t (more r es) q =
-        let x = three_parts (place_passes around (slot_local around.places slot) r) (exprs_pass around es) (change_is m (is_item_place r) (type_of r) es t) q in
+        let x = three_parts (place_passes around (slot_local around.places slot) r) (exprs_pass around es) (change_is m (type_of r) es t) q in
         (place_places (slot_local around.places slot) r x.0, all_places es x.1)
 
     pub place_places : (owner : Option ℕ) (e : Expr) → place_passes around owner e ≡ true → ChangesPlaces e
@@ -546,8 +554,8 @@ module _ (around : Around) where
           expressions.ReceiverFits p shapes (globals_in around) around.places (locals_in around) around.unit (many_is.Method m slot) (kind t) es
       receiver_fits m slot t none q = absurd (let z : false ≡ true = q in cc)
       receiver_fits m slot t (more r es) q =
-          let x = three_parts (place_passes around (slot_local around.places slot) r) (exprs_pass around es) (change_is m (is_item_place r) (type_of r) es t) q in
-          (place_fits (slot_local around.places slot) r x.0, all_fit es x.1, change_fits around p shapes m slot (is_item_place r) r es t x.2)
+          let x = three_parts (place_passes around (slot_local around.places slot) r) (exprs_pass around es) (change_is m (type_of r) es t) q in
+          (place_fits (slot_local around.places slot) r x.0, all_fit es x.1, change_fits around p shapes m slot r es t x.2)
 
       pub place_fits : (owner : Option ℕ) (e : Expr) → place_passes around owner e ≡ true → expressions.PlaceFits p shapes (globals_in around) around.places (locals_in around) around.unit owner e
       place_fits owner (leaf h) q = local_fits h.op h.ty q
@@ -567,7 +575,7 @@ module _ (around : Around) where
         fits = λ p shapes tables. expr_fits p shapes tables e q;
         built = expr_built e q;
         literals = expr_literals e q;
-        arguments = expr_arguments e q;
+        stands = expr_stands e q;
         places = expr_places e q;
       }
 
@@ -577,7 +585,7 @@ module _ (around : Around) where
         fits = λ p shapes tables. all_fit p shapes tables es q;
         built = all_built es q;
         literals = all_literals es q;
-        arguments = all_arguments es q;
+        stands = all_stand es q;
         places = all_places es q;
       }
 
@@ -589,7 +597,7 @@ module _ (around : Around) where
         built = place_built owner e q;
         literals = both.0;
         all_literals = both.1;
-        arguments = place_arguments owner e q;
+        stands = place_stands owner e q;
         places = place_places owner e q;
         place = is_place owner e q;
       }

@@ -148,7 +148,7 @@ module _ (list : Typed) (u : ℕ) (x : TypedUnit) where
       let q = and_parts (expr_passes around e) (member_is_of (slice_get x.members m) (type_of e)) h in
       let v = expr_sound around e q.0 in
       let y = member_of_type m (type_of e) (slice_get x.members m) refl q.1 in
-      record { fits = λ p shapes tables. (v.fits p shapes tables, v.arguments, y); is_built = v.built; is_literal = v.literals }
+      record { fits = λ p shapes tables. (v.fits p shapes tables, v.stands, y); is_built = v.built; is_literal = v.literals }
   own_sound m None h = record { fits = λ p shapes tables. tt; is_built = tt; is_literal = tt }
 
   pub record VariablesGood (vs : List Variable) : Type 0 where

@@ -1,14 +1,14 @@
 -- A list passes where its constants, functions, hooks and units do.
-use Rattle.std.proofs.Common.{◌≡◌, ℕ, false, ◌++◌, Some, None, sym, subst}
-use Rattle.std.specs.Prelude.{slice_get}
+use Rattle.std.proofs.Common.{◌≡◌, ℕ, Bool, true, false, List, ◌++◌, length, Some, None, refl, sym, subst}
+use Rattle.std.specs.Prelude.{slice_get, is_some, if◌then◌else◌}
 use Rattle.sp_methods.specs.Kinds.{Kind}
 use Rattle.sp_typed_units.specs.declared.declarations.Function.{Function}
 use Rattle.sp_typed_units.specs.declared.declarations.Hook.{Hook}
 use Rattle.sp_typed_units.specs.declared.declarations.Typed.{Typed}
 use Rattle.sp_typed_units.specs.declared.declarations.Unit.{Unit as TypedUnit}
 use Rattle.sp_typed_units.specs.Parts.{parts}
-use Rattle.sp_bodies.specs.Globals.{globals_of}
-use Rattle.sp_bodies.specs.Calls.{hook_layout, is_foreach}
+use Rattle.sp_bodies.specs.Globals.{Layout, globals_of}
+use Rattle.sp_bodies.specs.Calls.{hook_layout, has_current, is_foreach}
 use Rattle.sp_bodies.specs.Units.{last_order, module_order}
 use Rattle.sp_code.specs.Machine.{Plain}
 use Rattle.sp_code.specs.Shapes.{Shapes, OfHook}
@@ -16,6 +16,7 @@ use Rattle.sp_code_programs.specs.exprs.Code.{kind_at}
 use Rattle.sp_code_programs.specs.programs.Routines.{hook_unit, slot_kinds, handed_kinds}
 use Rattle.sp_code_programs.specs.programs.Currents.{currents_of}
 use Rattle.sp_code_programs.specs.programs.Whole.{IsProgramOf}
+use Rattle.sp_law_meaning.specs.Standing.{StmtStands}
 use Rattle.sp_law_code.specs.bodies.Fits.{StmtFits}
 use Rattle.sp_law_programs.specs.whole_program.Laws.{MembersAreListed, FunctionsAreEntered, CurrentsAreListed}
 use Rattle.sp_law_programs.specs.whole_program.Fits.{ListFits, UnitFits}
@@ -26,6 +27,18 @@ use Rattle.sp_list_laws.specs.fit_list.Bodies.{FunctionPasses, HookPasses}
 use Rattle.sp_list_laws.specs.fit_list.Units.{UnitPasses}
 use Rattle.sp_list_laws.proofs.fit_list_lemmas.Handed.{handed_nothing, current_listed}
 use Rattle.sp_list_laws.proofs.fit_list_lemmas.Parts.{parts_sound, variables_sound}
+
+-- a layout by whether there is a `$$`
+abbrev layout_by : Bool → ℕ → Layout
+layout_by b n = if b then record { own = 0; current = 0; offset = Some 1; first = 2 } else record { own = n; current = 0; offset = None; first = n }
+
+-- the body of a hook has an offset where it has `$$`
+offset_there : (b : Bool) (n : ℕ) → is_some (layout_by b n).offset ≡ b
+offset_there true n = refl
+offset_there false n = refl
+
+hook_stands : (functions : List Function) (x : Hook) → StmtStands (is_some (hook_layout x).offset) functions x.body → StmtStands (has_current x.of) functions x.body
+hook_stands functions x s = subst (λ b. StmtStands b functions x.body) (offset_there (has_current x.of) (length x.parameters)) s
 
 module _ (members : MembersAreListed) (entered : FunctionsAreEntered) (currents : CurrentsAreListed) (list : Typed) (constants : ConstantsFit list)
     (functions : (f : ℕ) (x : Function) → slice_get list.functions f ≡ Some x → FunctionPasses list x) where
@@ -64,7 +77,7 @@ module _ (members : MembersAreListed) (entered : FunctionsAreEntered) (currents 
           record {
             bodies = record { functions = λ f x is. (functions f x is).fits p shapes t; hooks = λ h x is. hook_fits p shapes t h x is };
             places = record { functions = λ f x is. (functions f x is).places; hooks = λ h x is. (hooks h x is).body.places };
-            arguments = record { functions = λ f x is. (functions f x is).arguments; hooks = λ h x is. (hooks h x is).body.arguments };
+            arguments = record { functions = λ f x is. (functions f x is).stands; hooks = λ h x is. hook_stands list.functions x (hooks h x is).body.stands };
             events = λ h u name x is of. handed_nothing u name x.of x.parameters of (hooks h x is).handed;
             units = λ u x is. unit_fits p shapes t u x is;
           }

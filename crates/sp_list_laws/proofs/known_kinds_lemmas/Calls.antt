@@ -27,7 +27,7 @@ use Rattle.sp_list_laws.proofs.known_types_lemmas.Tests.{Fine, at_first, no_obje
 use Rattle.sp_list_laws.specs.fit_expr.Sorts.{Void, Vectors, Maps, sort_of, same_sort}
 use Rattle.sp_list_laws.specs.fit_expr.Lists.{arguments_are, sorts_are}
 use Rattle.sp_list_laws.specs.fit_expr.Test.{is_sort, vector_of, wanted, gives, simple_is, element_is, map_of, value_is, value_or_is, method_is as method_passes, pushes, pops, change_is, call_is}
-use Rattle.sp_list_laws.specs.known_kinds.Made.{maybe_targeted, are_targeted, given_by, receiver_sort, drops_last}
+use Rattle.sp_list_laws.specs.known_kinds.Made.{maybe_targeted, are_targeted, given_by, receiver_sort}
 use Rattle.sp_list_laws.proofs.known_kinds_lemmas.Types.{sort_itself, either}
 use Rattle.sp_list_laws.proofs.known_kinds_lemmas.Values.{no_regex_value, seen_is, full_type, not_unknown, turned, key_same, not_true, and_false, Valued}
 
@@ -218,11 +218,11 @@ pushes_so t s (more e none) q f own a =
     and_from (vector_of s (type_of e)) (is_sort t Void) (vector_so s (type_of e) q f (turned (element s) (type_of e) p)) (subst (λ u. is_sort u Void ≡ true) (sym (same_is t nothing own)) refl)
 pushes_so t s (more e (more x es)) q f own a = never (and_parts (same (element s) (type_of e)) false a).1
 
-pops_so : (on_item : Bool) (t s : Ty) (es : Exprs) → not on_item ≡ true → is_sort s Vectors ≡ true → is_full s ≡ true → same t (element s) ≡ true → types_are [] es ≡ true → pops on_item s es t ≡ true
-pops_so on_item t s none free q f own a = and_from (not on_item) (vector_of s t) free (vector_so s t q f own)
-pops_so on_item t s (more e es) free q f own a = never a
+pops_so : (t s : Ty) (es : Exprs) → is_sort s Vectors ≡ true → is_full s ≡ true → same t (element s) ≡ true → types_are [] es ≡ true → pops s es t ≡ true
+pops_so t s none q f own a = vector_so s t q f own
+pops_so t s (more e es) q f own a = never a
 
-pub change_so : (m : Method) (on_item : Bool) (t s : Ty) (es : Exprs) → changes m ≡ true → not (drops_last m && on_item) ≡ true → is_sort s (receiver_sort m) ≡ true → is_full s ≡ true → same t (method_gives m s) ≡ true → types_are (method_takes m s) es ≡ true → change_is m on_item s es t ≡ true
-change_so method_is.PushBack on_item t s es c free q f own a = pushes_so t s es q f own a
-change_so method_is.PopBack on_item t s es c free q f own a = pops_so on_item t s es free q f own a
-change_so _ on_item t s es c free q f own a = never c
+pub change_so : (m : Method) (t s : Ty) (es : Exprs) → changes m ≡ true → is_sort s (receiver_sort m) ≡ true → is_full s ≡ true → same t (method_gives m s) ≡ true → types_are (method_takes m s) es ≡ true → change_is m s es t ≡ true
+change_so method_is.PushBack t s es c q f own a = pushes_so t s es q f own a
+change_so method_is.PopBack t s es c q f own a = pops_so t s es q f own a
+change_so _ t s es c q f own a = never c

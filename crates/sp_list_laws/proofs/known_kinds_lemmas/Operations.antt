@@ -34,7 +34,7 @@ use Rattle.sp_body_rules.specs.Known.{Known}
 use Rattle.sp_body_rules.specs.Values.{is_no_value, is_no_object, is_regex, knows, value_goes, written_tests}
 use Rattle.sp_body_rules.specs.ExprTests.{is_unmeant, negates, leaf_tests, one_op_tests, is_past_key, disagree, index_tests, two_op_tests, unlike, choice_tests, all_value_tests, element_tests, elements_tests, row_tests, entries_tests, map_tests, is_convertible, convert_tests, many_op_tests, argument_fits, arguments_fit, changes_leaf, changes_one, is_element, is_place, expr_tests}
 use Rattle.sp_list_rules.specs.Told.{function_takes}
-use Rattle.sp_bodies.specs.Exprs.{offset_local, slot_local, is_self, is_item_place}
+use Rattle.sp_bodies.specs.Exprs.{offset_local, slot_local, is_self}
 use Rattle.sp_emit_expr.specs.declared.rows.Row.TheVariants as row_is
 use Rattle.sp_emit_expr.specs.Many.{kept_in, row_of}
 use Rattle.sp_emit_expr.specs.Literals.{number_behind}
@@ -48,7 +48,7 @@ use Rattle.sp_list_laws.specs.fit_expr.Around.{Around}
 use Rattle.sp_list_laws.specs.fit_expr.Sorts.{Bools, Unsigned, Signed, Bytes, Text, Units, sort_of, takes, is_sized, is_integer as is_integer_sort, casts}
 use Rattle.sp_list_laws.specs.fit_expr.Lists.{part_is, members_are, all_are, are_in_turn}
 use Rattle.sp_list_laws.specs.fit_expr.Test.{is_sort, local_is, two_is_of, three_is, leaf_is_of, one_is_of, one_or_literal, is_enum, has_member, has_range, item_is, tuple_has, tuple_of, vector_with, set_with, map_with, converts, offset_is, call_is, method_is, change_is, member_place, local_place, owner_is, is_index, many_is_of, row_is_of, expr_passes, exprs_pass, change_passes, place_passes}
-use Rattle.sp_list_laws.specs.known_kinds.Made.{is_targeted, element_made, is_even, are_targeted, given_by, receiver_sort, method_made, unit_method_made, many_made, one_made, two_made, leaf_made, is_made, IsAsked, owner_kept, receiver_kept, keeps_owner, is_operator, has_place, is_row, is_built}
+use Rattle.sp_list_laws.specs.known_kinds.Made.{is_targeted, element_made, is_even, are_targeted, given_by, receiver_sort, method_made, unit_method_made, many_made, one_made, two_made, leaf_made, is_made, IsAsked, owner_kept, receiver_kept, keeps_owner, is_operator, is_row, is_built}
 use Rattle.sp_list_laws.specs.known_kinds.Kept.{offset_kept}
 use Rattle.sp_list_laws.proofs.known_kinds_lemmas.Types.{boolean_sort, unsigned_sort, signed_sort, bytes_sort, text_sort, sized_sort, either, operators_take}
 use Rattle.sp_list_laws.proofs.known_kinds_lemmas.Values.{sorted, number_in, minus_in, or_false, has_type, seen_is, full_type, is_asked, asked_so, not_unknown, cast_sorts, widen_sorts, widened_valued, turned, first_part, key_same, integer_sort, no_number, not_true, no_regex, no_regex_value, no_regex_object, and_false, Valued}
@@ -446,9 +446,9 @@ module _ (around : Around) (k : Known) (m : ℕ) where
         let a = arguments_of m (k.target op unknown) (function_takes found) (λ i. asked.target op unknown i) (asked.full f) 0 es fit tests.1 r p.1 in
         and_from (exprs_pass around es) (call_is found es t) (parts a.1) (call_so found t es p.0 full a.0)
 
-    method_call_passes : (call : Method) (slot : Option ℕ) (t : Ty) (span : Span) (r : Expr) (es : Exprs) → has_place call (more r es) ≡ true → method_made call t (more r es) ≡ true → Fine (many_op_tests k m (many_is.Method call slot) span (more r es)) → all_hold is_right (more r es) ≡ true
+    method_call_passes : (call : Method) (slot : Option ℕ) (t : Ty) (span : Span) (r : Expr) (es : Exprs) → method_made call t (more r es) ≡ true → Fine (many_op_tests k m (many_is.Method call slot) span (more r es)) → all_hold is_right (more r es) ≡ true
         → receiver_kept around (many_is.Method call slot) (more r es) ≡ true → (Valued (more r es) → exprs_pass around (more r es) ≡ true) → ReceiverPasses (more r es) → RowPasses (many_is.Method call slot) t (more r es)
-    method_call_passes call slot t span r es built given tests right owner parts place =
+    method_call_passes call slot t span r es given tests right owner parts place =
         let op = many_is.Method call slot in
         let all = more r es in
         let s = type_of r in
@@ -469,9 +469,9 @@ module _ (around : Around) (k : Known) (m : ℕ) where
         λ c.
         (let may = not_so (is_place k r) (both_false (changes call) (not (is_place k r)) tests.1.1.0 c) in
         let kept = slot_local around.places slot in
-        and_from (place_passes around kept r && exprs_pass around es) (change_is call (is_item_place r) s es t)
+        and_from (place_passes around kept r && exprs_pass around es) (change_is call s es t)
         (and_from (place_passes around kept r) (exprs_pass around es) (place may kept owner) (and_parts (expr_passes around r) (exprs_pass around es) each).1)
-        (change_so call (is_item_place r) t s es c built q.0 full q.1 of_types)) in
+        (change_so call t s es c q.0 full q.1 of_types)) in
         method_row call slot (offset_local around.places (is_self all)) (kept_so t all) (change_at t all) (exprs_pass around all && many_is_of around op all t) change_so_far
         (λ c. and_from (exprs_pass around all) (method_is call all t) each (method_so call t r es c q.0 full q.1 of_types))
 
@@ -498,7 +498,7 @@ module _ (around : Around) (k : Known) (m : ℕ) where
         let p = and_parts (argument_fits (k.target op (seen r) 0) e) (arguments_fit (k.target op (seen r)) 1 es) fit in
         never (subst (λ o. argument_fits o e ≡ true) (asked.target op (seen r) 0) p.0)
 
-    many_passes : (op : ManyOp) (t : Ty) (span : Span) (es : Exprs) → is_row op es ≡ true → many_made around op t es ≡ true → Fine (many_op_tests k m op span es) → is_full t ≡ true → all_hold is_right es ≡ true → receiver_kept around op es ≡ true → (Valued es → exprs_pass around es ≡ true) → ReceiverPasses es → RowPasses op t es
+    many_passes : (op : ManyOp) (t : Ty) (span : Span) (es : Exprs) → is_row op ≡ true → many_made around op t es ≡ true → Fine (many_op_tests k m op span es) → is_full t ≡ true → all_hold is_right es ≡ true → receiver_kept around op es ≡ true → (Valued es → exprs_pass around es ≡ true) → ReceiverPasses es → RowPasses op t es
     many_passes many_is.Tuple t span es built given f full r owner parts place = container_passes many_is.Tuple t span es refl given f full r parts
     many_passes many_is.Vector t span es built given f full r owner parts place = container_passes many_is.Vector t span es refl given f full r parts
     many_passes many_is.Set t span es built given f full r owner parts place = container_passes many_is.Set t span es refl given f full r parts
@@ -506,7 +506,7 @@ module _ (around : Around) (k : Known) (m : ℕ) where
     many_passes (many_is.Convert n) t span es built given f full r owner parts place = container_passes (many_is.Convert n) t span es refl given f full r parts
     many_passes (many_is.Call n) t span es built given f full r owner parts place = call_passes n t span es given f full r parts
     many_passes (many_is.Method call slot) t span none built given f full r owner parts place = never given
-    many_passes (many_is.Method call slot) t span (more x es) built given f full r owner parts place = method_call_passes call slot t span x es built given f r owner parts place
+    many_passes (many_is.Method call slot) t span (more x es) built given f full r owner parts place = method_call_passes call slot t span x es given f r owner parts place
     many_passes (many_is.OfUnit unit_is.Offset name) t span es built given f full r owner parts place = offset_passes name t span es given f parts
     many_passes (many_is.OfUnit _ name) t span es built given f full r owner parts place = never built
     many_passes _ t span es built given f full r owner parts place = never built

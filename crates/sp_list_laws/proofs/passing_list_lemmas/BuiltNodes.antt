@@ -5,8 +5,6 @@ use Rattle.std.proofs.Common.{◌≡◌, refl, sym, ◌∙◌}
 use Rattle.std.proofs.lemmas.Bool.{and_parts, and_from}
 use Rattle.sp_base.specs.declared.places.Span.{Span}
 use Rattle.sp_words.specs.declared.methods.Method.{Method}
-use Rattle.sp_words.specs.declared.methods.Method.TheVariants as method_is
-use Rattle.sp_words.specs.Methods.{changes}
 use Rattle.sp_types.specs.declared.words.Word.TheVariants as word_is
 use Rattle.sp_types.specs.Types.{Ty, word, made}
 use Rattle.sp_typed.specs.declared.heads.Two.{Two}
@@ -24,23 +22,21 @@ use Rattle.sp_typed.specs.Exprs.{Expr, Exprs, leaf, one, two, three, many, none,
 use Rattle.sp_typed.specs.Nodes.{word_one, word_many, holds, all_hold}
 use Rattle.sp_typed.specs.Stmts.{Stmt, Stmts, Branches, Cases, bare, valued, assign, print, block, branch, while_loop, for_loop, switch, no_stmts, more_stmts, no_branches, more_branches, no_cases, more_cases}
 use Rattle.sp_typed.specs.StmtNodes.{stmts_in, stmts_in_all, stmts_in_branches, stmts_in_cases, nodes_hold, stmts_hold, branches_hold, cases_hold}
-use Rattle.sp_typing_stmts.specs.Owners.{is_index}
 use Rattle.sp_body_rules.specs.Known.{Known}
 use Rattle.sp_body_rules.specs.Values.{is_new, is_void, is_sink, is_no_value, is_no_object, written_tests}
 use Rattle.sp_operands.specs.Operands.{is_valueless}
-use Rattle.sp_body_rules.specs.ExprTests.{one_op_tests, two_op_tests, all_value_tests, elements_tests, entries_tests, argument_tests, is_element, is_place, many_op_tests}
+use Rattle.sp_body_rules.specs.ExprTests.{one_op_tests, two_op_tests, all_value_tests, elements_tests, entries_tests, argument_tests, many_op_tests}
 use Rattle.sp_body_rules.specs.StmtTests.{local_tests, return_tests, change_tests, valued_op_tests, print_tests, branches_tests, case_tests, cases_tests}
-use Rattle.sp_bodies.specs.Exprs.{is_item_place}
 use Rattle.sp_list_laws.specs.known_types.Full.{is_full, is_right, is_bare, holds_inside}
 use Rattle.sp_list_laws.specs.known_types.Clear.{is_clear, any_op}
 use Rattle.sp_list_laws.specs.known_types.Stmts.{is_good, takes_key, each_holds, exprs_hold, all_exprs_hold, branch_exprs_hold, case_exprs_hold}
 use Rattle.sp_list_laws.proofs.known_types_lemmas.Full.{never}
 use Rattle.sp_list_laws.proofs.known_types_lemmas.Tests.{Fine, fine_parts, is_whole, at_first, first_fine}
 use Rattle.sp_list_laws.proofs.known_types_lemmas.Bodies.{Quiet, two_quiet, at_first as first_tests, behind}
-use Rattle.sp_list_laws.specs.known_kinds.Made.{is_operator, drops_last, is_row, is_built}
+use Rattle.sp_list_laws.specs.known_kinds.Made.{is_operator, is_row, is_built}
 use Rattle.sp_list_laws.proofs.known_kinds_lemmas.Values.{has_type, not_true, and_false}
 use Rattle.sp_list_laws.specs.known_statements.Built.{stmt_built, stmts_built, branches_built, cases_built}
-use Rattle.sp_list_laws.proofs.passing_list_lemmas.Early.{early_one, is_item, early_many, is_early, stmt_early, stmts_early, branches_early, cases_early}
+use Rattle.sp_list_laws.proofs.passing_list_lemmas.Early.{early_one, early_many, is_early, stmt_early, stmts_early, branches_early, cases_early}
 
 -- what has a value is no `new`
 valued_new : (t : Ty) → is_valueless t ≡ false → is_new t ≡ false
@@ -88,16 +84,16 @@ abbrev is_start : Expr → Bool
 is_start (many h es) = starts h.op
 is_start e = false
 
-no_start : (op : ManyOp) (t : Ty) (es : Exprs) → early_many op t es ≡ true → is_new t ≡ false → starts op ≡ false
-no_start (many_is.New of path) t es early new = never (sym new ∙ early)
-no_start _ t es early new = refl
+no_start : (op : ManyOp) (t : Ty) → early_many op t ≡ true → is_new t ≡ false → starts op ≡ false
+no_start (many_is.New of path) t early new = never (sym new ∙ early)
+no_start _ t early new = refl
 
 unstarted : (e : Expr) → holds is_early e ≡ true → is_new (type_of e) ≡ false → is_start e ≡ false
 unstarted (leaf h) early new = refl
 unstarted (one h a) early new = refl
 unstarted (two h a b) early new = refl
 unstarted (three h c a b) early new = refl
-unstarted (many h es) early new = no_start h.op h.ty es (at_first is_early (many h es) early) new
+unstarted (many h es) early new = no_start h.op h.ty (at_first is_early (many h es) early) new
 
 module _ (k : Known) (m : ℕ) where
   abbrev clear : Expr → Bool
@@ -120,7 +116,7 @@ module _ (k : Known) (m : ℕ) where
   arguments_new none f = tt
   arguments_new (more e es) f = (no_new e (and_false (is_no_value e) f.0), arguments_new es f.1)
 
-  parts_new : (op : ManyOp) (t : Ty) (span : Span) (es : Exprs) → early_many op t es ≡ true → Fine (many_op_tests k m op span es) → NoNews es
+  parts_new : (op : ManyOp) (t : Ty) (span : Span) (es : Exprs) → early_many op t ≡ true → Fine (many_op_tests k m op span es) → NoNews es
   parts_new many_is.Tuple t span es early f = values_new es f
   parts_new many_is.Vector t span none early f = tt
   parts_new many_is.Vector t span (more e es) early f = elements_new false e (more e es) f
@@ -160,23 +156,6 @@ module _ (k : Known) (m : ℕ) where
   two_new two_is.Index a b f = (no_new a f.0, no_new b f.1.1.0)
   two_new (two_is.Item n) a b f = (no_new a f.0, no_new b f.1.1.0)
 
-  -- what is dropped from a place that may be changed is no element
-  no_element : (op : TwoOp) (t : Ty) (b : Bool) → not (is_index op) ≡ true → not (is_element op t && b) ≡ false → false ≡ true
-  no_element two_is.Index t b early change = early
-  no_element (two_is.Binary op) t b early change = sym change
-  no_element (two_is.Item n) t b early change = sym change
-
-  last_place : (r : Expr) → not (is_item r) ≡ true → not (is_place k r) ≡ false → not (is_item_place r) ≡ true
-  last_place (leaf h) early change = refl
-  last_place (one h a) early change = refl
-  last_place (two h a b) early change = no_element h.op (type_of a) (is_place k a) early change
-  last_place (three h c a b) early change = refl
-  last_place (many h es) early change = refl
-
-  keeps_place : (method : Method) (r : Expr) → not (drops_last method && is_item r) ≡ true → (changes method && not (is_place k r)) ≡ false → not (drops_last method && is_item_place r) ≡ true
-  keeps_place method_is.PopBack r early change = last_place r early change
-  keeps_place _ r early change = refl
-
   -- nodes
   one_built : (op : OneOp) (a : Expr) → early_one op a ≡ true → not (word_one op) ≡ true → is_operator op ≡ true
   one_built (one_is.SinkOf n) a early right = never early
@@ -192,7 +171,7 @@ module _ (k : Known) (m : ℕ) where
   one_built (one_is.Bit n) a early right = refl
   one_built (one_is.IsSet n) a early right = refl
 
-  many_built : (op : ManyOp) (t : Ty) (span : Span) (es : Exprs) → early_many op t es ≡ true → not (word_many op) ≡ true → starts op ≡ false → Fine (many_op_tests k m op span es) → is_row op es ≡ true
+  many_built : (op : ManyOp) (t : Ty) (span : Span) (es : Exprs) → early_many op t ≡ true → not (word_many op) ≡ true → starts op ≡ false → Fine (many_op_tests k m op span es) → is_row op ≡ true
   many_built many_is.Tuple t span es early right start f = refl
   many_built many_is.Vector t span es early right start f = refl
   many_built many_is.Set t span es early right start f = refl
@@ -200,8 +179,7 @@ module _ (k : Known) (m : ℕ) where
   many_built (many_is.Call n) t span es early right start f = refl
   many_built (many_is.Convert n) t span es early right start f = refl
   many_built (many_is.New of path) t span es early right start f = never (sym start)
-  many_built (many_is.Method method slot) t span none early right start f = refl
-  many_built (many_is.Method method slot) t span (more r es) early right start f = keeps_place method r early f.1.1.0
+  many_built (many_is.Method method slot) t span es early right start f = refl
   many_built (many_is.OfUnit method name) t span es early right start f = early
   many_built (many_is.OfSink method) t span es early right start f = never early
   many_built many_is.NoCall t span es early right start f = never right
@@ -244,12 +222,12 @@ module _ (k : Known) (m : ℕ) where
         and_from (holds is_built c) (holds is_built a && holds is_built b) (expr_built c i.0 u.0 z.0 (unstarted c i.0 (no_new c f.0)))
         (and_from (holds is_built a) (holds is_built b) (expr_built a j.0 v.0 w.0 (unstarted a j.0 (no_new a f.1.1.1.0))) (expr_built b j.1 v.1 w.1 (unstarted b j.1 (no_new b f.1.1.1.1.1.0))))
     expr_built (many h es) early c right start =
-        let i = and_parts (early_many h.op h.ty es) (all_hold is_early es) early in
+        let i = and_parts (early_many h.op h.ty) (all_hold is_early es) early in
         let x = and_parts (clear (many h es)) (all_hold clear es) c in
         let y = and_parts (is_right (many h es)) (all_hold is_right es) right in
         let own = and_parts (not (word_many h.op)) (is_full h.ty) y.0 in
         let f = first_fine any_op k m (many h es) c in
-        and_from (is_row h.op es) (all_hold is_built es) (many_built h.op h.ty h.span es i.0 own.0 start f) (all_built es i.1 x.1 y.1 (parts_new h.op h.ty h.span es i.0 f))
+        and_from (is_row h.op) (all_hold is_built es) (many_built h.op h.ty h.span es i.0 own.0 start f) (all_built es i.1 x.1 y.1 (parts_new h.op h.ty h.span es i.0 f))
 
     all_built : (es : Exprs) → all_hold is_early es ≡ true → all_hold clear es ≡ true → all_hold is_right es ≡ true → NoNews es → all_hold is_built es ≡ true
     all_built none early c right new = refl

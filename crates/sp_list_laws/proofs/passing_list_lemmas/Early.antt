@@ -1,7 +1,6 @@
--- Nodes that stand in a tree in which all is built, whatever rules are broken there: no sinks, no methods that aren't built, and no
--- `pop_back` of an element. A `new` has its own type, and what has that type is never widened.
-use Rattle.std.specs.Prelude.{ℕ, ◌≡◌, Bool, true, false, not, ◌&&◌, ◌||◌, List, Some, codes}
-use Rattle.std.specs.Str.{bytes_eq}
+-- Nodes that stand in a tree in which all is built, whatever rules are broken there: no sinks, and no methods that aren't built. A `new`
+-- has its own type, and what has that type is never widened.
+use Rattle.std.specs.Prelude.{ℕ, ◌≡◌, Bool, true, false, not, ◌&&◌, ◌||◌, List, Some}
 use Rattle.sp_base.specs.declared.places.Span.{Span}
 use Rattle.sp_ast.specs.Trees.{Tree}
 use Rattle.sp_types.specs.Types.{Ty}
@@ -9,17 +8,15 @@ use Rattle.sp_typed.specs.declared.words.OneOp.{OneOp}
 use Rattle.sp_typed.specs.declared.words.OneOp.TheVariants as one_is
 use Rattle.sp_typed.specs.declared.words.ManyOp.{ManyOp}
 use Rattle.sp_typed.specs.declared.words.ManyOp.TheVariants as many_is
-use Rattle.sp_typed.specs.Exprs.{Expr, Exprs, leaf, one, two, three, many, none, more, exprs, type_of}
+use Rattle.sp_typed.specs.Exprs.{Expr, leaf, one, two, three, many, exprs, type_of}
 use Rattle.sp_typed.specs.Nodes.{holds, all_hold}
 use Rattle.sp_typed.specs.Stmts.{Stmt, Stmts, Branches, Cases, bare, valued, assign, print, block, branch, while_loop, for_loop, switch, no_stmts, more_stmts, no_branches, more_branches, no_cases, more_cases}
 use Rattle.sp_typing.specs.declared.context.Member.{Member}
 use Rattle.sp_typing.specs.declared.context.Callable.{Callable}
 use Rattle.sp_typing.specs.Contexts.{Around}
-use Rattle.sp_typing_stmts.specs.Owners.{is_index}
 use Rattle.sp_body_rules.specs.Values.{is_new}
 use Rattle.sp_unbuilt.specs.Constructs.{is_late_unit_method, is_sink_method}
-use Rattle.sp_words.specs.declared.methods.Method.{Method}
-use Rattle.sp_list_laws.specs.known_kinds.Made.{drops_last, is_offset}
+use Rattle.sp_list_laws.specs.known_kinds.Made.{is_offset}
 use Rattle.sp_list_laws.specs.known_statements.Built.{is_built_bare}
 
 abbrev pub early_one : OneOp → Expr → Bool
@@ -27,28 +24,18 @@ early_one (one_is.SinkOf n) a = false
 early_one one_is.Widen a = not (is_new (type_of a))
 early_one op a = true
 
--- an element of a container
-abbrev pub is_item : Expr → Bool
-is_item (two h a b) = is_index h.op
-is_item e = false
-
-abbrev pub keeps_item : Method → Exprs → Bool
-keeps_item m none = true
-keeps_item m (more r es) = not (drops_last m && is_item r)
-
-abbrev pub early_many : ManyOp → Ty → Exprs → Bool
-early_many (many_is.New of path) t es = is_new t
-early_many (many_is.Method m slot) t es = keeps_item m es
-early_many (many_is.OfUnit m name) t es = is_offset m
-early_many (many_is.OfSink m) t es = false
-early_many op t es = true
+abbrev pub early_many : ManyOp → Ty → Bool
+early_many (many_is.New of path) t = is_new t
+early_many (many_is.OfUnit m name) t = is_offset m
+early_many (many_is.OfSink m) t = false
+early_many op t = true
 
 abbrev pub is_early : Expr → Bool
 is_early (leaf h) = true
 is_early (one h a) = early_one h.op a
 is_early (two h a b) = true
 is_early (three h c a b) = true
-is_early (many h es) = early_many h.op h.ty es
+is_early (many h es) = early_many h.op h.ty
 
 -- statements of such nodes, none of which isn't built
 abbrev mutual
@@ -89,7 +76,7 @@ is_early_member op = false
 
 -- a method that isn't built has the name of one
 abbrev pub is_called_so : List ℕ → ManyOp → Bool
-is_called_so x (many_is.Method m slot) = not (drops_last m) || bytes_eq x (codes "pop_back")
+is_called_so x (many_is.Method m slot) = true
 is_called_so x (many_is.OfUnit m name) = is_offset m || is_late_unit_method x
 is_called_so x (many_is.OfSink m) = is_sink_method x
 is_called_so x op = false

@@ -1,6 +1,5 @@
 -- What is typed of a tree in which all is built has no late node, whatever rules are broken in it.
-use Rattle.std.specs.Prelude.{ℕ, suc, Bool, true, false, not, ◌&&◌, ◌||◌, if◌then◌else◌, cond, List, [], ◌∷◌, ◌++◌, map, length, Option, Some, None, codes}
-use Rattle.std.specs.Str.{bytes_eq}
+use Rattle.std.specs.Prelude.{ℕ, suc, Bool, true, false, not, ◌&&◌, ◌||◌, if◌then◌else◌, cond, List, [], ◌∷◌, ◌++◌, map, length, Option, Some, None}
 use Rattle.std.proofs.Common.{◌≡◌, refl, sym, subst, ◌∙◌}
 use Rattle.std.proofs.lemmas.Bool.{and_parts, and_from}
 use Rattle.sp_base.specs.declared.places.Span.{Span}
@@ -30,15 +29,14 @@ use Rattle.sp_operands.specs.Literals.{can_take, taken, is_negative, seen, is_pa
 use Rattle.sp_typing.specs.declared.context.Member.{Member}
 use Rattle.sp_typing.specs.declared.context.Callable.{Callable}
 use Rattle.sp_typing.specs.Contexts.{Around}
-use Rattle.sp_typing.specs.Typing.{typed, typed_all, pairs_typed, name_of, one_at, widened, to_target, to_maybe, each_to, alike, agreeing, leading, leading_half, in_turn, unary_at, joined, is_membership, binary_at, choice_at, member_at, set_op, set_member_at, part_at, item_of, item_at, index_at, no_call, callee_op, call_by, call_at, method_of, started, new_by, new_at}
+use Rattle.sp_typing.specs.Typing.{typed, typed_all, pairs_typed, name_of, one_at, widened, to_target, to_maybe, each_to, alike, agreeing, leading, leading_half, in_turn, unary_at, joined, is_membership, binary_at, choice_at, member_at, set_op, set_member_at, part_at, item_of, item_at, index_at, no_call, callee_op, call_by, call_at, method_of, started, new_by}
 use Rattle.sp_body_rules.specs.Values.{is_new}
-use Rattle.sp_unbuilt.specs.Constructs.{is_late_unit_method, is_sink_method, is_late_method, text_of, is_index, pops_inside, tests_at}
+use Rattle.sp_unbuilt.specs.Constructs.{is_late_unit_method, is_sink_method, is_late_method, text_of, tests_at}
 use Rattle.sp_unbuilt.specs.Unbuilt.{tests_in, tests_among}
 use Rattle.sp_list_laws.proofs.known_types_lemmas.Full.{never}
 use Rattle.sp_list_laws.proofs.known_members_lemmas.Built.{nothing, two_parts}
-use Rattle.sp_list_laws.specs.known_kinds.Made.{drops_last, is_offset}
-use Rattle.sp_list_laws.proofs.made_nodes_lemmas.Shapes.{call_holds, start_holds}
-use Rattle.sp_list_laws.proofs.passing_list_lemmas.Early.{early_one, is_item, early_many, is_early, is_leaf, is_early_member, is_called_so, AreEarly}
+use Rattle.sp_list_laws.specs.known_kinds.Made.{is_offset}
+use Rattle.sp_list_laws.proofs.passing_list_lemmas.Early.{early_one, early_many, is_early, is_leaf, is_early_member, is_called_so, AreEarly}
 
 -- a tree, or some, in which nothing isn't built
 module _ (text : List ℕ) (m : ℕ) where
@@ -227,36 +225,28 @@ same_text (node _ span ts) = refl
 same_text absent = refl
 same_text (row ts) = refl
 
--- whether a part or another one is false where one of two isn't true
-neither : (a b : Bool) → not (a || b) ≡ true → (a ≡ false) × (b ≡ false)
-neither true b h = never h
-neither false true h = never h
-neither false false h = (refl, refl)
+not_true : (b : Bool) → not b ≡ true → b ≡ false
+not_true true h = never h
+not_true false h = refl
 
--- a method that is called isn't late where its name isn't, and drops no last element of an element
+-- a method that is called isn't late where its name isn't
 other_one : (a b : Bool) → (a || b) ≡ true → b ≡ false → a ≡ true
 other_one true b h none_else = refl
 other_one false b h none_else = never (sym none_else ∙ h)
 
-no_drop : (drops item pops index : Bool) → (not drops || pops) ≡ true → (index && pops) ≡ false → (item ≡ true → index ≡ true) → not (drops && item) ≡ true
-no_drop false item pops index called apart from = refl
-no_drop true false pops index called apart from = refl
-no_drop true true pops index called apart from = never (sym apart ∙ and_from index pops (from refl) called)
-
-called_early : (op : ManyOp) (t : Ty) (x : List ℕ) (object : Expr) (es : List Expr) (index : Bool) → is_called_so x op ≡ true → is_late_method x ≡ false → (index && bytes_eq x (codes "pop_back")) ≡ false → (is_item object ≡ true → index ≡ true)
-    → early_many op t (exprs (object ∷ es)) ≡ true
-called_early (many_is.Method m slot) t x object es index called late pops from = no_drop (drops_last m) (is_item object) (bytes_eq x (codes "pop_back")) index called pops from
-called_early (many_is.OfUnit m name) t x object es index called late pops from = other_one (is_offset m) (is_late_unit_method x) called (first_of (is_late_unit_method x) (is_sink_method x) late)
+called_early : (op : ManyOp) (t : Ty) (x : List ℕ) → is_called_so x op ≡ true → is_late_method x ≡ false → early_many op t ≡ true
+called_early (many_is.Method m slot) t x called late = refl
+called_early (many_is.OfUnit m name) t x called late = other_one (is_offset m) (is_late_unit_method x) called (first_of (is_late_unit_method x) (is_sink_method x) late)
   where
     first_of : (a b : Bool) → (a || b) ≡ false → a ≡ false
     first_of true b h = never (sym h)
     first_of false b h = refl
-called_early (many_is.OfSink m) t x object es index called late pops from = never (sym (second_of (is_late_unit_method x) (is_sink_method x) late) ∙ called)
+called_early (many_is.OfSink m) t x called late = never (sym (second_of (is_late_unit_method x) (is_sink_method x) late) ∙ called)
   where
     second_of : (a b : Bool) → (a || b) ≡ false → b ≡ false
     second_of true b h = never (sym h)
     second_of false b h = h
-called_early _ t x object es index called late pops from = never called
+called_early _ t x called late = never called
 
 module _ (g : Around) (early : AreEarly g) where
   found_early : (span name : Span) (t : Ty) (x : List ℕ) (o : Option Member) (e : Expr) → ((found : Member) → o ≡ Some found → g.member t x ≡ Some found) → Early e → Early (member_at span name o e)
@@ -298,95 +288,23 @@ module _ (g : Around) (early : AreEarly g) where
   new_early span path None callee es i j = no_call_early span callee es i j
   new_early span path (Some u) callee es i j = each_early (g.target (many_is.New u path) (word word_is.Unknown)) 0 es j
 
-  method_early : (span member at : Span) (x : List ℕ) (o : Option Callable) (object : Expr) (es : List Expr) (index : Bool) → ((found : Callable) → o ≡ Some found → is_called_so x found.op ≡ true) → is_late_method x ≡ false
-      → (index && bytes_eq x (codes "pop_back")) ≡ false → (is_item object ≡ true → index ≡ true) → Early object → AllEarly es → Early (method_of g span member at o object es)
-  method_early span member at x None object es index called late pops from i j = no_call_early span (one_at member (word word_is.Unknown) (one_is.NoMember at) object) es i j
-  method_early span member at x (Some m) object es index called late pops from i j =
+  method_early : (span member at : Span) (x : List ℕ) (o : Option Callable) (object : Expr) (es : List Expr) → ((found : Callable) → o ≡ Some found → is_called_so x found.op ≡ true) → is_late_method x ≡ false
+      → Early object → AllEarly es → Early (method_of g span member at o object es)
+  method_early span member at x None object es called late i j = no_call_early span (one_at member (word word_is.Unknown) (one_is.NoMember at) object) es i j
+  method_early span member at x (Some m) object es called late i j =
       let taken_as = each_to (g.target m.op (seen object)) 0 es in
       let left = g.left_out m.op span (length es) in
-      and_from (early_many m.op m.ty (exprs (object ∷ (taken_as ++ left)))) (all_hold is_early (exprs (object ∷ (taken_as ++ left)))) (called_early m.op m.ty x object (taken_as ++ left) index (called m refl) late pops from)
+      and_from (early_many m.op m.ty) (all_hold is_early (exprs (object ∷ (taken_as ++ left)))) (called_early m.op m.ty x (called m refl) late)
       (more_early object (taken_as ++ left) i (both_early taken_as left (each_early (g.target m.op (seen object)) 0 es j) (early.left_out m.op span (length es))))
-
-  -- no tree is an element but one of an index
-  leaf_item : (e : Expr) → is_leaf e ≡ true → is_item e ≡ true → false ≡ true
-  leaf_item (leaf h) is item = item
-  leaf_item (one h a) is item = item
-  leaf_item (two h a b) is item = is
-  leaf_item (three h c a b) is item = item
-  leaf_item (many h es) is item = item
-
-  binary_item : (span : Span) (op : BinaryOp) (a b : Expr) → is_item (binary_at span op a b) ≡ true → false ≡ true
-  binary_item span op a b item = by (is_membership (sort_of op)) item
-    where
-      by : (c : Bool) → is_item (if c then joined span op (to_target (key_of (seen b)) a) b else joined span op (agreeing a b).0 (agreeing a b).1) ≡ true → false ≡ true
-      by true h = h
-      by false h = h
-
-  member_item : (span name : Span) (o : Option Member) (e : Expr) → is_item (member_at span name o e) ≡ true → false ≡ true
-  member_item span name None e item = item
-  member_item span name (Some m) e item = item
-
-  set_member_item : (span name : Span) (o : Option Member) (e : Expr) → is_item (set_member_at span name o e) ≡ true → false ≡ true
-  set_member_item span name None e item = item
-  set_member_item span name (Some m) e item = item
-
-  method_item : (span member at : Span) (o : Option Callable) (object : Expr) (es : List Expr) → is_item (method_of g span member at o object es) ≡ true → false ≡ true
-  method_item span member at None object es item = item
-  method_item span member at (Some m) object es item = item
-
-  no_item : (b : Bool) → not b ≡ true → b ≡ true → false ≡ true
-  no_item true h item = h
-  no_item false h item = item
-
-  call_item : (span : Span) (callee : Expr) (es : List Expr) → is_item (call_at g span callee es) ≡ true → false ≡ true
-  call_item span callee es item = no_item (is_item (call_at g span callee es)) (call_holds (λ e. not (is_item e)) g (λ h fs. refl) span callee es) item
-
-  new_item : (span path : Span) (callee : Expr) (es : List Expr) → is_item (new_at g span path callee es) ≡ true → false ≡ true
-  new_item span path callee es item = no_item (is_item (new_at g span path callee es)) (start_holds (λ e. not (is_item e)) g (λ h fs. refl) span path callee es) item
-
-  index_tree : (t : Tree) → is_item (typed g t) ≡ true → is_index t ≡ true
-  index_tree (node (form_is.Expr expr_is.Index) span ts) item = refl
-  index_tree (node (form_is.Expr expr_is.Path) span (more path none)) item = never (leaf_item (g.path span path) (early.path span path) item)
-  index_tree (node (form_is.Expr expr_is.Itself) span none) item = never (leaf_item (g.itself span) (early.itself span) item)
-  index_tree (node (form_is.Expr expr_is.Current) span none) item = never (leaf_item (g.current span) (early.current span) item)
-  index_tree (node (form_is.Expr expr_is.New) span (more path (more (row ts) none))) item = never (new_item span (read.span_of path) (g.named (read.span_of path) path) (typed_all g ts) item)
-  index_tree (node (form_is.Expr expr_is.Member) span (more e (more name none))) item = never (member_item span (read.span_of name) (g.member (seen (typed g e)) (name_of name)) (typed g e) item)
-  index_tree (node (form_is.Expr expr_is.SetMember) span (more e (more name none))) item = never (set_member_item span (read.span_of name) (g.member (seen (typed g e)) (name_of name)) (typed g e) item)
-  index_tree (node (form_is.Expr expr_is.Call) span (more (node (form_is.Expr expr_is.Member) member (more e (more name none))) (more (row ts) none))) item =
-      never (method_item span member (read.span_of name) (g.method (seen (typed g e)) (name_of name) (read.span_of name) (map seen (typed_all g ts))) (typed g e) (typed_all g ts) item)
-  index_tree (node (form_is.Expr expr_is.Call) span (more callee (more (row ts) none))) item = never (call_item span (typed g callee) (typed_all g ts) item)
-  index_tree (node (form_is.Expr (expr_is.Binary op)) span (more a (more b none))) item = never (binary_item span op (typed g a) (typed g b) item)
-  index_tree (node (form_is.Expr (expr_is.Unary unary_is.Not)) span (more e none)) item = never item
-  index_tree (node (form_is.Expr (expr_is.Unary unary_is.Negate)) span (more e none)) item = never item
-  index_tree (node (form_is.Expr (expr_is.Unary unary_is.Complement)) span (more e none)) item = never item
-  index_tree (node (form_is.Expr expr_is.True) span none) item = never item
-  index_tree (node (form_is.Expr expr_is.False) span none) item = never item
-  index_tree (node (form_is.Expr (expr_is.Number n)) span none) item = never item
-  index_tree (node (form_is.Expr (expr_is.String x)) span none) item = never item
-  index_tree (node (form_is.Expr (expr_is.Bytes x)) span none) item = never item
-  index_tree (node (form_is.Expr (expr_is.Regex x)) span none) item = never item
-  index_tree (node (form_is.Expr expr_is.Tuple) span ts) item = never item
-  index_tree (node (form_is.Expr expr_is.Vector) span ts) item = never item
-  index_tree (node (form_is.Expr expr_is.Set) span ts) item = never item
-  index_tree (node (form_is.Expr expr_is.Map) span ts) item = never item
-  index_tree (node (form_is.Expr expr_is.EmptyVector) span (more t none)) item = never item
-  index_tree (node (form_is.Expr expr_is.EmptySet) span (more t none)) item = never item
-  index_tree (node (form_is.Expr expr_is.EmptyMap) span (more s (more t none))) item = never item
-  index_tree (node (form_is.Expr (expr_is.TypedNumber w)) span (more n none)) item = never item
-  index_tree (node (form_is.Expr expr_is.Cast) span (more t (more e none))) item = never item
-  index_tree (node (form_is.Expr expr_is.Size) span (more e none)) item = never item
-  index_tree (node (form_is.Expr expr_is.Choice) span (more c (more a (more b none)))) item = never item
-  index_tree _ item = never item
 
   module _ (text : List ℕ) (m : ℕ) where
     -- the tests of a call
     method_named : (span member : Span) (e name : Tree) (ts : Trees) → Fine text m (node (form_is.Expr expr_is.Call) span (more (node (form_is.Expr expr_is.Member) member (more e (more name none))) ts))
-        → (is_late_method (name_of name) ≡ false) × ((is_index e && bytes_eq (name_of name) (codes "pop_back")) ≡ false)
+        → is_late_method (name_of name) ≡ false
     method_named span member e name ts h =
         let us = more (node (form_is.Expr expr_is.Member) member (more e (more name none))) ts in
         let own = (two_parts (tests_at text m (node (form_is.Expr expr_is.Call) span us)) (tests_among text m us) h).0 in
-        subst (λ x. (is_late_method x ≡ false) × ((is_index e && bytes_eq x (codes "pop_back")) ≡ false)) (same_text name)
-        (neither (is_late_method (text_of name)) (pops_inside e (text_of name)) (and_parts (not (is_late_method (text_of name) || pops_inside e (text_of name))) true own).0)
+        subst (λ x. is_late_method x ≡ false) (same_text name) (not_true (is_late_method (text_of name)) (and_parts (not (is_late_method (text_of name))) true own).0)
 
     mutual
       -- What is typed.
@@ -433,8 +351,8 @@ module _ (g : Around) (early : AreEarly g) where
           let q = inside text m (form_is.Expr expr_is.Call) span us h in
           let o = inside text m (form_is.Expr expr_is.Member) member (more e (more name none)) (first text m (node (form_is.Expr expr_is.Member) member (more e (more name none))) (more (row ts) none) q) in
           let so = method_named span member e name (more (row ts) none) h in
-          method_early span member at (name_of name) (g.method (seen (typed g e)) (name_of name) at (map seen (typed_all g ts))) (typed g e) (typed_all g ts) (is_index e) (λ found is. early.method (seen (typed g e)) (name_of name) at (map seen (typed_all g ts)) found is) so.0 so.1
-          (index_tree e) (typed_early e (first text m e (more name none) o)) (all_early ts (second text m (node (form_is.Expr expr_is.Member) member (more e (more name none))) (row ts) none q))
+          method_early span member at (name_of name) (g.method (seen (typed g e)) (name_of name) at (map seen (typed_all g ts))) (typed g e) (typed_all g ts) (λ found is. early.method (seen (typed g e)) (name_of name) at (map seen (typed_all g ts)) found is) so
+          (typed_early e (first text m e (more name none) o)) (all_early ts (second text m (node (form_is.Expr expr_is.Member) member (more e (more name none))) (row ts) none q))
       typed_early (node (form_is.Expr expr_is.Call) span (more callee (more (row ts) none))) h =
           let q = inside text m (form_is.Expr expr_is.Call) span (more callee (more (row ts) none)) h in
           call_early span (typed g callee) (typed_all g ts) (typed_early callee (first text m callee (more (row ts) none) q)) (all_early ts (second text m callee (row ts) none q))

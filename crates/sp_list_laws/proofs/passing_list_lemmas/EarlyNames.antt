@@ -42,14 +42,14 @@ use Rattle.sp_typing_stmts.specs.Visible.{found_maybe, local_or, with_locals}
 use Rattle.sp_typing.specs.Names.{single_name}
 use Rattle.sp_surroundings.specs.Parameters.{numbered_maybe, parameter_at, parameter_leaf, or_outside, with_parameters}
 use Rattle.sp_around.specs.Members.{UnitMember, field_member, named_in, named_among, is_called, firsts, unit_items, members_of, unit_in, declared_unit, unit_declaration, unit_members, numbered, kinds_of, range_number, bitfield_width, bitfield_tree}
-use Rattle.sp_method_types.specs.Methods.{told, by_order, begins_with_order, bytes_methods, text_methods, vector_methods, are_two, get_method, map_methods, method_gives, unit_methods, unit_method_gives, sink_methods, library_call, unit_call, sink_call, method_of, base_ten, utf8, replace, left_out_of}
+use Rattle.sp_method_types.specs.Methods.{told, bytes_methods, text_methods, vector_methods, map_methods, method_gives, unit_methods, unit_method_gives, sink_methods, library_call, unit_call, sink_call, method_of, base_ten, utf8, replace, left_out_of}
 use Rattle.sp_around.specs.Arounds.{Facts, kind_member, some_member, unit_member, width_type, bit_member, member_of, declared_at, meaning_at, slice_of, left_out_by, around as module_names}
 use Rattle.sp_unbuilt.specs.Constructs.{is_late_unit_method, is_sink_method}
 use Rattle.sp_list_laws.proofs.known_types_lemmas.Full.{never}
 use Rattle.sp_list_laws.proofs.whole_list_lemmas.Modules.{none_found, some_found}
 use Rattle.sp_list_laws.proofs.known_constants_lemmas.Declarations.{AllOf, at_all}
 use Rattle.sp_list_laws.proofs.known_hooks_lemmas.Walks.{unit_passes, type_passes, declared_passes}
-use Rattle.sp_list_laws.specs.known_kinds.Made.{drops_last, is_offset}
+use Rattle.sp_list_laws.specs.known_kinds.Made.{is_offset}
 use Rattle.sp_list_laws.proofs.passing_list_lemmas.Early.{is_early, is_leaf, is_early_member, is_called_so, AreEarly}
 use Rattle.sp_list_laws.proofs.passing_list_lemmas.BuiltTrees.{IsBuilt, AreBuilt, built_passes, at_tree}
 
@@ -145,61 +145,13 @@ module _ (x : List ℕ) where
         ),
       )
 
-  -- those of the library
-  abbrev PopOr : Method → Type 0
-  PopOr m = (not (drops_last m) || bytes_eq x (codes "pop_back")) ≡ true
-
-  ordered_named : (ts : List Ty) (a b : Method) → PopOr a → PopOr b → PopOr (by_order a b ts)
-  ordered_named ts a b h i = by (begins_with_order ts)
-    where
-      by : (c : Bool) → PopOr (if c then b else a)
-      by true = i
-      by false = h
-
-  bytes_named : (ts : List Ty) → EachNamed PopOr x (bytes_methods ts)
-  bytes_named ts = (
-    λ h. ordered_named ts method_is.ToUint method_is.ToUintOrder refl refl,
-    (
-      λ h. ordered_named ts method_is.ToInt method_is.ToIntOrder refl refl,
-      (
-        λ h. refl,
-        (
-          λ h. refl,
-          (
-            λ h. refl,
-            (
-              λ h. refl,
-              (
-                λ h. refl,
-                (
-                  λ h. refl,
-                  (λ h. refl, tt),
-                ),
-              ),
-            ),
-          ),
-        ),
-      ),
-    ),
-  )
-
-  get_named : (ts : List Ty) → PopOr (get_method ts)
-  get_named ts = by (are_two ts)
-    where
-      by : (c : Bool) → PopOr (if c then method_is.GetOr else method_is.Get)
-      by true = refl
-      by false = refl
-
-  vectors_named : EachNamed PopOr x vector_methods
-  vectors_named = (λ h. refl, (λ h. h, (λ h. refl, (λ h. refl, tt))))
-
   -- as what is called
   abbrev So : Callable → Type 0
   So c = is_called_so x c.op ≡ true
 
-  library_so : (t : Ty) (o : Option Method) (found : Callable) → ((m : Method) → o ≡ Some m → PopOr m) → library_call t o ≡ Some found → So found
-  library_so t None found h e = none_found found e
-  library_so t (Some m) found h e = subst So (some_found (record { op = many_is.Method m None; ty = method_gives m t }) found e) (h m refl)
+  library_so : (t : Ty) (o : Option Method) (found : Callable) → library_call t o ≡ Some found → So found
+  library_so t None found e = none_found found e
+  library_so t (Some m) found e = subst So (some_found (record { op = many_is.Method m None; ty = method_gives m t }) found e) refl
 
   unit_so : (span : Span) (o : Option UnitMethod) (found : Callable) → ((m : UnitMethod) → o ≡ Some m → LateOr m) → unit_call span o ≡ Some found → So found
   unit_so span None found h e = none_found found e
@@ -212,10 +164,10 @@ module _ (x : List ℕ) where
 methods_so : (t : Ty) (x : List ℕ) (span : Span) (ts : List Ty) (found : Callable) → method_of t x span ts ≡ Some found → is_called_so x found.op ≡ true
 methods_so (word (word_is.Unit n)) x span ts found e = unit_so x span (told x unit_methods) found (λ m at. told_named (LateOr x) x unit_methods m (units_named x) at) e
 methods_so (word word_is.Sink) x span ts found e = sink_so x (told x (sink_methods ts)) found (λ m at. told_named (OfSinks x) x (sink_methods ts) m (sinks_named x ts) at) e
-methods_so (word word_is.Bytes) x span ts found e = library_so x (word word_is.Bytes) (told x (bytes_methods ts)) found (λ m at. told_named (PopOr x) x (bytes_methods ts) m (bytes_named x ts) at) e
-methods_so (word word_is.String) x span ts found e = library_so x (word word_is.String) (told x text_methods) found (λ m at. told_named (PopOr x) x text_methods m (λ h. refl, tt) at) e
-methods_so (made maker_is.Vector us) x span ts found e = library_so x (made maker_is.Vector us) (told x vector_methods) found (λ m at. told_named (PopOr x) x vector_methods m (vectors_named x) at) e
-methods_so (made maker_is.Map us) x span ts found e = library_so x (made maker_is.Map us) (told x (map_methods ts)) found (λ m at. told_named (PopOr x) x (map_methods ts) m (λ h. get_named x ts, tt) at) e
+methods_so (word word_is.Bytes) x span ts found e = library_so x (word word_is.Bytes) (told x (bytes_methods ts)) found e
+methods_so (word word_is.String) x span ts found e = library_so x (word word_is.String) (told x text_methods) found e
+methods_so (made maker_is.Vector us) x span ts found e = library_so x (made maker_is.Vector us) (told x vector_methods) found e
+methods_so (made maker_is.Map us) x span ts found e = library_so x (made maker_is.Map us) (told x (map_methods ts)) found e
 methods_so _ x span ts found e = none_found found e
 
 -- what stands for arguments that were left out

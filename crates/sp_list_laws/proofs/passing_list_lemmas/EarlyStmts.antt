@@ -11,8 +11,7 @@ use Rattle.sp_typed.specs.declared.words.OneOp.{OneOp}
 use Rattle.sp_typed.specs.declared.words.OneOp.TheVariants as one_is
 use Rattle.sp_typed.specs.declared.words.ManyOp.{ManyOp}
 use Rattle.sp_typed.specs.declared.words.ManyOp.TheVariants as many_is
-use Rattle.sp_typed.specs.Exprs as expr_rows
-use Rattle.sp_typed.specs.Exprs.{Expr, Exprs, leaf, one, two, three, many, exprs}
+use Rattle.sp_typed.specs.Exprs.{Expr, leaf, one, two, three, many, exprs}
 use Rattle.sp_typed.specs.Nodes.{holds, all_hold}
 use Rattle.sp_typed.specs.Stmts.{stmts, branch_row}
 use Rattle.sp_operands.specs.Literals.{seen}
@@ -27,38 +26,29 @@ use Rattle.sp_typing_stmts.specs.Values.{value_in, values_in}
 use Rattle.sp_typing_stmts.specs.Statements.{after_local, written_type, local_in, element_type, return_in, cases_of, typed_stmt, typed_stmts, typed_branches, typed_branch, typed_cases, typed_case, typed_body}
 use Rattle.sp_body_rules.specs.Values.{is_new}
 use Rattle.sp_list_laws.proofs.known_types_lemmas.Full.{never}
-use Rattle.sp_list_laws.specs.known_bodies.Slots.{plain, all_plain}
+use Rattle.sp_list_laws.specs.known_bodies.Slots.{plain}
 use Rattle.sp_list_laws.proofs.known_bodies_lemmas.Slots.{kept_plain, type_plain}
 use Rattle.sp_list_laws.proofs.known_bodies_lemmas.Kept.{holds_plain}
-use Rattle.sp_list_laws.specs.known_kinds.Made.{drops_last}
-use Rattle.sp_list_laws.proofs.passing_list_lemmas.Early.{early_one, is_item, early_many, is_early, stmt_early, stmts_early, branches_early, cases_early, AreEarly}
+use Rattle.sp_list_laws.proofs.passing_list_lemmas.Early.{early_one, early_many, is_early, stmt_early, stmts_early, branches_early, cases_early, AreEarly}
 use Rattle.sp_list_laws.proofs.passing_list_lemmas.EarlyExprs.{Early, AllEarly, target_early, maybe_early, more_early, all_taken_early, Fine, AllFine, inside, first, rest, second, third, typed_early}
 use Rattle.sp_list_laws.proofs.passing_list_lemmas.EarlyNames.{locals_early}
 
 -- what is kept in slots is as early as it was
-item_plain : (e : Expr) → is_item (plain e) ≡ is_item e
-item_plain (leaf h) = refl
-item_plain (one h a) = refl
-item_plain (two h a b) = refl
-item_plain (three h a b c) = refl
-item_plain (many h es) = refl
-
 one_plain : (op : OneOp) (a : Expr) → early_one op (plain a) ≡ early_one op a
 one_plain one_is.Widen a = ap (λ t. not (is_new t)) (type_plain a)
 one_plain (one_is.SinkOf n) a = refl
 one_plain _ a = refl
 
-many_plain : (op : ManyOp) (t : Ty) (es : Exprs) → early_many (with_slot_of op None) t (all_plain es) ≡ early_many op t es
-many_plain (many_is.Method m slot) t expr_rows.none = refl
-many_plain (many_is.Method m slot) t (expr_rows.more r es) = ap (λ b. not (drops_last m && b)) (item_plain r)
-many_plain _ t es = refl
+many_plain : (op : ManyOp) (t : Ty) → early_many (with_slot_of op None) t ≡ early_many op t
+many_plain (many_is.Method m slot) t = refl
+many_plain _ t = refl
 
 early_plain : (e : Expr) → is_early (plain e) ≡ is_early e
 early_plain (leaf h) = refl
 early_plain (one h a) = one_plain h.op a
 early_plain (two h a b) = refl
 early_plain (three h a b c) = refl
-early_plain (many h es) = many_plain h.op h.ty es
+early_plain (many h es) = many_plain h.op h.ty
 
 kept_early : (sc : Scope) (e : Expr) → Early e → Early (kept sc e).0
 kept_early sc e h = sym (holds_plain is_early early_plain (kept sc e).0) ∙ ap (holds is_early) (kept_plain sc e) ∙ holds_plain is_early early_plain e ∙ h

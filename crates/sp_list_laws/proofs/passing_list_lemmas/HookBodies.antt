@@ -1,5 +1,5 @@
 -- The hooks of a list in which no rule is broken pass, where `$$` is what the field stores on which a hook hangs.
-use Rattle.std.specs.Prelude.{pos, Bool, true, false, not, ◌&&◌, ◌||◌, ◌++◌, if◌then◌else◌, length}
+use Rattle.std.specs.Prelude.{pos, Bool, true, false, not, ◌&&◌, ◌||◌, ◌++◌, if◌then◌else◌, length, is_some}
 use Rattle.std.specs.List.{list_all}
 use Rattle.std.proofs.Common.{ℕ, ℤ, ◌≡◌, ◌+◌, refl, sym, subst, ◌∙◌, List, [], ◌∷◌, Option, Some, None, slice_get}
 use Rattle.std.proofs.lemmas.Bool.{and_parts}
@@ -92,7 +92,7 @@ module _ (t : Typed) (known : list_all is_known_function t.functions ≡ true) (
 
   -- all that is named in a hook is kept, where its own parameters and `$$` are
   inside_made : (places : Layout) (locals : List Ty) (own : List Parameter) → places.own ≡ length own → ParametersKept (round_of t places locals (hook_unit s.of)) 0 own
-      → (is_unmeant (current_standing s.of) || local_is (round_of t places locals (hook_unit s.of)) places.current (current_type s.of s.current)) ≡ true → AreMade (round_of t places locals (hook_unit s.of)) (hook_around s.of s.current units own g)
+      → (is_unmeant (current_standing s.of) || (is_some places.offset && local_is (round_of t places locals (hook_unit s.of)) places.current (current_type s.of s.current))) ≡ true → AreMade (round_of t places locals (hook_unit s.of)) (hook_around s.of s.current units own g)
   inside_made places locals own are kept here =
       let around = round_of t places locals (hook_unit s.of) in
       let first = length own in

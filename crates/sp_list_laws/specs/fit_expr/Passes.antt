@@ -1,5 +1,5 @@
 -- All that is asked of an expression, whatever program it stands in.
-use Rattle.std.specs.Prelude.{◌≡◌, ℕ, List, reverse, Option, Some, None, slice_get}
+use Rattle.std.specs.Prelude.{◌≡◌, ℕ, List, reverse, Option, Some, None, slice_get, is_some}
 use Rattle.sp_value.specs.Val.{Val}
 use Rattle.sp_methods.specs.Kinds.{Kind, Has}
 use Rattle.sp_typed.specs.Exprs.{Expr, Exprs}
@@ -18,7 +18,7 @@ use Rattle.sp_code_programs.specs.programs.Routines.{parameter_kinds}
 use Rattle.sp_law_code.specs.exprs.Parts as expressions
 use Rattle.sp_law_programs.specs.finished_bodies.Built.{ExprIsBuilt, AllAreBuilt, PlaceIsBuilt}
 use Rattle.sp_emit_expr.specs.Literals.{LiteralsFit, AllLiteralsFit, PlaceFits}
-use Rattle.sp_law_programs.specs.program_laid.Arguments.{ArgumentsMatch, AllArgumentsMatch}
+use Rattle.sp_law_meaning.specs.Standing.{ExprStands, AllStand}
 use Rattle.sp_law_programs.specs.program_laid.Places.{IsPlace, ChangesPlaces, AllChangePlaces}
 
 -- each constant that has a value has one of the kind of its type, whatever instances there are
@@ -37,12 +37,12 @@ pub record Tables (list : Typed) (p : Plain) (shapes : Shapes) : Type 0 where
 
 module _ (list : Typed) (layout : Layout) (locals : List Kind) (unit : Option ℕ) where
   -- An expression: its parts are of the kinds that its form asks, it is built of what has a meaning, its literals are of their types,
-  -- calls have as many arguments as their functions have parameters, and what is changed is a place.
+  -- calls have as many arguments as their functions have parameters, `$$` stands where there is one, and what is changed is a place.
   pub record ExprPasses (e : Expr) : Type 0 where
     pub fits : (p : Plain) (shapes : Shapes) → Tables list p shapes → expressions.Fits p shapes (globals_of list) layout locals unit e
     pub built : ExprIsBuilt (globals_of list) list.functions e
     pub literals : LiteralsFit e
-    pub arguments : ArgumentsMatch list.functions e
+    pub stands : ExprStands (is_some layout.offset) list.functions e
     pub places : ChangesPlaces e
 
   -- each of several
@@ -50,7 +50,7 @@ module _ (list : Typed) (layout : Layout) (locals : List Kind) (unit : Option �
     pub fits : (p : Plain) (shapes : Shapes) → Tables list p shapes → expressions.AllFit p shapes (globals_of list) layout locals unit es
     pub built : AllAreBuilt (globals_of list) list.functions es
     pub literals : AllLiteralsFit es
-    pub arguments : AllArgumentsMatch list.functions es
+    pub stands : AllStand (is_some layout.offset) list.functions es
     pub places : AllChangePlaces es
 
   -- A place that is changed, where the owner of a member may be kept in a local.
@@ -59,6 +59,6 @@ module _ (list : Typed) (layout : Layout) (locals : List Kind) (unit : Option �
     pub built : PlaceIsBuilt (globals_of list) list.functions e
     pub literals : PlaceFits e
     pub all_literals : LiteralsFit e
-    pub arguments : ArgumentsMatch list.functions e
+    pub stands : ExprStands (is_some layout.offset) list.functions e
     pub places : ChangesPlaces e
     pub place : IsPlace e

@@ -106,12 +106,11 @@ gets = refl
 gets_another : method_is Get (exprs (part counts ∷ part bytes ∷ [])) bytes ≡ false
 gets_another = refl
 
-pushes : change_is PushBack true bytes_list (exprs (part bytes ∷ [])) (word word_is.Void) ≡ true
+pushes : change_is PushBack bytes_list (exprs (part bytes ∷ [])) (word word_is.Void) ≡ true
 pushes = refl
 
--- what stands in a container can't be the receiver of a method with a result
-pops_from_item : change_is PopBack true bytes_list (exprs []) bytes ≡ false
-pops_from_item = refl
+pops : change_is PopBack bytes_list (exprs []) bytes ≡ true
+pops = refl
 
 -- the value of a constant
 constant : value_has (vector (vals_of (uint W8 1 ∷ uint W8 2 ∷ []))) (made maker_is.Vector (tys (byte ∷ []))) ≡ true

@@ -1,5 +1,5 @@
 -- The test of an expression and of a place, as a definition that computes.
-use Rattle.std.specs.Prelude.{ℕ, ◌+◌, ◌-◌, ◌^◌, ◌==◌, pos, neg_ℤ, Bool, true, false, ◌&&◌, not, nat_lt, List, [], ◌∷◌, Option, Some, None, slice_get, if◌then◌else◌}
+use Rattle.std.specs.Prelude.{ℕ, ◌+◌, ◌-◌, ◌^◌, ◌==◌, pos, neg_ℤ, Bool, true, false, ◌&&◌, nat_lt, List, [], ◌∷◌, Option, Some, None, slice_get, if◌then◌else◌, is_some}
 use Rattle.sp_numbers.specs.Numbers.{width_bits, fits_signed}
 use Rattle.sp_words.specs.declared.methods.Method.{Method}
 use Rattle.sp_words.specs.declared.methods.Method.TheVariants.{ToUint, ToInt, ToUintOrder, ToIntOrder, Sub, StartsWith, Split, Split1, Lower, Upper, Decode, Encode, PushBack, PopBack, Front, Back, Get, GetOr}
@@ -25,7 +25,7 @@ use Rattle.sp_typed_units.specs.declared.declarations.Parameter.{Parameter}
 use Rattle.sp_typed_units.specs.declared.declarations.Unit.{Unit as TypedUnit}
 use Rattle.sp_running.specs.Types.{ranges_of}
 use Rattle.sp_bodies.specs.Globals.{range_counts}
-use Rattle.sp_bodies.specs.Exprs.{offset_local, is_self, slot_local, is_item_place}
+use Rattle.sp_bodies.specs.Exprs.{offset_local, is_self, slot_local}
 use Rattle.sp_emit_expr.specs.declared.rows.Row.{Row}
 use Rattle.sp_emit_expr.specs.declared.rows.Row.TheVariants as row_is
 use Rattle.sp_emit_expr.specs.Many.{row_of}
@@ -210,20 +210,19 @@ method_is Get es t = value_is es t
 method_is GetOr es t = value_or_is es t
 method_is m es t = simple_is m es t
 
--- An element that is put at the end of a vector, and one that is taken from there; what stands in a container can't be the receiver of
--- the latter.
+-- an element that is put at the end of a vector, and one that is taken from there
 abbrev pub pushes : Ty → Exprs → Ty → Bool
 pushes r (more e es) t = is_none es && vector_of r (type_of e) && is_sort t Void
 pushes r none t = false
 
-abbrev pub pops : Bool → Ty → Exprs → Ty → Bool
-pops on_item r es t = is_none es && not on_item && vector_of r t
+abbrev pub pops : Ty → Exprs → Ty → Bool
+pops r es t = is_none es && vector_of r t
 
 -- a call of a method that changes its receiver
-abbrev pub change_is : Method → Bool → Ty → Exprs → Ty → Bool
-change_is PushBack on_item r es t = pushes r es t
-change_is PopBack on_item r es t = pops on_item r es t
-change_is m on_item r es t = false
+abbrev pub change_is : Method → Ty → Exprs → Ty → Bool
+change_is PushBack r es t = pushes r es t
+change_is PopBack r es t = pops r es t
+change_is m r es t = false
 
 -- an operator takes one operand of a sort, and gives one
 abbrev pub both_are : Ty → Ty → Sort → Bool
@@ -267,7 +266,7 @@ module _ (around : Around) where
   leaf_is_of (leaf_is.Bytes b) t = is_sort t Bytes
   leaf_is_of (leaf_is.Empty w) t = true
   leaf_is_of (leaf_is.Itself s) t = is_unit around.unit t
-  leaf_is_of (leaf_is.Current s) t = local_is around.places.current t
+  leaf_is_of (leaf_is.Current s) t = is_some around.places.offset && local_is around.places.current t
   leaf_is_of (leaf_is.Local l) t = local_is (around.places.first + l) t
   leaf_is_of (leaf_is.Parameter n s) t = seen_parameter n t
   leaf_is_of (leaf_is.Constant c) t = constant_is_of (slice_get around.list.constants c) t
@@ -354,7 +353,7 @@ module _ (around : Around) where
     -- the call of a method that changes its receiver
     pub change_passes : Method → Option ℕ → Ty → Exprs → Bool
     change_passes m slot t none = false
-    change_passes m slot t (more r es) = place_passes (slot_local around.places slot) r && exprs_pass es && change_is m (is_item_place r) (type_of r) es t
+    change_passes m slot t (more r es) = place_passes (slot_local around.places slot) r && exprs_pass es && change_is m (type_of r) es t
 
     -- a place passes, by the local in which the owner of its member is kept
     pub place_passes : Option ℕ → Expr → Bool

@@ -32,7 +32,7 @@ use Rattle.sp_body_rules.specs.Values.{is_regex}
 use Rattle.sp_body_rules.specs.Known.{Known}
 use Rattle.sp_body_rules.specs.ExprTests.{is_unmeant}
 use Rattle.sp_list_rules.specs.Told.{function_takes, target_of}
-use Rattle.sp_bodies.specs.Exprs.{slot_local, is_item_place}
+use Rattle.sp_bodies.specs.Exprs.{slot_local}
 use Rattle.sp_list_laws.specs.known_types.Full.{is_full, is_unknown}
 use Rattle.sp_list_laws.specs.fit_expr.Around.{Around}
 use Rattle.sp_list_laws.specs.fit_expr.Sorts.{Sort, Unsigned, Bytes, Text, Vectors, Maps, Units, casts}
@@ -210,8 +210,7 @@ module _ (around : Around) where
   keeps_owner (many h es) = receiver_kept h.op es
   keeps_owner e = true
 
--- What is built: all but sinks, `new`, and methods of units other than `offset`. A call of `pop_back` on what stands in a container isn't
--- built either.
+-- what is built: all but sinks, `new`, and methods of units other than `offset`
 abbrev pub is_operator : OneOp → Bool
 is_operator one_is.Negate = true
 is_operator one_is.Not = true
@@ -225,32 +224,24 @@ is_operator (one_is.Bit r) = true
 is_operator (one_is.IsSet m) = true
 is_operator op = false
 
-abbrev pub drops_last : Method → Bool
-drops_last method_is.PopBack = true
-drops_last m = false
-
-abbrev pub has_place : Method → Exprs → Bool
-has_place m none = true
-has_place m (more r es) = not (drops_last m && is_item_place r)
-
 abbrev pub is_offset : UnitMethod → Bool
 is_offset unit_is.Offset = true
 is_offset m = false
 
-abbrev pub is_row : ManyOp → Exprs → Bool
-is_row many_is.Tuple es = true
-is_row many_is.Vector es = true
-is_row many_is.Set es = true
-is_row many_is.Map es = true
-is_row (many_is.Convert k) es = true
-is_row (many_is.Call f) es = true
-is_row (many_is.Method m slot) es = has_place m es
-is_row (many_is.OfUnit m name) es = is_offset m
-is_row op es = false
+abbrev pub is_row : ManyOp → Bool
+is_row many_is.Tuple = true
+is_row many_is.Vector = true
+is_row many_is.Set = true
+is_row many_is.Map = true
+is_row (many_is.Convert k) = true
+is_row (many_is.Call f) = true
+is_row (many_is.Method m slot) = true
+is_row (many_is.OfUnit m name) = is_offset m
+is_row op = false
 
 abbrev pub is_built : Expr → Bool
 is_built (leaf h) = true
 is_built (one h a) = is_operator h.op
 is_built (two h a b) = true
 is_built (three h c a b) = true
-is_built (many h es) = is_row h.op es
+is_built (many h es) = is_row h.op

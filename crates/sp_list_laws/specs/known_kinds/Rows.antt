@@ -76,7 +76,7 @@ not_widened x = refl
 no_method : (x : Around) → is_made x (call (word word_is.Void) method_is.PushBack (octets ∷ narrow ∷ [])) ≡ false
 no_method x = refl
 
--- `v[uint8(1)].pop_back()` isn't built, and neither is what can't be called
+-- `v[uint8(1)].pop_back()` is built, but not what can't be called
 abbrev row_of_rows : Ty
 row_of_rows = made maker_is.Vector (types.more (word word_is.Bytes) types.none)
 
@@ -86,7 +86,7 @@ rows = node row_of_rows (leaf_is.Local 0)
 built_row : is_built (call (word word_is.Bytes) method_is.PopBack (rows ∷ [])) ≡ true
 built_row = refl
 
-item_row : is_built (call (word word_is.Bytes) method_is.PopBack (two_at here row_of_rows two_is.Index rows narrow ∷ [])) ≡ false
+item_row : is_built (call (word word_is.Bytes) method_is.PopBack (two_at here row_of_rows two_is.Index rows narrow ∷ [])) ≡ true
 item_row = refl
 
 call_row : is_built (no_call here narrow []) ≡ false

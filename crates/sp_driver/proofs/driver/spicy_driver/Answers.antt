@@ -1,3 +1,4 @@
+use Rattle.sp_driver.proofs.Askings.{by_status}
 use Rattle.sp_driver.proofs.Causing.{caused_by}
 use Rattle.sp_driver.proofs.Wholes.{answered}
 use Rattle.sp_driver.proofs.driver.spicy_driver.Goals as goal
@@ -19,3 +20,10 @@ returns-clause-answer g c =
     (record { held = g.E.Out.held c.args.err.now; faults = g.E.Out.faults c.args.err.now })
     (record { held = g.E.Out.held c.report.new.err; faults = g.E.Out.faults c.report.new.err })
     c.drive-exit.result c.report.result c.drive-exit.ensures.some c.drive-exit.ensures.says c.report.ensures
+
+pub returns-clause-asks_all : goal.returns-clause-asks_all
+returns-clause-asks_all g c =
+    λ not4 not5 not7. by_status c.drive-exit.result
+    (record { held = g.E.Out.held c.args.err.now; faults = g.E.Out.faults c.args.err.now })
+    (record { held = g.E.Out.held c.report.new.err; faults = g.E.Out.faults c.report.new.err })
+    c.report.result c.report.ensures c.drive-exit.ensures.asks_all not4 not5 not7

@@ -14,7 +14,7 @@ use Rattle.sp_emit_expr.specs.Around.{globals_in, layout_in}
 use Rattle.sp_emit_expr.specs.Added.{AddsExprs, AddsMany, AddsLoad, AddsStore, waiting}
 use Rattle.sp_emit_expr.specs.declared.rows.Row.TheVariants as row_is
 use Rattle.sp_emit_expr.specs.Many.{row_of}
-use Rattle.sp_emit_expr.proofs.Receivers.{member_loaded, item_loaded, member_stored, item_stored, change_shape, change_added, changes_code, receiver_fits}
+use Rattle.sp_emit_expr.proofs.Receivers.{member_loaded, item_loaded, member_stored, item_stored, lowered_back, change_shape, change_added, changes_code, receiver_fits}
 use Rattle.sp_emit_expr.proofs.Many.{next_part, part_smaller, exprs_added, values_added}
 use Rattle.sp_emit_expr.proofs.Forms.{test_added, and_added, or_added, three_added, both_added, item_added}
 use Rattle.sp_emit_expr.proofs.nodes.+expr.Goals as goal
@@ -118,6 +118,13 @@ many-returns-in-Some t c =
     (λ h. subst (λ ps. AddsMany c.args.around.now c.args.out.now c.changed.new.out c.args.head.now ps) (sym split)
     (adds_as _ h (sym (changes_code g l s op (offset_local l (is_self es)) c.in-Changes.slot c.in-Changes.m (λ p. receiver_code g l s (length c.args.out.now.marks) p k es) _ which)))) c.changed.ensures
 
+pub changed-put_under-requires : goal.changed-put_under-requires
+changed-put_under-requires t c =
+    let g = globals_in c.args.around.now in
+    let l = layout_in c.args.around.now in
+    let back = lowered_back g l c.args.out.now _ _ _ _ c.args.m c.in_ok-owner.owner c.args.receiver.now (exprs c.args.rest.now) _ c.depth-depth.ensures c.in_ok-load.ensures c.in_ok-exprs.ensures c.in_ok-emit.ensures c.lower.ensures in
+    c.depth-depth.ensures ∙ ap (λ (s : Shape). length s.operands) (sym back)
+
 pub changed-returns : goal.changed-returns
 changed-returns t c =
     let g = globals_in c.args.around.now in
@@ -130,12 +137,13 @@ changed-returns t c =
     let loaded = c.in_ok-load.ensures in
     let args = c.in_ok-exprs.ensures in
     let called = c.in_ok-emit.ensures in
+    let under = c.in_ok-put_under.ensures in
     let below = c.in_ok-result_below.ensures c.args.slot in
     let waits = c.in_ok-waiting.ensures in
-    let shape = change_shape g l out _ _ _ _ _ _ c.args.m c.args.slot c.in_ok-owner.owner k r es _ at_depth loaded args called c.lower.ensures below waits in
+    let shape = change_shape g l out _ _ _ _ _ _ _ c.args.m c.args.slot c.in_ok-owner.owner k r es _ at_depth loaded args called c.lower.ensures under below waits in
     let stored = c.in_ok-store.ensures (with_result g l (many_is.Method c.args.m c.args.slot) k out.now) shape in
     on_ok_weaker c.no_result.result
-    (change_added g l out _ _ _ _ _ _ _ _ c.args.m c.args.slot c.in_ok-owner.owner k r es _ c.in_ok-owner.ensures at_depth loaded args called c.lower.ensures below waits stored)
+    (change_added g l out _ _ _ _ _ _ _ _ _ c.args.m c.args.slot c.in_ok-owner.owner k r es _ c.in_ok-owner.ensures at_depth loaded args called c.lower.ensures under below waits stored)
     (c.no_result.ensures out.now k stored.now at_depth)
 
 pub load-returns-in-Leaf : goal.load-returns-in-Leaf

@@ -1,8 +1,9 @@
 use Rattle.std.proofs.Common.{◌≡◌, ◌+◌, refl, sym, ap, subst, ◌∙◌, arith, IfOk}
+use Rattle.sp_typed.specs.declared.words.ManyOp.TheVariants as many_is
 use Rattle.sp_typed.specs.Exprs.{many, none, more, exprs}
 use Rattle.sp_typed.specs.inside.ExprCodes as inside
 use Rattle.sp_bodies.specs.Exprs.{negative_literal, is_self, offset_local, slot_local}
-use Rattle.sp_code_programs.specs.exprs.Sizes.{one_size, change_size, expr_size, exprs_size, receiver_size, load_size, store_size}
+use Rattle.sp_code_programs.specs.exprs.Sizes.{one_size, change_size, under_size, expr_size, exprs_size, receiver_size, load_size, store_size}
 use Rattle.sp_emit_expr.specs.declared.rows.Row.TheVariants as row_is
 use Rattle.sp_emit_expr.specs.Around.{layout_in}
 use Rattle.sp_emit_expr.specs.Many.{row_of}
@@ -45,10 +46,12 @@ changed-returns t c =
     let o = slot_local l c.args.slot in
     let load = c.in_ok-load.ensures ∙ ap (λ w. load_size l w r) c.in_ok-owner.ensures in
     let store = c.in_ok-store.ensures ∙ ap (λ w. store_size l w r) c.in_ok-owner.ensures in
+    let under = under_size (many_is.Method m c.args.slot) r in
+    let put = c.in_ok-put.ensures ∙ ap (λ n. n + c.in_ok-store.store) c.under_size.ensures ∙ ap (λ n. under + n) store in
     subst (λ k. IfOk c.change_size.result (λ n. n ≡ k))
-    (ap (λ n. change_size m n c.in_ok-args.args c.in_ok-store.store) load
-    ∙ ap (λ n. change_size m (load_size l o r) n c.in_ok-store.store) c.in_ok-args.ensures
-    ∙ ap (λ n. change_size m (load_size l o r) (exprs_size l es) n) store)
+    (ap (λ n. change_size m n c.in_ok-args.args c.in_ok-put.put) load
+    ∙ ap (λ n. change_size m (load_size l o r) n c.in_ok-put.put) c.in_ok-args.ensures
+    ∙ ap (λ n. change_size m (load_size l o r) (exprs_size l es) n) put)
     c.change_size.ensures
 
 pub many_node-returns-in-Kept : goal.many_node-returns-in-Kept

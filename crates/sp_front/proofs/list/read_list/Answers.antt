@@ -1,4 +1,7 @@
-use Rattle.sp_front.proofs.Asking.{asks_list, asks_stuck, asks_followed}
+use Rattle.sp_read_file.proofs.Endings.{passed_on}
+use Rattle.sp_front.specs.Asked.{Asks, AsksRefused}
+use Rattle.sp_front.specs.inside.Follow.{IsRefusedBy}
+use Rattle.sp_front.proofs.Asking.{asks_list, asks_stuck, asks_stopped, asks_followed}
 use Rattle.sp_front.proofs.list.read_list.Goals as goal
 
 pub returns-in_err-complete-clause-asks_no_more : goal.returns-in_err-complete-clause-asks_no_more
@@ -44,3 +47,16 @@ returns-clause-asks_no_more g c =
     let dirs = c.args.directories.now in
     let named = c.in_ok-entries.entries.items in
     asks_followed files names dirs named c.complete.new.entries.items before mid after c.in_ok-entries.ensures.named c.in_ok-entries.ensures.asks (rw c.in_ok-entries.ensures.files at c.in_ok-complete.ensures.asks)
+
+pub returns-in_err-complete-clause-asks_refused : goal.returns-in_err-complete-clause-asks_refused
+returns-in_err-complete-clause-asks_refused g c =
+    let files = g.M.Modules.files c.args.modules.now in
+    let before = g.M.Modules.asked c.args.modules.now in
+    let mid = g.M.Modules.asked c.read_named.new.modules in
+    let after = g.M.Modules.asked c.complete.new.modules in
+    let names = c.args.names.now in
+    let dirs = c.args.directories.now in
+    let named = c.in_ok-entries.entries.items in
+    let u = c.in_err-complete.field-0.0 in
+    passed_on c.from_residual-in_err-complete.result u (λ u. IsRefusedBy (λ r. Asks files before after (λ told. AsksRefused told names dirs r)) u) c.from_residual-in_err-complete.ensures.1
+    (asks_stopped files names dirs named u before mid after c.in_ok-entries.ensures.named c.in_ok-entries.ensures.asks (rw c.in_ok-entries.ensures.files at c.in_err-complete.ensures.asks_stopped))
