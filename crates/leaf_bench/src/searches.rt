@@ -5,7 +5,7 @@ ghost use Rattle.std.specs.Prelude.{◌≤◌, length};
 
 use crate::token_sets::{put, read_set};
 use sp_match::TokenSet;
-use sp_search::{Found, Search};
+use sp_sync::{Found, Search};
 use std::alloc::{AllocError, Global};
 
 /// More bytes than a text has.

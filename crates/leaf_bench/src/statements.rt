@@ -4,8 +4,8 @@ use sp_base::NoMemory;
 use sp_grammar::Start;
 use sp_lex::{ReadFault, Tokens, lex};
 use sp_parser::Sink;
+use sp_phrases::read_from;
 use sp_read_expr::read_stmt;
-use sp_runs::read_from;
 use std::alloc::{AllocError, Global};
 
 /// How many tokens, statements and actions there are.

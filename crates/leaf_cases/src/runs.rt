@@ -7,7 +7,7 @@ use sp_base::{Place, or_drop, place_of};
 use sp_grammar::{Start, action_name};
 use sp_lex::{ReadFault, Token, Tokens, lex};
 use sp_parser::ActionAt;
-use sp_runs::read_from;
+use sp_phrases::read_from;
 use std::alloc::{AllocError, Global};
 
 /// What a text can be, by its word.

@@ -7,7 +7,7 @@ ghost use Rattle.std.specs.Prelude.{◌≤◌, ◌^◌};
 use crate::texts::put;
 use crate::token_sets::put_members;
 use sp_match::{Regex, SetFault, TokenSet};
-use sp_search::{Found, Search};
+use sp_sync::{Found, Search};
 use std::alloc::{AllocError, Global};
 
 /// The last place of a byte, and one more.

@@ -10,7 +10,7 @@ use Rattle.sp_lex.specs.declared.tokens.Token.{Token}
 use Rattle.sp_grammar.specs.declared.terminals.Terminal.TheVariants as terminal
 use Rattle.sp_grammar.specs.Terminals.{terminal_number}
 use Rattle.sp_lex.specs.declared.kinds.TokenKind.{TokenKind}
-use Rattle.sp_runs.specs.Kinds.{token_number, number_of, terminal_of}
+use Rattle.sp_phrases.specs.Kinds.{token_number, number_of, terminal_of}
 use Rattle.sp_ast.specs.declared.forms.Form.{Form}
 use Rattle.sp_ast.specs.Trees.{Tree, absent, row, node, tree, trees, in_row, respan, span_of}
 use Rattle.sp_ast.specs.declared.groups.Group.{Group}

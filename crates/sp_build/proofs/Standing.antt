@@ -3,7 +3,7 @@ use Rattle.std.specs.Prelude.{◌≡◌, List, [], ◌∷◌, ◌++◌, Bool, tr
 use Rattle.std.proofs.Common.{◌∙◌, sym, subst, inl, inr, eq-eqb, eqb-true}
 use Rattle.std.proofs.lemmas.Bool.{and_parts, and_from, cases_Bool}
 use Rattle.sp_lex.specs.declared.tokens.Token.{Token}
-use Rattle.sp_runs.specs.Kinds.{token_number}
+use Rattle.sp_phrases.specs.Kinds.{token_number}
 use Rattle.sp_ast.specs.Trees.{Tree, Trees, absent, row, node, none, more}
 use Rattle.sp_ast.specs.declared.groups.Group.{Group}
 use Rattle.sp_ast.specs.declared.groups.Sort.{Sort}

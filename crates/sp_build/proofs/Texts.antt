@@ -16,8 +16,8 @@ use Rattle.sp_grammar.specs.Language.{language}
 use Rattle.sp_grammar.specs.Reads.{Reads, nothing, whole, half, action, part}
 use Rattle.sp_grammar.proofs.Sentences.{derived}
 use Rattle.sp_grammar.proofs.Spans.{reads_derived, one_production}
-use Rattle.sp_runs.specs.Kinds.{token_number, numbers_of}
-use Rattle.sp_runs.specs.Runs.{IsPhrase}
+use Rattle.sp_phrases.specs.Kinds.{token_number, numbers_of}
+use Rattle.sp_phrases.specs.Runs.{IsPhrase}
 use Rattle.sp_ast.specs.Trees.{Tree}
 use Rattle.sp_ast.specs.declared.groups.Sort.TheVariants.{One as one}
 use Rattle.sp_ast.specs.Groups.{is_of}

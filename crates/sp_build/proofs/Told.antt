@@ -20,7 +20,7 @@ use Rattle.sp_grammar.specs.declared.terminals.Terminal.TheVariants as terminal
 use Rattle.sp_grammar.specs.Terminals.{terminal_number}
 use Rattle.sp_grammar.specs.declared.actions.Action.{Action}
 use Rattle.sp_grammar.specs.declared.actions.Action.TheVariants as build
-use Rattle.sp_runs.specs.Kinds.{terminal_of, number_of}
+use Rattle.sp_phrases.specs.Kinds.{terminal_of, number_of}
 use Rattle.sp_ast.specs.Groups.{group}
 use Rattle.sp_build.specs.Rules.{Leaf, always, by_name, by_string, by_bytes, by_regex, by_number, by_integer, by_hook_name, Rule, takes, closes_integer, closes_attribute, rule}
 use Rattle.sp_build.specs.Tokens.{form_of, integer_of, attribute_of}

@@ -3,14 +3,14 @@ ghost use Rattle.std.specs.Prelude.{◌≡◌, ℕ, List, true};
 ghost use Rattle.sp_lex.specs.declared.tokens.Token.{Token};
 ghost use Rattle.sp_parser.specs.declared.symbol.ActionAt.{ActionAt};
 ghost use Rattle.sp_grammar.specs.declared.language.Start.{Start};
-ghost use Rattle.sp_runs.specs.Runs.{IsPhrase};
+ghost use Rattle.sp_phrases.specs.Runs.{IsPhrase};
 ghost use Rattle.sp_ast.specs.Trees.{Tree};
 ghost use Rattle.sp_ast.specs.Groups.{is_of};
 ghost use Rattle.sp_ast.specs.Slots.{is_formed};
 ghost use Rattle.sp_build.specs.Building.{IsBuilt};
 ghost use Rattle.sp_build.specs.Starting.{group_of};
 
-use sp_runs::derivation_is_one;
+use sp_phrases::derivation_is_one;
 
 /// The actions that the derivation of a text passes build one tree, and leave nothing else on the stack: a module builds a
 /// module, a type a type, a statement a statement and an expression an expression. So the rules of the actions find what

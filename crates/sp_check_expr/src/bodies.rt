@@ -1,16 +1,16 @@
 // Whether a rule of bodies is broken.
 ghost use Rattle.std.specs.Prelude.{◌≡◌, None, IfOk, IfErr, OnOk};
 ghost use Rattle.sp_rules.specs.Least.{IsLeast, checked};
-ghost use Rattle.sp_list_rules.specs.Told.{values_of};
-ghost use Rattle.sp_list_rules.specs.Wholes.{list_tests};
-ghost use Rattle.sp_checked_list.specs.Refusals.{IsRefused};
+ghost use Rattle.sp_rule_lists.specs.Told.{values_of};
+ghost use Rattle.sp_rule_lists.specs.Wholes.{list_tests};
+ghost use Rattle.sp_type_answers.specs.Refusals.{IsRefused};
 ghost use Rattle.sp_check_expr.specs.Broken.{BreaksBody};
 
 use sp_base::NoMemory;
-use sp_checked_list::CheckFault;
-use sp_list_rules::{least_of_broken, note_bodies};
+use sp_rule_lists::{least_of_broken, note_bodies};
 use sp_rules::Fault;
 use sp_scope::Scopes;
+use sp_type_answers::CheckFault;
 use std::alloc::Global;
 
 /// A list of modules in which no rule of bodies is broken.
@@ -45,7 +45,7 @@ fn least_of(alloc: Global, scopes: &Scopes) -> Result<Option<Fault>, NoMemory>
 /// not meant, functions that may end without a value, `break`, `continue` and `stop` outside of what they leave, and arguments
 /// that a call doesn't take. Else the least that is broken, by module, place and number. Time and calls are those of the
 /// list's size and height, and of the constants that its indexes, orders and priorities name.
-#[tactic(auto, using(sp_checked_list::proofs::Refused::refused_at))]
+#[tactic(auto, using(sp_type_answers::proofs::Refused::refused_at))]
 pub fn check_bodies<'s>(alloc: Global, scopes: &'s Scopes) -> Result<Bodies<'s>, CheckFault>
     ensures whole { IfOk result (λ b. b.scopes.now ≡ scopes.now) }
     ensures sound { IfOk result (λ b. IsLeast (BreaksBody scopes.now.typed) None) }

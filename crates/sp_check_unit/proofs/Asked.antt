@@ -3,13 +3,13 @@ use Rattle.std.proofs.Common.{◌≡◌, Bool, true, List, ◌++◌, Option, Non
 use Rattle.sp_ast.specs.Trees.{Tree}
 use Rattle.sp_rules.specs.declared.fault.Fault.{Fault}
 use Rattle.sp_rules.specs.Least.{Among, IsLeast, checked}
-use Rattle.sp_list_rules.proofs.Checked.{checked_more}
+use Rattle.sp_rule_lists.proofs.Checked.{checked_more}
 use Rattle.sp_typed_units.specs.declared.declarations.Typed.{Typed}
-use Rattle.sp_checked_list.specs.Settled.{Answers}
-use Rattle.sp_checked_list.specs.Lists.{typed_of}
-use Rattle.sp_checked_list.specs.NameRules.{name_tests, IsTyped, IsAnswered}
+use Rattle.sp_type_answers.specs.Settled.{Answers}
+use Rattle.sp_type_answers.specs.Lists.{typed_of}
+use Rattle.sp_type_answers.specs.NameRules.{name_tests, IsTyped, IsAnswered}
 use Rattle.sp_scope.proofs.Least.{least_of_one}
-use Rattle.sp_checked_list.specs.Rules.{typed_tests, limits_from, tests, Breaks, IsAsked}
+use Rattle.sp_type_answers.specs.Rules.{typed_tests, limits_from, tests, Breaks, IsAsked}
 
 pub asked : (list : List Tree) (t : Typed) (names all : Option Fault) → IsAnswered list t names → all ≡ checked names (typed_tests t ++ limits_from 0 list) → IsAsked list t all
 asked list t names all w noted =

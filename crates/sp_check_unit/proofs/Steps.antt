@@ -4,13 +4,13 @@ use Rattle.std.proofs.lemmas.List.{at_drop_more}
 use Rattle.sp_ast.specs.Trees.{Tree}
 use Rattle.sp_rules.specs.declared.fault.Fault.{Fault}
 use Rattle.sp_rules.specs.Least.{checked}
-use Rattle.sp_list_rules.specs.Told.{values_of}
-use Rattle.sp_list_rules.specs.Wholes.{list_tests}
-use Rattle.sp_list_rules.proofs.Checked.{checked_more}
-use Rattle.sp_unit_rules.specs.Units.{all_tests}
-use Rattle.sp_unit_rules.specs.Limits.{module_limits}
+use Rattle.sp_rule_lists.specs.Told.{values_of}
+use Rattle.sp_rule_lists.specs.Wholes.{list_tests}
+use Rattle.sp_rule_lists.proofs.Checked.{checked_more}
+use Rattle.sp_rule_units.specs.Units.{all_tests}
+use Rattle.sp_rule_units.specs.Limits.{module_limits}
 use Rattle.sp_typed_units.specs.declared.declarations.Typed.{Typed}
-use Rattle.sp_checked_list.specs.Rules.{typed_tests, limits_from}
+use Rattle.sp_type_answers.specs.Rules.{typed_tests, limits_from}
 
 pub limits_step : (list : List Tree) (m n : ℕ) (x r : Tree) (o p q : Option Fault) → m < length list → x ≡ get_or list m x → r ≡ x → n ≡ m → p ≡ checked o (module_limits n r) → checked o (limits_from m (drop m list)) ≡ q → checked p (limits_from (m + 1) (drop (m + 1) list)) ≡ q
 limits_step list m n x r o p q lt is same number h before =

@@ -1,11 +1,11 @@
 // What a list of modules is in which no rule is broken.
 ghost use Rattle.std.specs.Prelude.{◌≡◌, ◌<◌, IsTrue, Some, None, IfSome, length};
 ghost use Rattle.sp_rules.specs.Least.{IsLeast};
-ghost use Rattle.sp_checked_list.specs.NameRules.{IsTyped};
+ghost use Rattle.sp_type_answers.specs.NameRules.{IsTyped};
 ghost use Rattle.sp_unbuilt.specs.First.{IsFirst};
 ghost use Rattle.sp_unbuilt.specs.Places.{IsUnbuilt};
 ghost use Rattle.sp_unbuilt.specs.Unbuilt.{first_unbuilt};
-ghost use Rattle.sp_checked_list.specs.Rules.{Breaks};
+ghost use Rattle.sp_type_answers.specs.Rules.{Breaks};
 ghost use Rattle.sp_check_unit.specs.Parsers.{have_numbers};
 ghost use Rattle.sp_choose.specs.Choices.{chosen};
 ghost use Rattle.sp_choose.specs.Laws.{IsChoice};

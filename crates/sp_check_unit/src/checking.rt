@@ -1,20 +1,20 @@
 // All rules over a list of modules.
 ghost use Rattle.std.specs.Prelude.{◌≡◌, ◌++◌, None, IfOk, IfErr, OnOk};
 ghost use Rattle.sp_rules.specs.Least.{IsLeast, checked};
-ghost use Rattle.sp_checked_list.specs.NameRules.{IsTyped};
-ghost use Rattle.sp_checked_list.specs.Refusals.{IsRefused};
-ghost use Rattle.sp_checked_list.specs.Rules.{typed_tests, limits_from, Breaks, IsAsked};
+ghost use Rattle.sp_type_answers.specs.NameRules.{IsTyped};
+ghost use Rattle.sp_type_answers.specs.Refusals.{IsRefused};
+ghost use Rattle.sp_type_answers.specs.Rules.{typed_tests, limits_from, Breaks, IsAsked};
 
 use crate::checked::{Checked, have_numbers};
 use crate::limits::note_all_limits;
 use sp_ast::Module;
 use sp_base::NoMemory;
-use sp_checked_list::{CheckFault, answers_are_one};
-use sp_list_rules::note_bodies;
+use sp_rule_lists::note_bodies;
+use sp_rule_units::note_unit_rules;
 use sp_rules::{Fault, least_of_checked};
 use sp_scope::{Scopes, type_list};
+use sp_type_answers::{CheckFault, answers_are_one};
 use sp_typed_units::Typed;
-use sp_unit_rules::note_unit_rules;
 use std::alloc::Global;
 
 /// Notes all rules but those on names.
@@ -73,7 +73,7 @@ fn numbered<'a>(list: &'a [Module], typed: Typed) -> Result<Checked<'a>, NoMemor
 /// the groups names, bodies, units and tokens in which one is broken, the first by module, place and number. What is asked of
 /// tokens is not asked yet, apart from how many declarations, items and parameters there are. Time and calls are those
 /// of resolving the names, and of each rule.
-#[tactic(auto, using(sp_checked_list::proofs::Refused::refused_at))]
+#[tactic(auto, using(sp_type_answers::proofs::Refused::refused_at))]
 pub fn check<'a>(alloc: Global, list: &'a [Module]) -> Result<Checked<'a>, CheckFault>
     ensures checked { IfOk result (λ c. (c.modules.now ≡ list.now) × IsTyped list.now c.typed
         × IsLeast (Breaks list.now) None) }

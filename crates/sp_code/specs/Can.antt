@@ -5,7 +5,7 @@ use Rattle.sp_value.specs.Val.{Val, void, bool, uint, bytes, str, bits, tuple, v
 use Rattle.sp_value.specs.Changes.{IsSet, IsKeyed}
 use Rattle.sp_operators.specs.Operands.{takes, takes_one, has_size, is_cast}
 use Rattle.sp_methods.specs.Methods.{suits}
-use Rattle.sp_running.specs.States.{State, instance_of}
+use Rattle.sp_meaning_states.specs.States.{State, instance_of}
 use Rattle.sp_code.specs.declared.instr.Instr.{Instr}
 use Rattle.sp_code.specs.declared.instr.Instr.TheVariants.{Const, Load, Store, Param, SelfUnit, GetField, HasField, SetField, Unary, Binary, Cast, MakeTuple, MakeVector, MakeSet, MakeMap, Index, SetIndex, Size, Lib, AddKey, DeleteKey, Pop, Dup, Under, Jump, JumpNot, Call, Return, Turn, EachStart, EachNext, Print, Assert, Throw, Fail, EnterUnit, LeaveUnit, Hook, Offset, ReadInt}
 use Rattle.sp_code.specs.Machine.{Body, UnitCode, Plain}

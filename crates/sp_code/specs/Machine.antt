@@ -13,12 +13,12 @@ use Rattle.sp_value.specs.Parts.{text_in}
 use Rattle.sp_value.specs.Changes.{with_member as with_key, without_key}
 use Rattle.sp_operators.specs.Operators.{unary, binary, cast}
 use Rattle.sp_methods.specs.Methods.{method}
-use Rattle.sp_running.specs.States.{Error, Reading, State, End, Gives, Fine, Failed, Returned, Result, Ends, error_at, error_with, truth_of, local_of, set_local, parameter_of, member_of, put_member, start_of, one_more, go}
-use Rattle.sp_running.specs.Scopes.{Called, called_where, Scope, InUnit, InParts, InFailing, InCall, ends_fiber, leave, needs}
-use Rattle.sp_running.specs.Reads.{Ask, Bytes, Read, Got, Lacks, Shorts, NoWord, least_with}
-use Rattle.sp_running.specs.Values.{item_at, with_at, size_value, set_of, map_of, members_of}
-use Rattle.sp_running.specs.Types.{width_bytes}
-use Rattle.sp_running.specs.Telling.{Names, value_trees}
+use Rattle.sp_meaning_states.specs.States.{Error, Reading, State, End, Gives, Fine, Failed, Returned, Result, Ends, error_at, error_with, truth_of, local_of, set_local, parameter_of, member_of, put_member, start_of, one_more, go}
+use Rattle.sp_meaning_states.specs.Scopes.{Called, called_where, Scope, InUnit, InParts, InFailing, InCall, ends_fiber, leave, needs}
+use Rattle.sp_meaning_states.specs.Reads.{Ask, Bytes, Read, Got, Lacks, Shorts, NoWord, least_with}
+use Rattle.sp_meaning_states.specs.Values.{item_at, with_at, size_value, set_of, map_of, members_of}
+use Rattle.sp_meaning_states.specs.Types.{width_bytes}
+use Rattle.sp_meaning_states.specs.Telling.{Names, value_trees}
 use Rattle.sp_code.specs.declared.instr.Instr.{Instr}
 use Rattle.sp_code.specs.declared.instr.Instr.TheVariants.{Const, Load, Store, Param, SelfUnit, GetField, HasField, SetField, Unary, Binary, Cast, MakeTuple, MakeVector, MakeSet, MakeMap, Index, SetIndex, Size, Lib, AddKey, DeleteKey, Pop, Dup, Under, Jump, JumpNot, Call, Return, Turn, EachStart, EachNext, Print, Assert, Throw, Fail, EnterUnit, LeaveUnit, Hook, Offset, ReadInt}
 

@@ -4,8 +4,8 @@ use Rattle.std.proofs.Common.{Global}
 use Rattle.std.specs.declared.vec.Vec.{Vec}
 use Rattle.sp_base.specs.declared.places.Limits.{Limits}
 use Rattle.sp_methods.specs.Kinds.{Kind, Void, Bools, Unsigned, Signed, Bytes, Text, Iterator, Only, EnumOf, UnitOf, BitsOf, TupleOf, VectorOf, SetOf, MapOf, kinds_of}
-use Rattle.sp_running.specs.Scopes.{Called}
-use Rattle.sp_running.specs.Telling.{Names}
+use Rattle.sp_meaning_states.specs.Scopes.{Called}
+use Rattle.sp_meaning_states.specs.Telling.{Names}
 use Rattle.sp_code.specs.declared.program.BodyOf.{BodyOf}
 use Rattle.sp_code.specs.declared.program.BodyOf.TheVariants as body_of
 use Rattle.sp_code.specs.declared.program.BodyCode.{BodyCode}

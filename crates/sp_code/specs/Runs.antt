@@ -2,8 +2,8 @@
 use Rattle.std.specs.Prelude.{◌≡◌, ℕ, List, [], ◌∷◌, ◌++◌}
 use Rattle.sp_events.specs.declared.event.What.{What}
 use Rattle.sp_value.specs.Val.{Val}
-use Rattle.sp_running.specs.States.{Reading, State, End, Gives, Fine, Broke, Continued, Need, Unfinished, Result, Ends}
-use Rattle.sp_running.specs.Reads.{Ask, Read}
+use Rattle.sp_meaning_states.specs.States.{Reading, State, End, Gives, Fine, Broke, Continued, Need, Unfinished, Result, Ends}
+use Rattle.sp_meaning_states.specs.Reads.{Ask, Read}
 use Rattle.sp_code.specs.Machine.{Frame, Plain, Config, At, Ending, Goes, Waits, step, low_of}
 
 -- the ways out of a statement: where a break and a continue lead, with these operands, and what is open

@@ -4,9 +4,9 @@ use Rattle.std.specs.Prelude.{◌≡◌, ℕ, ◌+◌, Bool, true, false, List, 
 use Rattle.sp_value.specs.Val.{Val}
 use Rattle.sp_methods.specs.Kinds.{Kind, Bools, Unsigned, Signed, Text, UnitOf, TupleOf, VectorOf, SetOf, MapOf, kinds_of, Has, Have}
 use Rattle.sp_methods.specs.Methods.{IsMethod}
-use Rattle.sp_running.specs.States.{Instance, State, End, Fine, Failed, Returned, Stopped, Backs, Rejected}
-use Rattle.sp_running.specs.Scopes.{Called, Scope, InUnit, InParts, InFailing, InCall, InSize, InMax, InFrom, InAt, InTry}
-use Rattle.sp_running.specs.Scopes as called_is
+use Rattle.sp_meaning_states.specs.States.{Instance, State, End, Fine, Failed, Returned, Stopped, Backs, Rejected}
+use Rattle.sp_meaning_states.specs.Scopes.{Called, Scope, InUnit, InParts, InFailing, InCall, InSize, InMax, InFrom, InAt, InTry}
+use Rattle.sp_meaning_states.specs.Scopes as called_is
 use Rattle.sp_code.specs.declared.instr.Instr.{Instr}
 use Rattle.sp_code.specs.declared.instr.Instr.TheVariants.{Const, Load, Store, Param, SelfUnit, GetField, HasField, SetField, Unary, Binary, Cast, MakeTuple, MakeVector, MakeSet, MakeMap, Index, SetIndex, Size, Lib, AddKey, DeleteKey, Pop, Dup, Under, Jump, JumpNot, Call, Return, Turn, EachStart, EachNext, Print, Assert, Throw, Fail, EnterUnit, LeaveUnit, Hook, Offset, ReadInt}
 use Rattle.sp_code.specs.Kinds.{kind_of_two, kind_of_one, kind_of_cast, IsSized, IsPlaceIn, IsItemOf, IsGoneOver, IsMessage, in_turn}

@@ -1,6 +1,5 @@
 pub mod Routines
 pub mod Programs
-pub mod Named
 pub mod Currents
 pub mod Units
 pub mod Whole

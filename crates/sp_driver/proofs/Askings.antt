@@ -6,7 +6,7 @@ use Rattle.sp_front.specs.Lists.{Files}
 use Rattle.sp_front.specs.Asked.{Told, Asks}
 use Rattle.sp_front.specs.inside.Follow.{IsRefusedBy}
 use Rattle.sp_front.proofs.Asking.{also_nil}
-use Rattle.sp_driver_words.specs.Words.{Words}
+use Rattle.sp_driver_args.specs.Words.{Words}
 use Rattle.sp_driver.specs.declared.exits.Exit.{Exit}
 use Rattle.sp_driver.specs.Asked.{AsksFor}
 use Rattle.sp_driver.specs.Driver.{Messages, Reported, status_of, unread_status}

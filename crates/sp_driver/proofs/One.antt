@@ -8,11 +8,11 @@ use Rattle.sp_front.specs.declared.entries.ModuleFile.{ModuleFile}
 use Rattle.sp_load.specs.Loads.{IsLoaded, IsLoadRefused, sources_of, trees_of, refusal_of}
 use Rattle.sp_load.specs.declared.sources.Source.{Source}
 use Rattle.sp_solver.specs.Told.{told}
-use Rattle.sp_checked_list.specs.NameRules.{IsTyped}
+use Rattle.sp_type_answers.specs.NameRules.{IsTyped}
 use Rattle.sp_typed_units.specs.declared.declarations.Typed.{Typed}
-use Rattle.sp_checked_list.specs.Settled.{Answers}
-use Rattle.sp_checked_list.specs.Lists.{typed_list}
-use Rattle.sp_driver_words.specs.Words.{Words}
+use Rattle.sp_type_answers.specs.Settled.{Answers}
+use Rattle.sp_type_answers.specs.Lists.{typed_list}
+use Rattle.sp_driver_args.specs.Words.{Words}
 use Rattle.sp_driver.specs.declared.exits.Unready.{Unready}
 use Rattle.sp_driver.specs.Driver.{run_meaning, unready_status, unready_message}
 use Rattle.sp_driver.specs.Lists.{IsListed, IsUnready, IsChosen}

@@ -6,7 +6,7 @@ use Rattle.sp_front.specs.declared.entries.ModuleFile.{ModuleFile}
 use Rattle.sp_read_file.specs.declared.unread.Unread.{Unread}
 use Rattle.sp_load.specs.Loads.{IsLoaded, sources_of, trees_of}
 use Rattle.sp_load.specs.declared.loaded.Loaded.{Loaded}
-use Rattle.sp_checked_list.specs.NameRules.{IsTyped}
+use Rattle.sp_type_answers.specs.NameRules.{IsTyped}
 use Rattle.sp_unbuilt.specs.Unbuilt.{first_unbuilt}
 use Rattle.sp_driver.specs.LoadedLists.{LoadedListsPass}
 use Rattle.sp_driver.specs.inside.Ready.{PassesWhereBuilt}

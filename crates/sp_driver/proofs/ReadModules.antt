@@ -12,7 +12,7 @@ use Rattle.sp_read_unit.specs.Modules.{IsModuleTree}
 use Rattle.sp_front.specs.declared.entries.ModuleFile.{ModuleFile}
 use Rattle.sp_front.specs.Lists.{IsRead}
 use Rattle.sp_load.specs.Loads.{trees_of}
-use Rattle.sp_list_laws.specs.field_places.Apart.{fields_apart}
+use Rattle.sp_law_lists.specs.field_places.Apart.{fields_apart}
 
 one_formed : (f : ModuleFile) → IsRead f → is_formed f.«module» ≡ true
 one_formed f (tokens, right, tree) = (all_formed f.text tokens tree.0 [] (built f.«module» ∷ []) tree.2 tt).0

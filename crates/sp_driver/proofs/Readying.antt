@@ -10,13 +10,13 @@ use Rattle.sp_load.specs.declared.sources.Source.{Source}
 use Rattle.sp_typed_units.specs.declared.declarations.Parameter.{Parameter}
 use Rattle.sp_typed_units.specs.declared.declarations.Typed.{Typed}
 use Rattle.sp_typed_units.specs.declared.declarations.Unit.{Unit as TypedUnit}
-use Rattle.sp_bodies.specs.Globals.{globals_of}
+use Rattle.sp_meaning.specs.Globals.{globals_of}
 use Rattle.sp_code.specs.declared.program.Program.{Program}
 use Rattle.sp_code_programs.specs.units.Units.{kinds_over, starter_kinds}
 use Rattle.sp_code_programs.specs.programs.Whole.{IsCompiled}
 use Rattle.sp_law_programs.specs.list_runs.Laws.{CompiledListsRun}
 use Rattle.sp_lower.specs.Literals.{ListLiteralsFit}
-use Rattle.sp_list_laws.specs.fit_list.Passes.{ListPasses}
+use Rattle.sp_law_lists.specs.fit_list.Passes.{ListPasses}
 use Rattle.sp_base.specs.declared.bytes.NoMemory.{NoMemory}
 use Rattle.sp_choose.specs.Choices.{takes_nothing, is_parser, is_asked, chosen}
 use Rattle.sp_choose.specs.Laws.{asked_at, IsAskedAt}

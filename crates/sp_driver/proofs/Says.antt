@@ -6,9 +6,9 @@ use Rattle.sp_front.specs.Lists.{Files}
 use Rattle.sp_front.specs.declared.entries.ModuleFile.{ModuleFile}
 use Rattle.sp_load.specs.Loads.{IsLoaded, sources_of, trees_of}
 use Rattle.sp_load.specs.declared.sources.Source.{Source}
-use Rattle.sp_checked_list.specs.NameRules.{IsTyped}
+use Rattle.sp_type_answers.specs.NameRules.{IsTyped}
 use Rattle.sp_typed_units.specs.declared.declarations.Typed.{Typed}
-use Rattle.sp_driver_words.specs.Words.{Words, words_of}
+use Rattle.sp_driver_args.specs.Words.{Words, words_of}
 use Rattle.sp_driver.specs.declared.exits.Exit.{Exit}
 use Rattle.sp_driver.specs.declared.exits.RunExit.{RunExit}
 use Rattle.sp_driver.specs.declared.exits.Unready.{Unready}

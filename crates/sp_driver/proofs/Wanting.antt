@@ -1,9 +1,9 @@
 -- What is wanted is in its range.
 use Rattle.std.specs.Prelude.{option_map, IfSome}
 use Rattle.std.proofs.Common.{◌≡◌, ◌≤◌, ℕ, List, Option, Some, None, ap, ◌∙◌, arith}
-use Rattle.sp_driver_words.specs.declared.words.Wanted.{Wanted}
-use Rattle.sp_driver_words.specs.Wants.{wanted_words, AreInRange}
-use Rattle.sp_driver_words.specs.Words.{Words, words_of}
+use Rattle.sp_driver_args.specs.declared.words.Wanted.{Wanted}
+use Rattle.sp_driver_args.specs.Wants.{wanted_words, AreInRange}
+use Rattle.sp_driver_args.specs.Words.{Words, words_of}
 
 -- pieces have at least one byte
 pub some_of : (words : List (List ℕ)) (wanted : Option Wanted) → option_map wanted_words wanted ≡ words_of words → IfSome wanted AreInRange

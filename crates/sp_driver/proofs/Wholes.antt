@@ -10,7 +10,7 @@ use Rattle.sp_meaning.specs.Meaning.{UnitMeaning}
 use Rattle.sp_command.specs.Refusals.{refusal_text}
 use Rattle.sp_read_file.specs.declared.unread.Unread.{Unread}
 use Rattle.sp_front.specs.Lists.{Files}
-use Rattle.sp_driver_words.specs.Words.{Words, words_of}
+use Rattle.sp_driver_args.specs.Words.{Words, words_of}
 use Rattle.sp_driver.specs.declared.exits.Exit.{Exit}
 use Rattle.sp_driver.specs.declared.exits.RunExit.{RunExit}
 use Rattle.sp_driver.specs.declared.exits.Unready.{Unready}

@@ -2,7 +2,7 @@
 use Rattle.std.specs.Prelude.{◌≡◌, ℕ, List, [], Option, Some, None}
 use Rattle.sp_command.specs.Directories.{directories_of}
 use Rattle.sp_front.specs.Asked.{Told, AsksAll, AsksNoMore}
-use Rattle.sp_driver_words.specs.Words.{Words, words_of}
+use Rattle.sp_driver_args.specs.Words.{Words, words_of}
 
 -- these paths are asked for the files and the directories that are wanted; none are where the words are faulty
 abbrev pub AsksFor : Option Words → (List (List ℕ) → List (List ℕ) → List (List ℕ) → Type 0) → List (List ℕ) → Type 0

@@ -13,7 +13,7 @@ use Rattle.sp_front.specs.inside.Follow.{IsRefusedBy}
 use Rattle.sp_load.specs.Loads.{IsLoadRefused, sources_of, trees_of}
 use Rattle.sp_typed_units.specs.declared.declarations.Typed.{Typed}
 use Rattle.sp_session.specs.Units.{unit_meaning}
-use Rattle.sp_driver_words.specs.Words.{Words, words_of}
+use Rattle.sp_driver_args.specs.Words.{Words, words_of}
 use Rattle.sp_driver.specs.declared.exits.Exit.{Exit}
 use Rattle.sp_driver.specs.declared.exits.RunExit.{RunExit}
 use Rattle.sp_driver.specs.declared.exits.Unready.{Unready}

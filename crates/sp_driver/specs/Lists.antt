@@ -8,11 +8,11 @@ use Rattle.sp_front.specs.declared.entries.ModuleFile.{ModuleFile}
 use Rattle.sp_front.specs.Lists.{Files}
 use Rattle.sp_load.specs.Loads.{IsLoaded, trees_of, refusal_of}
 use Rattle.sp_load.specs.declared.sources.Source.{Source}
-use Rattle.sp_checked_list.specs.NameRules.{IsTyped}
+use Rattle.sp_type_answers.specs.NameRules.{IsTyped}
 use Rattle.sp_typed_units.specs.declared.declarations.Typed.{Typed}
 use Rattle.sp_choose.specs.Choices.{chosen}
 use Rattle.sp_unbuilt.specs.Unbuilt.{first_unbuilt}
-use Rattle.sp_driver_words.specs.Words.{Words}
+use Rattle.sp_driver_args.specs.Words.{Words}
 use Rattle.sp_driver.specs.declared.exits.Unready.{Unready}
 
 -- The words name these files, in whose modules no rule is broken, and this is what is typed of them.

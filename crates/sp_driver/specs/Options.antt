@@ -1,7 +1,7 @@
 -- The options of a run, as the words have them.
 use Rattle.std.specs.Prelude.{ℕ, ◌≤◌, ◌^◌}
 use Rattle.sp_base.specs.declared.places.Limits.{Limits}
-use Rattle.sp_driver_words.specs.Words.{Words}
+use Rattle.sp_driver_args.specs.Words.{Words}
 use Rattle.sp_driver.specs.declared.options.RunOptions.{RunOptions}
 
 -- The limits of a run: so many turns without progress, 100 units and functions open, and 8 fibers within one another.

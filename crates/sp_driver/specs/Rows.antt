@@ -8,7 +8,7 @@ use Rattle.sp_json.specs.Lines.{line_of}
 use Rattle.sp_meaning.specs.declared.stand.Stand.TheVariants.{Waiting}
 use Rattle.sp_meaning.specs.Meaning.{UnitMeaning}
 use Rattle.sp_load.specs.declared.sources.Source.{Source}
-use Rattle.sp_driver_words.specs.Words.{nothing_wanted}
+use Rattle.sp_driver_args.specs.Words.{nothing_wanted}
 use Rattle.sp_driver.specs.declared.exits.Exit.TheVariants as exit_is
 use Rattle.sp_driver.specs.declared.exits.RunExit.TheVariants as run_is
 use Rattle.sp_driver.specs.declared.exits.Unready.TheVariants as unready_is

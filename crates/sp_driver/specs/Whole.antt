@@ -10,7 +10,7 @@ use Rattle.sp_command.specs.declared.refusal.Refusal.{Refusal}
 use Rattle.sp_front.specs.declared.entries.ModuleFile.{ModuleFile}
 use Rattle.sp_load.specs.Loads.{IsLoadRefused, sources_of, trees_of}
 use Rattle.sp_typed_units.specs.declared.declarations.Typed.{Typed}
-use Rattle.sp_driver_words.specs.Words.{Words, words_of}
+use Rattle.sp_driver_args.specs.Words.{Words, words_of}
 use Rattle.sp_driver.specs.declared.exits.Unready.{Unready}
 use Rattle.sp_driver.specs.declared.options.RunOptions.{RunOptions}
 use Rattle.sp_driver.specs.Lists.{IsListed, IsUnready, IsChosen}

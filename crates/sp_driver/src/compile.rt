@@ -1,7 +1,7 @@
 // A list of modules is compiled, and a unit of it is chosen.
 ghost use Rattle.std.specs.Prelude.{◌≡◌, Some, None, IfOk, IfErr, OnOk, option_map};
 ghost use Rattle.sp_choose.specs.Choices.{chosen};
-ghost use Rattle.sp_list_laws.specs.fit_list.Passes.{ListPasses};
+ghost use Rattle.sp_law_lists.specs.fit_list.Passes.{ListPasses};
 ghost use Rattle.sp_load.specs.Loads.{refusal_of};
 ghost use Rattle.sp_driver.specs.Lists.{unbuilt_in, IsUnready};
 ghost use Rattle.sp_driver.specs.inside.Ready.{IsNotChosen, IsRefusalOrNoMemory, IsHindered, PassesWhereBuilt, RunsWhatIsChosen, IsReady};

@@ -1,7 +1,7 @@
 // The program: it reads its words, the list of modules and the input, and answers a status.
 ghost use Rattle.std.specs.Prelude.{◌≡◌, ◌≢◌, ◌≤◌, ◌<◌, ◌-◌, ◌^◌, Some, option_map, IfOk, IfSome};
-ghost use Rattle.sp_driver_words.specs.Wants.{wanted_words, AreInRange};
-ghost use Rattle.sp_driver_words.specs.Words.{Words, words_of};
+ghost use Rattle.sp_driver_args.specs.Wants.{wanted_words, AreInRange};
+ghost use Rattle.sp_driver_args.specs.Words.{Words, words_of};
 ghost use Rattle.sp_front.specs.Asked.{Asks};
 ghost use Rattle.sp_driver.specs.Asked.{AsksByWords, AsksAllByWords};
 ghost use Rattle.sp_driver.specs.Causes.{IsCausedBy};
@@ -17,7 +17,7 @@ use crate::loading::load_list;
 use crate::options::RunOptions;
 use crate::run::run_unit;
 use sp_base::{ByteList, NoMemory, Text};
-use sp_driver_words::{Wanted, words_wanted};
+use sp_driver_args::{Wanted, words_wanted};
 use sp_io::{Modules, Out, OutFault, Source, put_all};
 use sp_load::Loaded;
 use sp_read_file::Unread;

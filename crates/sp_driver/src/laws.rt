@@ -2,8 +2,8 @@
 ghost use Rattle.std.specs.Prelude.{◌≡◌, ℕ, List, Option};
 ghost use Rattle.sp_driver.specs.Whole.{Answer, IsAnswer};
 
-use sp_checked_list::answers_are_one;
 use sp_load::load_is_one;
+use sp_type_answers::answers_are_one;
 
 /// To words, files and an input there is one answer at most: one status, one output and one message.
 pub fn answer_is_one()

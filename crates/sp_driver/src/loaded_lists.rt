@@ -2,7 +2,7 @@
 ghost use Rattle.sp_driver.specs.LoadedLists.{LoadedListsPass};
 
 use sp_front::listed_modules_are_read;
-use sp_list_laws::{lists_pass, modules_are_apart};
+use sp_law_lists::{lists_pass, modules_are_apart};
 
 /// Where all of a list that is loaded is built, what is typed of it passes: its modules are read, so that each alternative has its parts
 /// and fields stand at places of their own, and no rule is broken in them.

@@ -6,7 +6,7 @@ ghost use Rattle.sp_front.specs.declared.entries.ModuleFile.{ModuleFile as File}
 ghost use Rattle.sp_front.specs.Asked.{Asks, AsksAll, AsksNoMore};
 ghost use Rattle.sp_front.specs.inside.Follow.{IsRefusedBy};
 ghost use Rattle.sp_load.specs.Loads.{IsLoaded, IsLoadRefused, sources_of, trees_of};
-ghost use Rattle.sp_checked_list.specs.NameRules.{IsTyped};
+ghost use Rattle.sp_type_answers.specs.NameRules.{IsTyped};
 ghost use Rattle.sp_driver.specs.inside.Ready.{PassesWhereBuilt};
 
 use crate::loaded_lists::loaded_lists_pass;

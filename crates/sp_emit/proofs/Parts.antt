@@ -6,7 +6,7 @@ use Rattle.sp_methods.specs.Kinds.{Kind, Void, VectorOf, SetOf, MapOf, kinds_of}
 use Rattle.sp_types.specs.Types.{Ty, tys}
 use Rattle.sp_types.specs.declared.words.Maker.{Maker}
 use Rattle.sp_types.specs.declared.words.Maker.TheVariants as maker_is
-use Rattle.sp_running.specs.Types.{first_of, behind_first, kind_of_made, kind_of_type, kinds_of_types}
+use Rattle.sp_meaning_states.specs.Types.{first_of, behind_first, kind_of_made, kind_of_type, kinds_of_types}
 use Rattle.sp_code.specs.Programs.{kind_at, kinds_at}
 use Rattle.sp_emit.specs.Kinds.{Grows, IsNumberOf}
 use Rattle.sp_emit.specs.Numbered.{IsAt}

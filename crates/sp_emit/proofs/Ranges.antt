@@ -1,8 +1,8 @@
 -- How many ranges bitfields have, by their numbers.
 use Rattle.std.proofs.Common.{◌≡◌, ◌≤◌, ◌<◌, ℕ, zero, suc, List, [], ◌∷◌, length, get_or, refl, ap, arith}
 use Rattle.sp_typed_units.specs.declared.declarations.Bitfield.{Bitfield}
-use Rattle.sp_running.specs.Types.{ranges_of}
-use Rattle.sp_bodies.specs.Globals.{range_counts}
+use Rattle.sp_meaning_states.specs.Types.{ranges_of}
+use Rattle.sp_meaning.specs.Globals.{range_counts}
 
 pub some_ranges : (bs : List Bitfield) (k : ℕ) (b : Bitfield) → k < length bs → b ≡ get_or bs k b → length b.ranges ≡ ranges_of (range_counts bs) k
 some_ranges [] k b lt is = absurd (let z : ⊥ = omega (arith, lt) in z)

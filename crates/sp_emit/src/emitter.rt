@@ -31,7 +31,7 @@ impl Model for Emitter {
     ghost use Rattle.std.specs.Coded.{codes};
     ghost use Rattle.sp_value.specs.inside.Codes.{coded_val};
     ghost use Rattle.sp_emit.specs.inside.KindCodes.{coded_kind};
-    ghost use Rattle.sp_emit.specs.Emitted.{Emitted};
+    ghost use Rattle.sp_emit.specs.Emitted.{Emitted, Adds, TurnsTo, Redirects, IsOther, nothing_emitted, popped, lowered};
 
     ghost Value = { Emitted };
 
@@ -48,15 +48,14 @@ impl Emitter {
     ghost use Rattle.std.specs.Prelude.{◌≡◌, ◌<◌, [], ◌∷◌, length, IfOk, OnOk, IfSome, IfNone};
     ghost use Rattle.std.specs.List.{AllByRecursion};
     ghost use Rattle.sp_methods.specs.Kinds.{Void};
-    ghost use Rattle.sp_running.specs.Types.{kind_of_type};
-    ghost use Rattle.sp_bodies.specs.Globals.{range_counts};
+    ghost use Rattle.sp_meaning_states.specs.Types.{kind_of_type};
+    ghost use Rattle.sp_meaning.specs.Globals.{range_counts};
     ghost use Rattle.sp_code.specs.Programs.{kind_at, kind_of_row, kinds_at, round_of};
     ghost use Rattle.sp_code.specs.Shapes.{push, body_shape};
     ghost use Rattle.sp_code_programs.specs.exprs.Marked.{mark, constant};
     ghost use Rattle.sp_emit.specs.Kinds.{IsNumberOf, NamesBelow};
     ghost use Rattle.sp_emit.specs.Numbered.{RoundBelow};
     ghost use Rattle.sp_emit.specs.Emission.{IsEmission};
-    ghost use Rattle.sp_emit.specs.Emitted.{Adds, TurnsTo, Redirects, IsOther, nothing_emitted, popped, lowered};
 
     /// No code. Takes no memory.
     pub fn new(alloc: Global) -> Emitter

@@ -1,7 +1,7 @@
 // What is done with operands as code grows.
 ghost use Rattle.std.specs.Prelude.{◌≡◌, [], ◌∷◌, length, OnOk};
-ghost use Rattle.sp_running.specs.Types.{kind_of_type};
-ghost use Rattle.sp_bodies.specs.Globals.{range_counts};
+ghost use Rattle.sp_meaning_states.specs.Types.{kind_of_type};
+ghost use Rattle.sp_meaning.specs.Globals.{range_counts};
 ghost use Rattle.sp_code.specs.Programs.{kind_at, kind_of_row};
 ghost use Rattle.sp_code.specs.Shapes.{push};
 ghost use Rattle.sp_code_programs.specs.exprs.Marked.{mark};

@@ -3,8 +3,8 @@ ghost use Rattle.std.specs.Prelude.{◌≡◌, ◌<◌, ℕ, List, length, IfOk}
 ghost use Rattle.std.specs.List.{AllByRecursion};
 ghost use Rattle.sp_methods.specs.Kinds.{Kind, kinds_of};
 ghost use Rattle.sp_types.specs.Types.{tys};
-ghost use Rattle.sp_running.specs.Types.{ranges_of, kind_of_word, kind_of_made, kind_of_type, kinds_of_types};
-ghost use Rattle.sp_bodies.specs.Globals.{range_counts};
+ghost use Rattle.sp_meaning_states.specs.Types.{ranges_of, kind_of_word, kind_of_made, kind_of_type, kinds_of_types};
+ghost use Rattle.sp_meaning.specs.Globals.{range_counts};
 ghost use Rattle.sp_code.specs.Programs.{kind_at, kinds_at, kind_of_row};
 ghost use Rattle.sp_emit.specs.Kinds.{Grows, IsNumberOf, NamesBelow};
 

@@ -3,8 +3,8 @@ use Rattle.std.proofs.Common.{◌≡◌, ℕ, ◌+◌, true, false, List, [], �
 use Rattle.sp_base.specs.Input.{Close, held_open, ended}
 use Rattle.sp_events.specs.declared.event.What.{What}
 use Rattle.sp_window.specs.Windows.{Held}
-use Rattle.sp_running.specs.States.{Main, Reading, State, End}
-use Rattle.sp_running.specs.Reads.{Ask, Bytes, Read, Grows, Match, is_ended, seen_from}
+use Rattle.sp_meaning_states.specs.States.{Main, Reading, State, End}
+use Rattle.sp_meaning_states.specs.Reads.{Ask, Bytes, Read, Grows, Match, is_ended, seen_from}
 use Rattle.sp_code.specs.Machine.{Plain, Config, Next, Over, step}
 use Rattle.sp_code.specs.Runs.{Comes, here, next}
 use Rattle.sp_law_machine.specs.continues.Laws.{IsSteady, IsWait}

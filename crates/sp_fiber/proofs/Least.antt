@@ -1,7 +1,7 @@
 -- The least place that frames need, which are kept with the innermost one last.
 use Rattle.std.proofs.Common.{◌≡◌, ℕ, ◌+◌, ◌<◌, List, [], ◌∷◌, length, get_or, take, reverse, sym, ap, ◌∙◌}
 use Rattle.std.proofs.lemmas.List.{take_more, reverse-append}
-use Rattle.sp_running.specs.Scopes.{needs}
+use Rattle.sp_meaning_states.specs.Scopes.{needs}
 use Rattle.sp_code.specs.Machine.{low_of}
 use Rattle.sp_frames.specs.declared.frame.Frame.{Frame}
 use Rattle.sp_frames.specs.Frames.{frame_of, frames_of}

@@ -2,9 +2,9 @@
 use Rattle.std.proofs.Common.{◌≡◌, ℕ, ◌≤◌, Bool, true, false, List, [], ◌∷◌, refl, sym, ap, subst, arith}
 use Rattle.std.proofs.lemmas.Bool.{true≢false}
 use Rattle.std.specs.Prelude.{slice_get}
-use Rattle.sp_running.specs.States.{Main, Reading, State, End, Fine, Failed, Returned}
-use Rattle.sp_running.specs.Scopes.{Scope, InUnit, InParts, InFailing, InCall, InSize, InMax, InFrom, InAt, InTry, needs}
-use Rattle.sp_running.specs.Reads.{Ask, Bytes, Read, is_ended}
+use Rattle.sp_meaning_states.specs.States.{Main, Reading, State, End, Fine, Failed, Returned}
+use Rattle.sp_meaning_states.specs.Scopes.{Scope, InUnit, InParts, InFailing, InCall, InSize, InMax, InFrom, InAt, InTry, needs}
+use Rattle.sp_meaning_states.specs.Reads.{Ask, Bytes, Read, is_ended}
 use Rattle.sp_code.specs.Machine.{Frame, Plain, At, Waits, Over, step, low_of}
 use Rattle.sp_law_machine.specs.continues.Windows.{ScopesFrom, scopes_of, StateFrom, From}
 use Rattle.sp_frames.specs.Frames.{error_of}

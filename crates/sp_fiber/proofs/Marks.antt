@@ -8,12 +8,12 @@ use Rattle.sp_value.specs.Parts.{text_in}
 use Rattle.sp_operators.specs.Operators.{unary, binary, cast}
 use Rattle.sp_methods.specs.Methods.{method}
 use Rattle.sp_words.specs.Methods.{arity}
-use Rattle.sp_running.specs.States.{Error, Reading, State, End, Gives, Fine, Result, Ends, truth_of, member_of, put_member}
-use Rattle.sp_running.specs.Scopes.{leave}
-use Rattle.sp_running.specs.Reads.{Ask, Bytes, Read, Got, Lacks, Shorts, NoWord, least_with, lacking, Seen, read_in}
-use Rattle.sp_running.specs.Values.{item_at, with_at, members_of}
-use Rattle.sp_running.specs.Types.{width_bytes}
-use Rattle.sp_running.specs.Telling.{Names}
+use Rattle.sp_meaning_states.specs.States.{Error, Reading, State, End, Gives, Fine, Result, Ends, truth_of, member_of, put_member}
+use Rattle.sp_meaning_states.specs.Scopes.{leave}
+use Rattle.sp_meaning_states.specs.Reads.{Ask, Bytes, Read, Got, Lacks, Shorts, NoWord, least_with, lacking, Seen, read_in}
+use Rattle.sp_meaning_states.specs.Values.{item_at, with_at, members_of}
+use Rattle.sp_meaning_states.specs.Types.{width_bytes}
+use Rattle.sp_meaning_states.specs.Telling.{Names}
 use Rattle.sp_machine.specs.Plain.{no_tokens}
 use Rattle.sp_code.specs.declared.instr.Instr.{Instr}
 use Rattle.sp_code.specs.declared.instr.Instr.TheVariants as does

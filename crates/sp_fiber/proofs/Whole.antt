@@ -4,8 +4,8 @@ use Rattle.std.proofs.lemmas.List.{drop-drop, drop_all, drop-append-le}
 use Rattle.std.specs.Prelude.{min}
 use Rattle.sp_events.specs.declared.event.What.{What}
 use Rattle.sp_window.specs.Windows.{Held, end_of, trimmed}
-use Rattle.sp_running.specs.States.{Main, Reading, State, End}
-use Rattle.sp_running.specs.Reads.{Ask, Bytes, Read, is_ended}
+use Rattle.sp_meaning_states.specs.States.{Main, Reading, State, End}
+use Rattle.sp_meaning_states.specs.Reads.{Ask, Bytes, Read, is_ended}
 use Rattle.sp_code.specs.Machine.{Plain, Config, Next, Goes, Waits, Over, step, low_of}
 use Rattle.sp_code.specs.Runs.{Comes}
 use Rattle.sp_law_machine.specs.continues.Windows.{window_from, reads_window, From}

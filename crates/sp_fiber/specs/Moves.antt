@@ -3,8 +3,8 @@ use Rattle.std.specs.Prelude.{◌≡◌, ◌≤◌, ℕ, Bool, true, false, List
 use Rattle.sp_base.specs.Input.{Close}
 use Rattle.sp_events.specs.declared.event.What.{What}
 use Rattle.sp_window.specs.Windows.{Held}
-use Rattle.sp_running.specs.States.{Reading, State, End}
-use Rattle.sp_running.specs.Reads.{Ask, Read, reads}
+use Rattle.sp_meaning_states.specs.States.{Reading, State, End}
+use Rattle.sp_meaning_states.specs.Reads.{Ask, Read, reads}
 use Rattle.sp_code.specs.Machine.{Frame, Plain, Config, At, Ending, Waits, Over, step, low_of}
 use Rattle.sp_code.specs.Runs.{Comes}
 use Rattle.sp_law_machine.specs.continues.Windows.{From}

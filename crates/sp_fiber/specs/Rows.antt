@@ -7,8 +7,8 @@ use Rattle.sp_numbers.specs.declared.width.Width.TheVariants.{W16}
 use Rattle.sp_value.specs.Val.{uint}
 use Rattle.sp_methods.specs.Kinds.{Unsigned}
 use Rattle.sp_window.specs.Windows.{Held}
-use Rattle.sp_running.specs.States.{Main, State, Fine, Failed, Returned, error_at}
-use Rattle.sp_running.specs.Scopes.{InUnit, InParts}
+use Rattle.sp_meaning_states.specs.States.{Main, State, Fine, Failed, Returned, error_at}
+use Rattle.sp_meaning_states.specs.Scopes.{InUnit, InParts}
 use Rattle.sp_code.specs.declared.instr.IntForm.{IntForm}
 use Rattle.sp_code.specs.declared.instr.Instr.{Instr}
 use Rattle.sp_code.specs.declared.instr.Instr.TheVariants.{ReadInt, Return}

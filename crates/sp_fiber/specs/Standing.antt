@@ -1,6 +1,6 @@
 -- How a fiber stands, by what its machine does next.
 use Rattle.std.specs.Prelude.{◌≡◌}
-use Rattle.sp_running.specs.States.{Fine, Failed as FailedBy, Returned}
+use Rattle.sp_meaning_states.specs.States.{Fine, Failed as FailedBy, Returned}
 use Rattle.sp_code.specs.Machine.{Next, Waits, Over}
 use Rattle.sp_frames.specs.Frames.{error_of}
 use Rattle.sp_machine.specs.declared.machine.Mode.{Mode}

@@ -1,6 +1,6 @@
 // The least place that open constructs still need.
 ghost use Rattle.std.specs.Prelude.{◌≡◌, reverse};
-ghost use Rattle.sp_running.specs.Scopes.{needs};
+ghost use Rattle.sp_meaning_states.specs.Scopes.{needs};
 ghost use Rattle.sp_code.specs.Machine.{low_of};
 ghost use Rattle.sp_frames.specs.Frames.{frame_of, frames_of};
 

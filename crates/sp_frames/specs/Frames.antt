@@ -1,9 +1,9 @@
 -- Frames as plain data.
 use Rattle.std.specs.Prelude.{List, [], ◌∷◌}
 use Rattle.sp_base.specs.declared.places.ParseError.{ParseError}
-use Rattle.sp_running.specs.States.{Error}
-use Rattle.sp_running.specs.Scopes.{Called, Scope, InUnit, InParts, InFailing, InCall}
-use Rattle.sp_running.specs.Scopes as called_is
+use Rattle.sp_meaning_states.specs.States.{Error}
+use Rattle.sp_meaning_states.specs.Scopes.{Called, Scope, InUnit, InParts, InFailing, InCall}
+use Rattle.sp_meaning_states.specs.Scopes as called_is
 use Rattle.sp_code.specs.Machine as plain
 use Rattle.sp_frames.specs.declared.frame.Callee.{Callee}
 use Rattle.sp_frames.specs.declared.frame.Callee.TheVariants as callee_is

@@ -1,7 +1,7 @@
 // Instances of units.
 ghost use Rattle.std.specs.Prelude.{◌≡◌, ◌<◌, List, Option, length, replicate, slice_get, None, IfOk, option_copied};
 ghost use Rattle.sp_value.specs.Val.{Val};
-ghost use Rattle.sp_running.specs.States.{with_member, flat};
+ghost use Rattle.sp_meaning_states.specs.States.{with_member, flat};
 
 use sp_base::NoMemory;
 use sp_value::{Value, Values};
@@ -21,7 +21,7 @@ pub struct Instance {
 impl Model for Instance {
     ghost use Rattle.std.specs.Coded.{codes};
     ghost use Rattle.sp_value.specs.contracts.value.Value as value_row;
-    ghost use Rattle.sp_running.specs.States as states;
+    ghost use Rattle.sp_meaning_states.specs.States as states;
 
     ghost Value = { states.Instance };
 

@@ -9,9 +9,9 @@ use Rattle.sp_typed_units.specs.declared.declarations.Enum.{Enum}
 use Rattle.sp_typed_units.specs.declared.declarations.Label.{Label}
 use Rattle.sp_typed_units.specs.declared.declarations.LabelNumber.{LabelNumber}
 use Rattle.sp_typed_units.specs.declared.declarations.LabelNumber.TheVariants as number_is
-use Rattle.sp_constants.specs.declared.outcome.Outcome.TheVariants.{Value}
-use Rattle.sp_list_rules.specs.Told.{constant_outcome, constant_told, label_outcome, label_told, label_in}
-use Rattle.sp_bodies.specs.Globals.{constant_value, constant_values, number_of, label_numbers, enum_labels}
+use Rattle.sp_type_constants.specs.declared.outcome.Outcome.TheVariants.{Value}
+use Rattle.sp_rule_lists.specs.Told.{constant_outcome, constant_told, label_outcome, label_told, label_in}
+use Rattle.sp_meaning.specs.Globals.{constant_value, constant_values, number_of, label_numbers, enum_labels}
 use Rattle.sp_law_constants.specs.Lists.{ListsAgree}
 
 value_kept : (c : ConstantValue) (v : Val) → constant_outcome c ≡ Value v → constant_value c ≡ Some v

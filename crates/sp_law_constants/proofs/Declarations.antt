@@ -16,20 +16,21 @@ use Rattle.sp_names.specs.declared.rows.Declaration.{Declaration}
 use Rattle.sp_names.specs.declared.sort.DeclSort.{DeclSort}
 use Rattle.sp_names.specs.declared.sort.DeclSort.TheVariants as sort_is
 use Rattle.sp_names.specs.Declarations.{rows, sort_of}
-use Rattle.sp_typing.specs.Typing.{typed, to_maybe}
-use Rattle.sp_constants.specs.declared.outcome.Outcome.{Outcome}
-use Rattle.sp_constants.specs.declared.outcome.Outcome.TheVariants.{Value, Regex, NotConstant, Error, Unknown}
-use Rattle.sp_constants.specs.Labels.{fitting, fits_written}
-use Rattle.sp_constants.specs.Values.{value_of}
-use Rattle.sp_declared_values.specs.declared.answer.Answer.{Answer}
-use Rattle.sp_declared_values.specs.Valued.{written_tree, value_tree, written_type, constant_of, if_constant, constants_among, constants, labels, valued}
-use Rattle.sp_declared_values.specs.Answers.{answer_at, value_or, constant_value, known_values, here, constant_expr, answer_of}
-use Rattle.sp_declared_values.specs.Leaves.{Holds, HoldsAll, maybe_holds}
-use Rattle.sp_declared_values.specs.TypedRows.{shown_value, declared_constant, next_constant, if_declared, constants_from, typed_constants}
-use Rattle.sp_running.specs.States.{State, Result}
-use Rattle.sp_bodies.specs.Globals.{Globals, Layout, constant_values, globals_of}
-use Rattle.sp_bodies.specs.Globals as bodies
-use Rattle.sp_bodies.specs.Exprs.{expr_means}
+use Rattle.sp_type_context.specs.Typing.{typed, to_maybe}
+use Rattle.sp_type_constants.specs.declared.outcome.Outcome.{Outcome}
+use Rattle.sp_type_constants.specs.declared.outcome.Outcome.TheVariants.{Value, Regex, NotConstant, Error, Unknown}
+use Rattle.sp_type_constants.specs.Labels.{fitting, fits_written}
+use Rattle.sp_type_constants.specs.Values.{value_of}
+use Rattle.sp_type_values.specs.declared.answer.Answer.{Answer}
+use Rattle.sp_type_values.specs.Valued.{written_tree, value_tree, written_type, constant_of, if_constant, constants_among, constants, labels, valued}
+use Rattle.sp_type_values.specs.Answers.{answer_at, value_or, constant_value, known_values, here, constant_expr, answer_of}
+use Rattle.sp_type_values.specs.Leaves.{Holds, HoldsAll, maybe_holds}
+use Rattle.sp_type_values.specs.TypedRows.{shown_value, declared_constant, next_constant, if_declared, constants_from, typed_constants}
+use Rattle.sp_meaning_states.specs.States.{State, Result}
+use Rattle.sp_meaning.specs.Globals.{Globals, constant_values, globals_of}
+use Rattle.sp_code_meaning.specs.Layouts.{Layout}
+use Rattle.sp_meaning.specs.Globals as bodies
+use Rattle.sp_code_meaning.specs.Exprs.{expr_means}
 use Rattle.sp_law_constants.specs.Constants.{AlwaysGives, GivesAt}
 use Rattle.sp_law_constants.specs.Declared.{AreTyped, ExpressionsAreMeant, ConstantsAreMeant}
 use Rattle.sp_law_constants.proofs.Means.{value_meant}

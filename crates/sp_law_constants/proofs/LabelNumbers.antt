@@ -5,7 +5,7 @@ use Rattle.sp_ast.specs.Views.{present}
 use Rattle.sp_numbers.specs.declared.width.Width.{Width}
 use Rattle.sp_value.specs.Val.{Val, uint, enum}
 use Rattle.sp_types.specs.Types.{Ty, word}
-use Rattle.sp_operands.specs.Literals.{unsigned_literal}
+use Rattle.sp_type_operands.specs.Literals.{unsigned_literal}
 use Rattle.sp_typed.specs.Exprs.{Expr}
 use Rattle.sp_typed_units.specs.declared.declarations.Enum.{Enum}
 use Rattle.sp_typed_units.specs.declared.declarations.Label.{Label}
@@ -15,17 +15,18 @@ use Rattle.sp_names.specs.declared.rows.Declaration.{Declaration}
 use Rattle.sp_names.specs.declared.sort.DeclSort.TheVariants as sort_is
 use Rattle.sp_names.specs.Declarations.{all_of, type_tree_of, library_enums}
 use Rattle.sp_names.specs.Names.{library_labels, declaration_of, enum_labels, labels_of, own_labels}
-use Rattle.sp_constants.specs.declared.outcome.Outcome.{Outcome}
-use Rattle.sp_constants.specs.declared.outcome.Outcome.TheVariants.{Value, Regex, NotConstant, Error, Unknown}
-use Rattle.sp_constants.specs.Labels.{label_value as labelled}
-use Rattle.sp_constants.specs.Values.{value_of}
-use Rattle.sp_declared_values.specs.declared.answer.Answer.{Answer}
-use Rattle.sp_declared_values.specs.Valued.{number_tree, label_of, labels_from, declared_labels}
-use Rattle.sp_declared_values.specs.Answers.{label_value, known_values, label_expr, answer_of}
-use Rattle.sp_declared_values.specs.TypedRows.{shown_number, number_expr, number_at, declared_label, labels_of_enum, declared_enum, own_enums, library_label, library_rows, typed_enums}
-use Rattle.sp_running.specs.States.{State, Result}
-use Rattle.sp_bodies.specs.Globals.{Layout, globals_of}
-use Rattle.sp_bodies.specs.Exprs.{expr_means}
+use Rattle.sp_type_constants.specs.declared.outcome.Outcome.{Outcome}
+use Rattle.sp_type_constants.specs.declared.outcome.Outcome.TheVariants.{Value, Regex, NotConstant, Error, Unknown}
+use Rattle.sp_type_constants.specs.Labels.{label_value as labelled}
+use Rattle.sp_type_constants.specs.Values.{value_of}
+use Rattle.sp_type_values.specs.declared.answer.Answer.{Answer}
+use Rattle.sp_type_values.specs.Valued.{number_tree, label_of, labels_from, declared_labels}
+use Rattle.sp_type_values.specs.Answers.{label_value, known_values, label_expr, answer_of}
+use Rattle.sp_type_values.specs.TypedRows.{shown_number, number_expr, number_at, declared_label, labels_of_enum, declared_enum, own_enums, library_label, library_rows, typed_enums}
+use Rattle.sp_meaning_states.specs.States.{State, Result}
+use Rattle.sp_code_meaning.specs.Layouts.{Layout}
+use Rattle.sp_meaning.specs.Globals.{globals_of}
+use Rattle.sp_code_meaning.specs.Exprs.{expr_means}
 use Rattle.sp_law_constants.specs.Constants.{AlwaysGives}
 use Rattle.sp_law_constants.specs.Declared.{AreTyped, LabelsAreMeant}
 use Rattle.sp_law_constants.proofs.Labels.{no_some, place, entry_place, answered_at, own_answer}

@@ -15,18 +15,18 @@ use Rattle.sp_names.specs.declared.rows.Declaration.{Declaration}
 use Rattle.sp_names.specs.declared.sort.DeclSort.TheVariants as sort_is
 use Rattle.sp_names.specs.Declarations.{all_of, type_tree_of, library_enums}
 use Rattle.sp_names.specs.Names.{library_labels, declaration_of, enum_labels, labels_of, own_labels}
-use Rattle.sp_constants.specs.declared.outcome.Outcome.{Outcome}
-use Rattle.sp_constants.specs.declared.outcome.Outcome.TheVariants.{Value, Regex, NotConstant, Error, Unknown}
-use Rattle.sp_constants.specs.Labels.{label_value as labelled, next_label}
-use Rattle.sp_declared_values.specs.declared.answer.Answer.{Answer}
-use Rattle.sp_declared_values.specs.declared.valued.Valued.{Valued}
-use Rattle.sp_declared_values.specs.declared.valued.Valued.TheVariants as valued_is
-use Rattle.sp_declared_values.specs.Valued.{number_tree, constants, label_of, labels_from, declared_labels, labels_before, labels, own_place, valued, needs}
-use Rattle.sp_declared_values.specs.Answers.{answer_at, value_or, label_value, answer_of, gives}
-use Rattle.sp_declared_values.specs.Laws.{within}
-use Rattle.sp_declared_values.specs.TypedRows.{shown_number, or_past, own_number, number_at, labels_of_enum, declared_enum, own_enums, library_rows, typed_enums}
-use Rattle.sp_bodies.specs.Globals.{number_of, label_numbers}
-use Rattle.sp_bodies.specs.Globals as bodies
+use Rattle.sp_type_constants.specs.declared.outcome.Outcome.{Outcome}
+use Rattle.sp_type_constants.specs.declared.outcome.Outcome.TheVariants.{Value, Regex, NotConstant, Error, Unknown}
+use Rattle.sp_type_constants.specs.Labels.{label_value as labelled, next_label}
+use Rattle.sp_type_values.specs.declared.answer.Answer.{Answer}
+use Rattle.sp_type_values.specs.declared.valued.Valued.{Valued}
+use Rattle.sp_type_values.specs.declared.valued.Valued.TheVariants as valued_is
+use Rattle.sp_type_values.specs.Valued.{number_tree, constants, label_of, labels_from, declared_labels, labels_before, labels, own_place, valued, needs}
+use Rattle.sp_type_values.specs.Answers.{answer_at, value_or, label_value, answer_of, gives}
+use Rattle.sp_type_values.specs.Laws.{within}
+use Rattle.sp_type_values.specs.TypedRows.{shown_number, or_past, own_number, number_at, labels_of_enum, declared_enum, own_enums, library_rows, typed_enums}
+use Rattle.sp_meaning.specs.Globals.{number_of, label_numbers}
+use Rattle.sp_meaning.specs.Globals as bodies
 
 some_same : {A : Type 0} (a b : A) → Some a ≡ Some b → a ≡ b
 some_same a b e = cc

@@ -12,16 +12,18 @@ use Rattle.sp_types.specs.declared.words.Maker.TheVariants as maker_is
 use Rattle.sp_types.specs.Types.{Ty, word, made}
 use Rattle.sp_typed.specs.declared.words.LeafOp.{LeafOp}
 use Rattle.sp_typed.specs.declared.words.LeafOp.TheVariants as leaf_is
-use Rattle.sp_constants.specs.declared.outcome.Outcome.{Outcome}
-use Rattle.sp_constants.specs.declared.outcome.Outcome.TheVariants.{Value, Regex, NotConstant, Error, Unknown}
-use Rattle.sp_constants.specs.Known.{Known}
-use Rattle.sp_constants.specs.Outcomes.{used}
-use Rattle.sp_constants.specs.Operations.{if_within, literal, negative_literal, empty}
-use Rattle.sp_constants.specs.Values.{leaf_value}
-use Rattle.sp_running.specs.States.{State, Gives, Result, ends}
-use Rattle.sp_running.specs.Types.{number_value, zero_value}
-use Rattle.sp_bodies.specs.Globals.{Globals, Layout}
-use Rattle.sp_bodies.specs.Exprs.{known, leaf_means}
+use Rattle.sp_type_constants.specs.declared.outcome.Outcome.{Outcome}
+use Rattle.sp_type_constants.specs.declared.outcome.Outcome.TheVariants.{Value, Regex, NotConstant, Error, Unknown}
+use Rattle.sp_type_constants.specs.Known.{Known}
+use Rattle.sp_type_constants.specs.Outcomes.{used}
+use Rattle.sp_type_constants.specs.Operations.{if_within, literal, negative_literal, empty}
+use Rattle.sp_type_constants.specs.Values.{leaf_value}
+use Rattle.sp_meaning_states.specs.States.{State, Gives, Result, ends}
+use Rattle.sp_meaning_states.specs.Types.{number_value, zero_value}
+use Rattle.sp_meaning.specs.Globals.{Globals}
+use Rattle.sp_code_meaning.specs.Layouts.{Layout}
+use Rattle.sp_meaning.specs.Operations.{known}
+use Rattle.sp_code_meaning.specs.Exprs.{leaf_means}
 use Rattle.sp_law_constants.specs.Constants.{GivesAt, has_value, leaf_stands}
 use Rattle.sp_law_constants.proofs.Told.{Evaluation, Told}
 use Rattle.sp_law_constants.proofs.Truths.{always}

@@ -26,19 +26,21 @@ use Rattle.sp_typed.specs.declared.words.ManyOp.{ManyOp}
 use Rattle.sp_typed.specs.declared.words.ManyOp.TheVariants as many_is
 use Rattle.sp_typed.specs.Exprs.{Expr, Exprs, leaf, one, two, three, many, none, more, is_minus, is_number, number_leaf}
 use Rattle.sp_typed.specs.Nodes.{holds, all_hold}
-use Rattle.sp_constants.specs.declared.outcome.Outcome.{Outcome}
-use Rattle.sp_constants.specs.declared.outcome.Outcome.TheVariants.{Value, Error, Unknown}
-use Rattle.sp_constants.specs.Known.{Known}
-use Rattle.sp_constants.specs.Outcomes.{of_one, values, answered}
-use Rattle.sp_constants.specs.Operations.{operated, operated_on, sized, cast_to, integer_type, negative_literal, indexed, member, or_error, or_unknown}
-use Rattle.sp_constants.specs.Values.{leaf_number, number_in, one_value, two_value, binary_value, many_value, value_of, all_values}
-use Rattle.sp_declared_values.specs.Leaves.{Holds, HoldsAll}
-use Rattle.sp_running.specs.States.{State, Result, got}
-use Rattle.sp_running.specs.Values.{item_at, size_value}
-use Rattle.sp_running.specs.Types.{number_value, plain_type}
-use Rattle.sp_bodies.specs.Globals.{Globals, Layout}
-use Rattle.sp_bodies.specs.Exprs.{negative, unless_literal, one_means, two_means, many_means, expr_means, all_got, offset_local, is_self, receiver_means}
-use Rattle.sp_bodies.specs.Exprs as bodies
+use Rattle.sp_type_constants.specs.declared.outcome.Outcome.{Outcome}
+use Rattle.sp_type_constants.specs.declared.outcome.Outcome.TheVariants.{Value, Error, Unknown}
+use Rattle.sp_type_constants.specs.Known.{Known}
+use Rattle.sp_type_constants.specs.Outcomes.{of_one, values, answered}
+use Rattle.sp_type_constants.specs.Operations.{operated, operated_on, sized, cast_to, integer_type, negative_literal, indexed, member, or_error, or_unknown}
+use Rattle.sp_type_constants.specs.Values.{leaf_number, number_in, one_value, two_value, binary_value, many_value, value_of, all_values}
+use Rattle.sp_type_values.specs.Leaves.{Holds, HoldsAll}
+use Rattle.sp_meaning_states.specs.States.{State, Result, got}
+use Rattle.sp_meaning_states.specs.Values.{item_at, size_value}
+use Rattle.sp_meaning_states.specs.Types.{number_value, plain_type}
+use Rattle.sp_meaning.specs.Globals.{Globals}
+use Rattle.sp_code_meaning.specs.Layouts.{Layout}
+use Rattle.sp_meaning.specs.Operations.{negative, unless_literal, one_means, two_means, is_self}
+use Rattle.sp_code_meaning.specs.Exprs.{many_means, expr_means, all_got, offset_local, receiver_means}
+use Rattle.sp_meaning.specs.Operations as bodies
 use Rattle.sp_law_constants.specs.Constants.{AlwaysGives, AlwaysFails, ConstantsGive, GivesAt, stands, ValuesAreMeant, ErrorsAreMeant}
 use Rattle.sp_law_constants.proofs.Told.{Evaluation, Told, Tells, told_same, if_told, one_told, two_told}
 use Rattle.sp_law_constants.proofs.Truths.{always, three_told, and_told, or_told}

@@ -25,15 +25,15 @@ use Rattle.sp_names.specs.declared.sort.Scope.{Scope}
 use Rattle.sp_names.specs.declared.sort.Scope.TheVariants as scope_is
 use Rattle.sp_names.specs.Declarations.{sort_at, library_enums}
 use Rattle.sp_names.specs.Names.{is_name, first_named, label_name, declared, visible, place_among, library_names, library_labels, own_labels, label_in, some_declaration, some_library, some_label, named_in, enum_of, own_enum, label_of, behind, meaning_or, in_scope, in_own, means, path_names, path_means}
-use Rattle.sp_operands.specs.Literals.{seen}
-use Rattle.sp_typing.specs.Contexts.{Around}
-use Rattle.sp_typing.specs.Typing.{typed, typed_all, pairs_typed}
-use Rattle.sp_typing.specs.Typing as typing
-use Rattle.sp_method_types.specs.Methods.{base_ten, utf8, replace, left_out_of}
-use Rattle.sp_around.specs.Arounds.{word_leaf, type_leaf, declared_at, meaning_at, slice_of, path_at}
-use Rattle.sp_declared_values.specs.declared.answer.Answer.{Answer}
-use Rattle.sp_declared_values.specs.Answers.{constant_type, here}
-use Rattle.sp_declared_values.specs.Leaves.{Holds, HoldsOf, HoldsIn, led_holds, map_holds, binary_holds, choice_holds, member_holds, set_member_holds, indexed_holds, call_holds, method_holds, new_holds}
+use Rattle.sp_type_operands.specs.Literals.{seen}
+use Rattle.sp_type_context.specs.Contexts.{Around}
+use Rattle.sp_type_context.specs.Typing.{typed, typed_all, pairs_typed}
+use Rattle.sp_type_context.specs.Typing as typing
+use Rattle.sp_type_methods.specs.Methods.{base_ten, utf8, replace, left_out_of}
+use Rattle.sp_type_modules.specs.Arounds.{word_leaf, type_leaf, declared_at, meaning_at, slice_of, path_at}
+use Rattle.sp_type_values.specs.declared.answer.Answer.{Answer}
+use Rattle.sp_type_values.specs.Answers.{constant_type, here}
+use Rattle.sp_type_values.specs.Leaves.{Holds, HoldsOf, HoldsIn, led_holds, map_holds, binary_holds, choice_holds, member_holds, set_member_holds, indexed_holds, call_holds, method_holds, new_holds}
 use Rattle.sp_law_constants.proofs.Labels.{listed}
 
 some_same : (a b : ℕ) → Some a ≡ Some b → a ≡ b

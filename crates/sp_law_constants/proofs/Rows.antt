@@ -7,15 +7,16 @@ use Rattle.sp_value.specs.Val.{Val, void, tuple, vector, set, map, no_vals, no_e
 use Rattle.sp_value.specs.Changes.{with_member, with_entry}
 use Rattle.sp_typed.specs.declared.words.ManyOp.TheVariants as many_is
 use Rattle.sp_typed.specs.Exprs.{Expr, Exprs, none, more}
-use Rattle.sp_constants.specs.declared.outcome.Outcome.{Outcome}
-use Rattle.sp_constants.specs.declared.outcome.Outcome.TheVariants.{Value, Regex, NotConstant, Error, Unknown}
-use Rattle.sp_constants.specs.Outcomes.{lack_of, worse, worst, kept, values, made, of_all}
-use Rattle.sp_constants.specs.Operations.{with_members, with_entries, row_of}
-use Rattle.sp_running.specs.States.{State, Gives, Result, ends}
-use Rattle.sp_running.specs.Values.{set_of, map_of}
-use Rattle.sp_running.specs.Values as running
-use Rattle.sp_bodies.specs.Globals.{Globals, Layout}
-use Rattle.sp_bodies.specs.Exprs.{expr_means, all_got}
+use Rattle.sp_type_constants.specs.declared.outcome.Outcome.{Outcome}
+use Rattle.sp_type_constants.specs.declared.outcome.Outcome.TheVariants.{Value, Regex, NotConstant, Error, Unknown}
+use Rattle.sp_type_constants.specs.Outcomes.{lack_of, worse, worst, kept, values, made, of_all}
+use Rattle.sp_type_constants.specs.Operations.{with_members, with_entries, row_of}
+use Rattle.sp_meaning_states.specs.States.{State, Gives, Result, ends}
+use Rattle.sp_meaning_states.specs.Values.{set_of, map_of}
+use Rattle.sp_meaning_states.specs.Values as running
+use Rattle.sp_meaning.specs.Globals.{Globals}
+use Rattle.sp_code_meaning.specs.Layouts.{Layout}
+use Rattle.sp_code_meaning.specs.Exprs.{expr_means, all_got}
 use Rattle.sp_law_constants.specs.Constants.{AlwaysGives, AlwaysFails}
 use Rattle.sp_law_constants.proofs.Told.{Evaluation, Fails, IsAnswered, Told, got_value, got_error}
 

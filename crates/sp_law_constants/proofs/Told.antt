@@ -3,10 +3,10 @@ use Rattle.std.specs.Prelude.{true, [], Result as Answer, Ok, Err}
 use Rattle.std.proofs.Common.{◌≡◌, ◌⊎◌, inl, inr, refl, sym, ap, subst, ◌∙◌}
 use Rattle.sp_base.specs.declared.kinds.PKind.{PKind}
 use Rattle.sp_value.specs.Val.{Val}
-use Rattle.sp_constants.specs.declared.outcome.Outcome.{Outcome}
-use Rattle.sp_constants.specs.declared.outcome.Outcome.TheVariants.{Value, Regex, NotConstant, Error, Unknown}
-use Rattle.sp_constants.specs.Outcomes.{of_one, of_two, if_constant, is_constant}
-use Rattle.sp_running.specs.States.{State, Result, Ends, behind, got, answer}
+use Rattle.sp_type_constants.specs.declared.outcome.Outcome.{Outcome}
+use Rattle.sp_type_constants.specs.declared.outcome.Outcome.TheVariants.{Value, Regex, NotConstant, Error, Unknown}
+use Rattle.sp_type_constants.specs.Outcomes.{of_one, of_two, if_constant, is_constant}
+use Rattle.sp_meaning_states.specs.States.{State, Result, Ends, behind, got, answer}
 use Rattle.sp_law_constants.specs.Constants.{AlwaysGives, AlwaysFails}
 
 -- an evaluation, and one that is an answer in every state

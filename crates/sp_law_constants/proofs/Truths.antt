@@ -2,11 +2,11 @@
 use Rattle.std.specs.Prelude.{Bool, true, false, Ok}
 use Rattle.std.proofs.Common.{◌≡◌, ◌⊎◌, inl, inr, refl, ◌∙◌}
 use Rattle.sp_value.specs.Val.{Val, bool}
-use Rattle.sp_constants.specs.declared.outcome.Outcome.{Outcome}
-use Rattle.sp_constants.specs.declared.outcome.Outcome.TheVariants.{Value, Regex, NotConstant, Error, Unknown}
-use Rattle.sp_constants.specs.Outcomes.{of_one, if_constant, is_constant, truth, both_hold, either_holds, chosen as choice}
-use Rattle.sp_constants.specs.Values.{three_value}
-use Rattle.sp_running.specs.States.{State, Gives, ends, got, chosen, truth_of}
+use Rattle.sp_type_constants.specs.declared.outcome.Outcome.{Outcome}
+use Rattle.sp_type_constants.specs.declared.outcome.Outcome.TheVariants.{Value, Regex, NotConstant, Error, Unknown}
+use Rattle.sp_type_constants.specs.Outcomes.{of_one, if_constant, is_constant, truth, both_hold, either_holds, chosen as choice}
+use Rattle.sp_type_constants.specs.Values.{three_value}
+use Rattle.sp_meaning_states.specs.States.{State, Gives, ends, got, chosen, truth_of}
 use Rattle.sp_law_constants.specs.Constants.{AlwaysGives}
 use Rattle.sp_law_constants.proofs.Told.{Evaluation, IsAnswered, Told, got_value, got_fails, got_answered, or_fails, told_same, constant_answered, if_told}
 

@@ -6,13 +6,14 @@ use Rattle.sp_typed.specs.declared.words.LeafOp.{LeafOp}
 use Rattle.sp_typed.specs.declared.words.LeafOp.TheVariants as leaf_is
 use Rattle.sp_typed.specs.Exprs.{Expr, leaf}
 use Rattle.sp_typed.specs.Nodes.{holds}
-use Rattle.sp_constants.specs.declared.outcome.Outcome.{Outcome}
-use Rattle.sp_constants.specs.declared.outcome.Outcome.TheVariants.{Value, Error}
-use Rattle.sp_constants.specs.Known.{Known}
-use Rattle.sp_constants.specs.Values.{value_of}
-use Rattle.sp_running.specs.States.{State, Gives, Result, ends, fails}
-use Rattle.sp_bodies.specs.Globals.{Globals, Layout, label_value}
-use Rattle.sp_bodies.specs.Exprs.{expr_means}
+use Rattle.sp_type_constants.specs.declared.outcome.Outcome.{Outcome}
+use Rattle.sp_type_constants.specs.declared.outcome.Outcome.TheVariants.{Value, Error}
+use Rattle.sp_type_constants.specs.Known.{Known}
+use Rattle.sp_type_constants.specs.Values.{value_of}
+use Rattle.sp_meaning_states.specs.States.{State, Gives, Result, ends, fails}
+use Rattle.sp_meaning.specs.Globals.{Globals, label_value}
+use Rattle.sp_code_meaning.specs.Layouts.{Layout}
+use Rattle.sp_code_meaning.specs.Exprs.{expr_means}
 
 -- In every state an evaluation gives this value, tells nothing and changes nothing; or it fails by this error there, tells nothing and
 -- changes nothing.

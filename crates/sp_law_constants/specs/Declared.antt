@@ -13,16 +13,17 @@ use Rattle.sp_typed_units.specs.declared.declarations.LabelNumber.TheVariants as
 use Rattle.sp_typed_units.specs.declared.declarations.Typed.{Typed}
 use Rattle.sp_solver.specs.Rounds.{IsSettled}
 use Rattle.sp_dependencies.specs.Tries.{tries}
-use Rattle.sp_typing.specs.Typing.{typed, to_maybe}
-use Rattle.sp_constants.specs.declared.outcome.Outcome.TheVariants.{Value}
-use Rattle.sp_constants.specs.Values.{value_of}
-use Rattle.sp_declared_values.specs.declared.answer.Answer.{Answer}
-use Rattle.sp_declared_values.specs.Valued.{valued, needs}
-use Rattle.sp_declared_values.specs.Answers.{gives, known_values, here}
-use Rattle.sp_declared_values.specs.TypedRows.{typed_constants, typed_enums}
-use Rattle.sp_running.specs.States.{State, Result}
-use Rattle.sp_bodies.specs.Globals.{Layout, globals_of}
-use Rattle.sp_bodies.specs.Exprs.{expr_means}
+use Rattle.sp_type_context.specs.Typing.{typed, to_maybe}
+use Rattle.sp_type_constants.specs.declared.outcome.Outcome.TheVariants.{Value}
+use Rattle.sp_type_constants.specs.Values.{value_of}
+use Rattle.sp_type_values.specs.declared.answer.Answer.{Answer}
+use Rattle.sp_type_values.specs.Valued.{valued, needs}
+use Rattle.sp_type_values.specs.Answers.{gives, known_values, here}
+use Rattle.sp_type_values.specs.TypedRows.{typed_constants, typed_enums}
+use Rattle.sp_meaning_states.specs.States.{State, Result}
+use Rattle.sp_code_meaning.specs.Layouts.{Layout}
+use Rattle.sp_meaning.specs.Globals.{globals_of}
+use Rattle.sp_code_meaning.specs.Exprs.{expr_means}
 use Rattle.sp_law_constants.specs.Constants.{AlwaysGives}
 
 -- these are the answers of the constants and labels of a list of modules, and its typed list has them

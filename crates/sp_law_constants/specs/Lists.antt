@@ -1,7 +1,7 @@
 -- What a typed list tells of its constants and its labels.
 use Rattle.sp_typed_units.specs.declared.declarations.Typed.{Typed}
-use Rattle.sp_list_rules.specs.Told.{values_of}
-use Rattle.sp_bodies.specs.Globals.{globals_of}
+use Rattle.sp_rule_lists.specs.Told.{values_of}
+use Rattle.sp_meaning.specs.Globals.{globals_of}
 use Rattle.sp_law_constants.specs.Constants.{ConstantsGive}
 
 -- What a typed list tells the checker of constants and labels is what it gives its bodies.

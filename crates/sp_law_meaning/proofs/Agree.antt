@@ -2,8 +2,8 @@
 use Rattle.std.proofs.Common.{Bool, true, false, List, ◌++◌, Option, Some, None, refl, ap, subst}
 use Rattle.sp_events.specs.declared.event.What.{What}
 use Rattle.sp_value.specs.Val.{Val}
-use Rattle.sp_running.specs.States.{State, End, Gives, Fine, Broke, Continued, Need, Unfinished, Result, Ends, ends, behind, on_end, with_value, with_done, with_round, got, done, round, chosen}
-use Rattle.sp_bodies.specs.Exprs.{known, unless_literal}
+use Rattle.sp_meaning_states.specs.States.{State, End, Gives, Fine, Broke, Continued, Need, Unfinished, Result, Ends, ends, behind, on_end, with_value, with_done, with_round, got, done, round, chosen}
+use Rattle.sp_meaning.specs.Operations.{known, unless_literal}
 use Rattle.sp_law_meaning.specs.Laws.{Behind, Agree}
 
 -- a relation of two states

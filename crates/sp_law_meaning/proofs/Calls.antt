@@ -12,18 +12,21 @@ use Rattle.sp_typed.specs.Stmts.{Stmt}
 use Rattle.sp_typed_units.specs.declared.declarations.Function.{Function}
 use Rattle.sp_typed_units.specs.declared.declarations.Hook.{Hook}
 use Rattle.sp_typed_units.specs.declared.declarations.Typed.{Typed}
-use Rattle.sp_running.specs.States.{State, End, Gives, Fine, Failed, Returned, Stopped, Backs, Rejected, Need, Unfinished, Result, Ends, ends, behind, with_done, done, fails, local_of, parameter_of, turn, deeper}
-use Rattle.sp_running.specs.Scopes.{called_where, Called, InCall, ends_fiber, dropped_unless, left, inside}
-use Rattle.sp_running.specs.Scopes as called_is
-use Rattle.sp_running.specs.Types.{zero_value}
-use Rattle.sp_running.specs.Telling.{Names, value_trees}
-use Rattle.sp_bodies.specs.Globals.{Layout, globals_of}
-use Rattle.sp_bodies.specs.Exprs.{known, offset_local, offset_means}
-use Rattle.sp_bodies.specs.Calls.{has_current, is_foreach, told_count, function_layout, zero_slots}
-use Rattle.sp_bodies.specs.Calls as laid
+use Rattle.sp_meaning_states.specs.States.{State, End, Gives, Fine, Failed, Returned, Stopped, Backs, Rejected, Need, Unfinished, Result, Ends, ends, behind, with_done, done, fails, local_of, parameter_of, turn, deeper}
+use Rattle.sp_meaning_states.specs.Scopes.{called_where, Called, InCall, ends_fiber, dropped_unless, left, inside}
+use Rattle.sp_meaning_states.specs.Scopes as called_is
+use Rattle.sp_meaning_states.specs.Types.{zero_value}
+use Rattle.sp_meaning_states.specs.Telling.{Names, value_trees}
+use Rattle.sp_code_meaning.specs.Layouts.{Layout}
+use Rattle.sp_meaning.specs.Globals.{globals_of}
+use Rattle.sp_meaning.specs.Operations.{known}
+use Rattle.sp_code_meaning.specs.Exprs.{offset_local, offset_means}
+use Rattle.sp_meaning.specs.Hooks.{has_current, is_foreach, told_count}
+use Rattle.sp_code_meaning.specs.Calls.{function_layout}
+use Rattle.sp_meaning.specs.Calls.{zero_slots, body_means, with_slots, one_deeper, counted, call_means, hook_event, hook_means, hooks_mean}
+use Rattle.sp_code_meaning.specs.Calls as laid
 use Rattle.sp_meaning.specs.Around.{Around, with_arguments, parameter_in}
 use Rattle.sp_meaning.specs.Exprs.{given_or, offset_at_hand}
-use Rattle.sp_meaning.specs.Calls.{body_means, with_slots, one_deeper, counted, call_means, hook_event, hook_means, hooks_mean}
 use Rattle.sp_law_meaning.specs.Laws.{Behind, Agree}
 use Rattle.sp_law_meaning.specs.Standing.{StmtStands, handed, AreHanded, ListStands}
 use Rattle.sp_law_meaning.proofs.Agree.{Both, here, then_behind, ended, at_once, nothing, then_done}

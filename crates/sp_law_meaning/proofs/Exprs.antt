@@ -22,12 +22,14 @@ use Rattle.sp_typed.specs.declared.words.ManyOp.TheVariants as many_is
 use Rattle.sp_typed.specs.declared.words.UnitMethod.TheVariants as unit_method
 use Rattle.sp_typed.specs.Exprs.{Expr, Exprs, leaf, one, two, three, many, none, more}
 use Rattle.sp_typed_units.specs.declared.declarations.Function.{Function}
-use Rattle.sp_running.specs.States.{State, Result, Gives, Fine, Unfinished, ends, got, answer, local_of, set_local, member_of, value_or_unset}
-use Rattle.sp_running.specs.Values.{item_at, with_at, set_of, map_of}
-use Rattle.sp_bodies.specs.Globals.{Globals, Layout}
-use Rattle.sp_bodies.specs.Exprs.{how_many, Changes, negative_literal, one_means, binary_means, two_means, converted, offset_from, is_self, offset_local, member_named, is_item, local_named, keep_owner, owner_means, slot_local, slot_of_receiver, called_method, given, taken}
-use Rattle.sp_bodies.specs.Exprs as laid
-use Rattle.sp_bodies.specs.Places as laid_places
+use Rattle.sp_meaning_states.specs.States.{State, Result, Gives, Fine, Unfinished, ends, got, answer, local_of, set_local, member_of, value_or_unset}
+use Rattle.sp_meaning_states.specs.Values.{item_at, with_at, set_of, map_of}
+use Rattle.sp_meaning.specs.Globals.{Globals}
+use Rattle.sp_code_meaning.specs.Layouts.{Layout}
+use Rattle.sp_code_meaning.specs.Exprs.{how_many, offset_local, slot_local}
+use Rattle.sp_meaning.specs.Operations.{Changes, negative_literal, one_means, binary_means, two_means, converted, offset_from, is_self, member_named, is_item, local_named, keep_owner, owner_means, slot_of_receiver, called_method, given, taken}
+use Rattle.sp_code_meaning.specs.Exprs as laid
+use Rattle.sp_code_meaning.specs.Places as laid_places
 use Rattle.sp_meaning.specs.Around.{Around}
 use Rattle.sp_meaning.specs.Methods.{applied}
 use Rattle.sp_meaning.specs.Exprs.{given_or, offset_at_hand, leaf_means, many_means, expr_means, all_got, receiver_means, place_means}

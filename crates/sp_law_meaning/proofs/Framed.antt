@@ -4,10 +4,11 @@ use Rattle.std.specs.Prelude.{slice_get, slice_set, unwrap_or}
 use Rattle.sp_base.specs.declared.kinds.PKind.{PKind}
 use Rattle.sp_base.specs.declared.kinds.PKind.TheVariants.{Unset}
 use Rattle.sp_value.specs.Val.{Val, void, unit}
-use Rattle.sp_running.specs.States.{State, Result, Gives, Fine, ends, answer, fails, local_of, set_local, member_of, value_or_unset, put_member}
-use Rattle.sp_bodies.specs.Globals.{Layout}
-use Rattle.sp_bodies.specs.Globals as laid
-use Rattle.sp_bodies.specs.Exprs.{given, taken, offset_local, offset_means}
+use Rattle.sp_meaning_states.specs.States.{State, Result, Gives, Fine, ends, answer, fails, local_of, set_local, member_of, value_or_unset, put_member}
+use Rattle.sp_code_meaning.specs.Layouts.{Layout}
+use Rattle.sp_code_meaning.specs.Layouts as laid
+use Rattle.sp_meaning.specs.Operations.{given, taken}
+use Rattle.sp_code_meaning.specs.Exprs.{offset_local, offset_means}
 use Rattle.sp_meaning.specs.Around.{Around, parameter_in}
 use Rattle.sp_meaning.specs.Exprs.{offset_at_hand, given_or}
 use Rattle.sp_law_meaning.specs.Laws.{Agree}

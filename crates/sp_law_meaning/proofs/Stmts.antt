@@ -19,15 +19,16 @@ use Rattle.sp_typed.specs.declared.stmt_words.ValuedOp.TheVariants as valued_is
 use Rattle.sp_typed.specs.Exprs.{Expr, Exprs, none, more}
 use Rattle.sp_typed.specs.Stmts.{Stmt, Stmts, Branches, Cases, bare, valued, assign, print, block, branch, while_loop, for_loop, switch, no_stmts, more_stmts, no_branches, more_branches, no_cases, more_cases}
 use Rattle.sp_typed_units.specs.declared.declarations.Function.{Function}
-use Rattle.sp_running.specs.States.{State, Result, Fine, ends, got, chosen, fails, answer, truth_of, local_of, set_local, one_more, turn}
-use Rattle.sp_running.specs.Values.{members_of}
-use Rattle.sp_running.specs.Types.{zero_value}
-use Rattle.sp_running.specs.Telling.{Names, value_trees}
-use Rattle.sp_bodies.specs.Globals.{Globals, Layout}
-use Rattle.sp_bodies.specs.Exprs.{how_many}
-use Rattle.sp_bodies.specs.Exprs as laid_exprs
-use Rattle.sp_bodies.specs.Stmts as laid
-use Rattle.sp_bodies.specs.Stmts.{fails_with, update_means}
+use Rattle.sp_meaning_states.specs.States.{State, Result, Fine, ends, got, chosen, fails, answer, truth_of, local_of, set_local, one_more, turn}
+use Rattle.sp_meaning_states.specs.Values.{members_of}
+use Rattle.sp_meaning_states.specs.Types.{zero_value}
+use Rattle.sp_meaning_states.specs.Telling.{Names, value_trees}
+use Rattle.sp_meaning.specs.Globals.{Globals}
+use Rattle.sp_code_meaning.specs.Layouts.{Layout}
+use Rattle.sp_code_meaning.specs.Exprs.{how_many}
+use Rattle.sp_code_meaning.specs.Exprs as laid_exprs
+use Rattle.sp_code_meaning.specs.Stmts as laid
+use Rattle.sp_meaning.specs.Operations.{fails_with, update_means}
 use Rattle.sp_meaning.specs.Around.{Around}
 use Rattle.sp_meaning.specs.Exprs.{expr_means}
 use Rattle.sp_meaning.specs.Stmts.{printed, bare_means, valued_means, assign_means, rounds, each, one_equals, stmt_means, stmts_mean, branches_mean, cases_mean}

@@ -14,22 +14,24 @@ use Rattle.sp_typed_units.specs.declared.declarations.Typed.{Typed}
 use Rattle.sp_typed_units.specs.declared.declarations.Unit.{Unit as TypedUnit}
 use Rattle.sp_typed_units.specs.declared.declarations.Variable.{Variable}
 use Rattle.sp_typed_units.specs.Parts.{Part, Parts, field, no_parts, more_parts, parts}
-use Rattle.sp_running.specs.States as running
-use Rattle.sp_running.specs.States.{Reading, State, End, Gives, Fine, Failed, Backs, Rejected, Need, Unfinished, Result, Ends, ends, done, chosen, put_member, local_of, set_local, parameter_of, turn, deeper, fails, go}
-use Rattle.sp_running.specs.Scopes.{InUnit, InFailing, ends_fiber, outside, one_less, left}
-use Rattle.sp_running.specs.Reads.{Ask, Read, Bytes, Got, Lacks, Shorts, NoWord, on_read}
-use Rattle.sp_running.specs.Telling.{Names}
-use Rattle.sp_running.specs.Types.{width_bytes}
-use Rattle.sp_bodies.specs.Globals.{globals_of}
-use Rattle.sp_bodies.specs.Calls.{hook_bodies, integer_means}
-use Rattle.sp_bodies.specs.Exprs.{known, offset_local, offset_means}
-use Rattle.sp_bodies.specs.Calls as laid_calls
-use Rattle.sp_bodies.specs.Units.{IntegerForm, integer_field, value_slot, offset_slot, unit_layout, is_of_unit, is_plain, first_value, stored, offset_here}
-use Rattle.sp_bodies.specs.Units as laid
+use Rattle.sp_meaning_states.specs.States as running
+use Rattle.sp_meaning_states.specs.States.{Reading, State, End, Gives, Fine, Failed, Backs, Rejected, Need, Unfinished, Result, Ends, ends, done, chosen, put_member, local_of, set_local, parameter_of, turn, deeper, fails, go}
+use Rattle.sp_meaning_states.specs.Scopes.{InUnit, InFailing, ends_fiber, outside, one_less, left}
+use Rattle.sp_meaning_states.specs.Reads.{Ask, Read, Bytes, Got, Lacks, Shorts, NoWord, on_read}
+use Rattle.sp_meaning_states.specs.Telling.{Names}
+use Rattle.sp_meaning_states.specs.Types.{width_bytes}
+use Rattle.sp_meaning.specs.Globals.{globals_of}
+use Rattle.sp_meaning.specs.Hooks.{hook_bodies, is_of_unit}
+use Rattle.sp_meaning.specs.Integers.{integer_means, IntegerForm, integer_field}
+use Rattle.sp_meaning.specs.Operations.{known}
+use Rattle.sp_code_meaning.specs.Exprs.{offset_local, offset_means}
+use Rattle.sp_code_meaning.specs.Calls as laid_calls
+use Rattle.sp_code_meaning.specs.Units.{value_slot, offset_slot, unit_layout}
+use Rattle.sp_meaning.specs.Units.{is_plain, first_value, stored, offset_here, field_means, part_means, parts_mean, variables_begin, variable_means, variables_mean, unit_hook_means, unit_order, unit_parts_mean, failing_means, parts_left, unit_begun, entered_means, unit_means}
+use Rattle.sp_code_meaning.specs.Units as laid
 use Rattle.sp_meaning.specs.Around.{with_arguments}
 use Rattle.sp_meaning.specs.Exprs.{given_or, offset_at_hand}
 use Rattle.sp_meaning.specs.Calls.{call_means, hooks_mean, counted}
-use Rattle.sp_meaning.specs.Units.{field_means, part_means, parts_mean, variables_begin, variable_means, variables_mean, unit_hook_means, unit_order, unit_parts_mean, failing_means, parts_left, unit_begun, entered_means, unit_means}
 use Rattle.sp_law_meaning.specs.Laws.{Behind, Agree, MeaningsAreOne}
 use Rattle.sp_law_meaning.specs.Standing.{ValueStands, VariablesStand, AreHanded, PartStands, PartsStand, UnitStands, ListStands}
 use Rattle.sp_law_meaning.proofs.Agree.{Rel, Same, Both, here, ended, got_agree, done_agree, at_once, nothing, then_got, then_done, chosen_same, known_same}

@@ -4,10 +4,10 @@ use Rattle.sp_base.specs.declared.places.Limits.{Limits}
 use Rattle.sp_events.specs.declared.event.What.{What}
 use Rattle.sp_value.specs.Val.{Val}
 use Rattle.sp_typed_units.specs.declared.declarations.Typed.{Typed}
-use Rattle.sp_running.specs.States.{Reading, State, End, Need, Unfinished, Result, Ends}
-use Rattle.sp_running.specs.Reads.{Ask, Read}
-use Rattle.sp_running.specs.Telling.{Names}
-use Rattle.sp_bodies.specs.Units as laid
+use Rattle.sp_meaning_states.specs.States.{Reading, State, End, Need, Unfinished, Result, Ends}
+use Rattle.sp_meaning_states.specs.Reads.{Ask, Read}
+use Rattle.sp_meaning_states.specs.Telling.{Names}
+use Rattle.sp_code_meaning.specs.Units as laid
 use Rattle.sp_meaning.specs.Units.{unit_means}
 use Rattle.sp_law_meaning.specs.Standing.{ListStands}
 

@@ -13,9 +13,8 @@ use Rattle.sp_typed_units.specs.declared.declarations.Typed.{Typed}
 use Rattle.sp_typed_units.specs.declared.declarations.Unit.{Unit as TypedUnit}
 use Rattle.sp_typed_units.specs.declared.declarations.Variable.{Variable}
 use Rattle.sp_typed_units.specs.Parts.{Part, Parts, field, no_parts, more_parts, parts}
-use Rattle.sp_bodies.specs.Exprs.{how_many}
-use Rattle.sp_bodies.specs.Calls.{has_current, hook_bodies}
-use Rattle.sp_bodies.specs.Units.{is_of_unit}
+use Rattle.sp_code_meaning.specs.Exprs.{how_many}
+use Rattle.sp_meaning.specs.Hooks.{has_current, hook_bodies, is_of_unit}
 
 -- Whether there is a `$$`, and the functions of the list.
 module _ (has : Bool) (functions : List Function) where

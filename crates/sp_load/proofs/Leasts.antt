@@ -9,7 +9,7 @@ use Rattle.sp_ast.specs.Trees.{Tree}
 use Rattle.sp_rules.specs.declared.fault.Fault.{Fault}
 use Rattle.sp_rules.specs.Rules.{diag_of, kind, rule_group, rule_number}
 use Rattle.sp_rules.specs.Least.{IsLeast, precedes}
-use Rattle.sp_checked_list.specs.Rules.{Breaks}
+use Rattle.sp_type_answers.specs.Rules.{Breaks}
 use Rattle.sp_load.specs.declared.sources.Source.{Source}
 use Rattle.sp_load.specs.Loads.{refusal_in, refusal_of, IsLeastRefusal}
 

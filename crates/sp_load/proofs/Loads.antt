@@ -6,9 +6,9 @@ use Rattle.sp_command.specs.declared.refusal.Refusal.{Refusal}
 use Rattle.sp_front.specs.declared.entries.ModuleFile.{ModuleFile}
 use Rattle.sp_front.specs.Lists.{Files, IsList}
 use Rattle.sp_rules.specs.Least.{IsLeast}
-use Rattle.sp_checked_list.specs.NameRules.{IsTyped}
+use Rattle.sp_type_answers.specs.NameRules.{IsTyped}
 use Rattle.sp_typed_units.specs.declared.declarations.Typed.{Typed}
-use Rattle.sp_checked_list.specs.Rules.{Breaks}
+use Rattle.sp_type_answers.specs.Rules.{Breaks}
 use Rattle.sp_load.specs.Loads.{refusal_of, sources_of, trees_of, IsVerdict, IsLoaded, IsLoadRefused, IsBroken, IsLeastRefusal}
 use Rattle.sp_load.specs.declared.sources.Source.{Source}
 use Rattle.sp_load.proofs.Leasts.{one_least_refusal}

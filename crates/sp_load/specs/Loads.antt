@@ -10,9 +10,9 @@ use Rattle.sp_front.specs.Lists.{Files, nowhere, IsList, IsListRefused}
 use Rattle.sp_rules.specs.declared.fault.Fault.{Fault}
 use Rattle.sp_rules.specs.Rules.{diag_of}
 use Rattle.sp_rules.specs.Least.{IsLeast}
-use Rattle.sp_checked_list.specs.NameRules.{IsTyped}
+use Rattle.sp_type_answers.specs.NameRules.{IsTyped}
 use Rattle.sp_typed_units.specs.declared.declarations.Typed.{Typed}
-use Rattle.sp_checked_list.specs.Rules.{Breaks}
+use Rattle.sp_type_answers.specs.Rules.{Breaks}
 use Rattle.sp_load.specs.declared.sources.Source.{Source}
 
 abbrev pub tree_of : ModuleFile → Tree

@@ -5,17 +5,17 @@ ghost use Rattle.sp_front.specs.declared.entries.ModuleFile.{ModuleFile as File}
 ghost use Rattle.sp_front.specs.Asked.{Asks, AsksAll, AsksNoMore};
 ghost use Rattle.sp_front.specs.inside.Follow.{IsRefusedBy};
 ghost use Rattle.sp_load.specs.Loads.{sources_of, trees_of, IsLoaded, IsLoadRefused, IsVerdict};
-ghost use Rattle.sp_checked_list.specs.NameRules.{IsTyped};
+ghost use Rattle.sp_type_answers.specs.NameRules.{IsTyped};
 
 use crate::loaded::{Loaded, parts_of};
 use crate::sources::refusal_of;
 use sp_ast::Module;
 use sp_base::{Diag, NoMemory, Text};
 use sp_check_unit::check;
-use sp_checked_list::CheckFault;
 use sp_front::read_list;
 use sp_io::Modules;
 use sp_read_file::Unread;
+use sp_type_answers::CheckFault;
 use sp_typed_units::Typed;
 use std::alloc::Global;
 

@@ -3,8 +3,8 @@ use Rattle.std.proofs.Common.{◌≡◌, ℕ, suc, List, [], ◌∷◌, ◌++◌
 use Rattle.sp_base.specs.declared.places.Limits.{Limits}
 use Rattle.sp_methods.specs.Kinds.{Kind}
 use Rattle.sp_typed_units.specs.declared.declarations.Typed.{Typed}
-use Rattle.sp_running.specs.Telling.{Names}
-use Rattle.sp_bodies.specs.Globals.{globals_of}
+use Rattle.sp_meaning_states.specs.Telling.{Names}
+use Rattle.sp_meaning.specs.Globals.{globals_of}
 use Rattle.sp_code.specs.declared.program.Labels.{Labels}
 use Rattle.sp_code.specs.declared.program.Program.{Program}
 use Rattle.sp_code.specs.declared.program.Ranges.{Ranges}
@@ -16,7 +16,7 @@ use Rattle.sp_code_programs.specs.exprs.Marked.{Marked, HasAt, Shows}
 use Rattle.sp_emit.specs.Emission.{IsEmission}
 use Rattle.sp_emit.specs.Emitted.{Emitted}
 use Rattle.sp_emit.proofs.Growing.{grows_then}
-use Rattle.sp_code_programs.specs.programs.Named.{hook_names_of, names_of_members, names_of_labels, names_of_ranges}
+use Rattle.sp_meaning.specs.Names.{hook_names_of, names_of_members, names_of_labels, names_of_ranges}
 use Rattle.sp_code_programs.specs.programs.Currents.{currents_of}
 use Rattle.sp_code_programs.specs.programs.Programs.{entries_from, routines_code}
 use Rattle.sp_code_programs.specs.programs.Units.{units_code, unit_entries, starters_code}

@@ -4,7 +4,7 @@ use Rattle.sp_methods.specs.Kinds.{Kind, Unsigned, Signed}
 use Rattle.sp_typed_units.specs.declared.declarations.Member.{Member}
 use Rattle.sp_typed_units.specs.declared.declarations.Typed.{Typed}
 use Rattle.sp_typed_units.specs.declared.declarations.Unit.{Unit as TypedUnit}
-use Rattle.sp_bodies.specs.Globals.{globals_of}
+use Rattle.sp_meaning.specs.Globals.{globals_of}
 use Rattle.sp_code.specs.declared.program.UnitCode.{UnitCode}
 use Rattle.sp_code.specs.declared.program.UnitKinds.{UnitKinds}
 use Rattle.sp_code.specs.Machine as machine
@@ -19,7 +19,7 @@ use Rattle.sp_emit.specs.Emitted.{Emitted, Adds}
 use Rattle.sp_emit.proofs.Growing.{grows_not, grows_then, number_before}
 use Rattle.sp_emit.proofs.Adding.{adds_long}
 use Rattle.sp_code_programs.specs.programs.Routines.{parameter_kinds}
-use Rattle.sp_code_programs.specs.programs.Named.{member_names, names_of_members}
+use Rattle.sp_meaning.specs.Names.{member_names, names_of_members}
 use Rattle.sp_code_programs.specs.programs.Units.{ending_at, failing_at, unit_end, whole_unit_code, units_code, unit_entries, starters_code, member_kinds, kinds_of_unit, kinds_of_units}
 use Rattle.sp_lower_tables.specs.Numbers.{GivesNumber, GivesNumbers}
 use Rattle.sp_lower_tables.proofs.Numbered.{turns_both, numbers_before}

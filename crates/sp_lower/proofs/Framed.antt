@@ -10,9 +10,9 @@ use Rattle.sp_emit.specs.Kinds.{IsNumberOf}
 use Rattle.sp_emit.specs.Numbered.{RoundBelow}
 use Rattle.sp_emit.specs.Emitted.{Emitted}
 use Rattle.sp_emit.proofs.Growing.{number_before}
-use Rattle.sp_emit_expr.specs.declared.around.Around.{Around}
-use Rattle.sp_emit_expr.specs.Around.{layout_in}
-use Rattle.sp_emit_stmt.specs.declared.bodies.Frame.{Frame}
+use Rattle.sp_lower_expr.specs.declared.around.Around.{Around}
+use Rattle.sp_lower_expr.specs.Around.{layout_in}
+use Rattle.sp_lower_stmt.specs.declared.bodies.Frame.{Frame}
 use Rattle.sp_code_programs.specs.programs.Routines.{Routine}
 use Rattle.sp_lower_tables.specs.Numbers.{GivesNumber, GivesNumbers}
 use Rattle.sp_lower_tables.proofs.Numbered.{turns_both}

@@ -3,14 +3,14 @@ use Rattle.std.proofs.Common.{◌≡◌, ◌+◌, ℕ, suc, List, [], ◌∷◌,
 use Rattle.sp_typed_units.specs.declared.declarations.Hook.{Hook}
 use Rattle.sp_typed_units.specs.declared.declarations.Typed.{Typed}
 use Rattle.sp_typed_units.specs.declared.declarations.Unit.{Unit as TypedUnit}
-use Rattle.sp_bodies.specs.Globals.{globals_of}
+use Rattle.sp_meaning.specs.Globals.{globals_of}
 use Rattle.sp_code.specs.declared.program.BodyCode.{BodyCode}
 use Rattle.sp_code.specs.Programs.{bodies_of, body_kinds}
 use Rattle.sp_code_programs.specs.exprs.Code.{kind_at}
 use Rattle.sp_code_programs.specs.units.Bodies.{name_at}
 use Rattle.sp_emit.specs.Emitted.{Emitted}
 use Rattle.sp_code_programs.specs.programs.Routines.{Routine, hook_routine, hook_routines, function_routines}
-use Rattle.sp_code_programs.specs.programs.Named.{hook_name, names_of_hooks, hook_names_of}
+use Rattle.sp_meaning.specs.Names.{hook_name, names_of_hooks, hook_names_of}
 use Rattle.sp_code_programs.specs.programs.Currents.{current_kind, currents_from, currents_of}
 use Rattle.sp_code_programs.specs.programs.Programs.{entries_from, kinds_of_locals}
 use Rattle.sp_code_programs.specs.programs.Whole.{all_routines}

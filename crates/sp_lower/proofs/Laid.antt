@@ -3,7 +3,8 @@ use Rattle.std.proofs.Common.{◌≡◌, ◌+◌, ℕ, List, [], ◌∷◌, ◌+
 use Rattle.sp_value.specs.Val.{Val}
 use Rattle.sp_methods.specs.Kinds.{Kind}
 use Rattle.sp_typed.specs.Stmts.{Stmt}
-use Rattle.sp_bodies.specs.Globals.{Globals, Layout}
+use Rattle.sp_meaning.specs.Globals.{Globals}
+use Rattle.sp_code_meaning.specs.Layouts.{Layout}
 use Rattle.sp_code.specs.declared.program.BodyCode.{BodyCode}
 use Rattle.sp_code.specs.Machine.{Body}
 use Rattle.sp_code.specs.Shapes.{Shape, BodyKinds, body_shape}
@@ -12,10 +13,10 @@ use Rattle.sp_code_programs.specs.exprs.Marked.{Marked}
 use Rattle.sp_code_programs.specs.units.Bodies.{body_code}
 use Rattle.sp_emit.specs.Emitted.{Emitted, TurnsTo}
 use Rattle.sp_emit.proofs.Growing.{grows_not, grows_then, kinds_before}
-use Rattle.sp_emit_expr.specs.declared.around.Around.{Around}
-use Rattle.sp_emit_expr.specs.Around.{globals_in, layout_in}
-use Rattle.sp_emit_stmt.specs.declared.bodies.Frame.{Frame}
-use Rattle.sp_emit_stmt.specs.Added.{AddsRoutine}
+use Rattle.sp_lower_expr.specs.declared.around.Around.{Around}
+use Rattle.sp_lower_expr.specs.Around.{globals_in, layout_in}
+use Rattle.sp_lower_stmt.specs.declared.bodies.Frame.{Frame}
+use Rattle.sp_lower_stmt.specs.Added.{AddsRoutine}
 use Rattle.sp_code_programs.specs.programs.Routines.{Routine, routine_size, entry_at, local_kinds, routine_code}
 use Rattle.sp_code_programs.specs.programs.Programs.{routines_size, entries_from, kinds_of_locals, routines_code}
 use Rattle.sp_law_programs.proofs.program_laid_lemmas.Routines.{routines_sized}

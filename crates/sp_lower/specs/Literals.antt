@@ -4,8 +4,8 @@ use Rattle.sp_typed_units.specs.declared.declarations.Function.{Function}
 use Rattle.sp_typed_units.specs.declared.declarations.Hook.{Hook}
 use Rattle.sp_typed_units.specs.declared.declarations.Typed.{Typed}
 use Rattle.sp_typed_units.specs.declared.declarations.Unit.{Unit as TypedUnit}
-use Rattle.sp_emit_stmt.specs.Literals.{StmtLiteralsFit}
-use Rattle.sp_emit_unit.specs.Values.{ValuesFit}
+use Rattle.sp_lower_stmt.specs.Literals.{StmtLiteralsFit}
+use Rattle.sp_lower_unit.specs.Values.{ValuesFit}
 
 -- so it is in the body of a function or of a hook, and in the variables of a unit
 abbrev pub FunctionFits : Function → Type 0

@@ -1,15 +1,15 @@
 // Functions and bodies of hooks, as they are laid out one behind another.
 ghost use Rattle.std.specs.Prelude.{◌≡◌, [], ◌∷◌, ◌++◌, length, OnOk};
-ghost use Rattle.sp_emit_expr.specs.Around.{globals_in};
-ghost use Rattle.sp_emit_stmt.specs.Literals.{StmtLiteralsFit};
+ghost use Rattle.sp_lower_expr.specs.Around.{globals_in};
+ghost use Rattle.sp_lower_stmt.specs.Literals.{StmtLiteralsFit};
 ghost use Rattle.sp_code_programs.specs.programs.Routines.{Routine};
 ghost use Rattle.sp_lower.specs.inside.Laid.{FrameStands, IsRoutine, Lays};
 
 use sp_base::NoMemory;
 use sp_code::BodyCode;
 use sp_emit::Emitter;
-use sp_emit_expr::Around;
-use sp_emit_stmt::{Frame, routine};
+use sp_lower_expr::Around;
+use sp_lower_stmt::{Frame, routine};
 use sp_typed::Stmt;
 use std::alloc::Global;
 

@@ -1,11 +1,11 @@
 // The code of functions.
 ghost use Rattle.std.specs.Prelude.{◌≡◌, [], ◌∷◌, ◌++◌, IfOk, OnOk};
 ghost use Rattle.std.specs.List.{AllByRecursion};
-ghost use Rattle.sp_running.specs.Types.{zero_value, kind_of_type};
-ghost use Rattle.sp_bodies.specs.Globals.{globals_of};
-ghost use Rattle.sp_bodies.specs.Calls.{function_layout};
+ghost use Rattle.sp_meaning_states.specs.Types.{zero_value, kind_of_type};
+ghost use Rattle.sp_meaning.specs.Globals.{globals_of};
+ghost use Rattle.sp_code_meaning.specs.Calls.{function_layout};
 ghost use Rattle.sp_code_programs.specs.units.Bodies.{function_entry};
-ghost use Rattle.sp_emit_expr.specs.Around.{layout_of};
+ghost use Rattle.sp_lower_expr.specs.Around.{layout_of};
 ghost use Rattle.sp_code_programs.specs.programs.Routines.{parameter_kinds, slot_kinds, function_shape, function_routine, function_routines};
 ghost use Rattle.sp_lower_tables.specs.Numbers.{GivesNumbers};
 ghost use Rattle.sp_lower.specs.Literals.{FunctionFits};
@@ -16,8 +16,8 @@ use crate::values::{first_value, first_values};
 use sp_base::NoMemory;
 use sp_code::{BodyCode, BodyOf, RoundRow};
 use sp_emit::{Emitter, number};
-use sp_emit_expr::{Around, Places};
-use sp_emit_stmt::Frame;
+use sp_lower_expr::{Around, Places};
+use sp_lower_stmt::Frame;
 use sp_lower_tables::{add_parameters, add_types, type_number};
 use sp_typed_units::{Function, Typed};
 use std::alloc::Global;

@@ -4,8 +4,8 @@ ghost use Rattle.sp_lower.specs.inside.Units.{AddsStarters};
 
 use sp_base::NoMemory;
 use sp_emit::Emitter;
-use sp_emit_expr::sum;
-use sp_emit_unit::starter;
+use sp_lower_expr::sum;
+use sp_lower_unit::starter;
 use sp_typed_units::{Typed, Unit};
 
 /// Appends a starter of each of these units, which have their numbers from 0 on.

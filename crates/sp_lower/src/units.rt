@@ -1,7 +1,7 @@
 // The code of units, and their entries.
 ghost use Rattle.std.specs.Prelude.{◌≡◌, ◌<◌, [], ◌∷◌, length, IfOk, OnOk};
 ghost use Rattle.std.specs.List.{AllByRecursion};
-ghost use Rattle.sp_bodies.specs.Globals.{globals_of};
+ghost use Rattle.sp_meaning.specs.Globals.{globals_of};
 ghost use Rattle.sp_code_programs.specs.units.Units.{slot_kinds};
 ghost use Rattle.sp_code_programs.specs.programs.Routines.{parameter_kinds};
 ghost use Rattle.sp_code_programs.specs.programs.Units.{member_kinds};
@@ -13,11 +13,11 @@ use crate::values::unit_slots;
 use sp_base::NoMemory;
 use sp_code::{KindRow, UnitCode, UnitKinds};
 use sp_emit::{Emitter, number};
-use sp_emit_expr::sum;
-use sp_emit_unit::{ending, failing, unit};
+use sp_lower_expr::sum;
+use sp_lower_hooks::UnitTables;
 use sp_lower_tables::{add_members, add_parameters, member_names, row_number};
+use sp_lower_unit::{ending, failing, unit};
 use sp_typed_units::{Typed, Unit};
-use sp_unit_tables::UnitTables;
 use std::alloc::Global;
 
 /// The numbers of the kinds of the locals of a unit's own code.

@@ -1,13 +1,13 @@
 // The values with which locals and results begin.
 ghost use Rattle.std.specs.Prelude.{◌≡◌, IfOk};
-ghost use Rattle.sp_running.specs.Types as types;
-ghost use Rattle.sp_bodies.specs.Globals.{globals_of};
-ghost use Rattle.sp_bodies.specs.Calls as calls;
-ghost use Rattle.sp_bodies.specs.Units as units;
+ghost use Rattle.sp_meaning_states.specs.Types as types;
+ghost use Rattle.sp_meaning.specs.Globals.{globals_of};
+ghost use Rattle.sp_meaning.specs.Calls as calls;
+ghost use Rattle.sp_code_meaning.specs.Units as units;
 
 use sp_base::NoMemory;
-use sp_emit_expr::zero_value;
-use sp_emit_unit::zero_slots;
+use sp_lower_expr::zero_value;
+use sp_lower_unit::zero_slots;
 use sp_numbers::Width;
 use sp_typed_units::Typed;
 use sp_types::Type;

@@ -4,7 +4,7 @@ use Rattle.std.specs.Borrow.{Bor}
 use Rattle.std.proofs.lemmas.Bool.{eqb-true, eq-eqb}
 use Rattle.sp_typed_units.specs.declared.declarations.Typed.{Typed}
 use Rattle.sp_typed_units.specs.declared.items.Field.{Field}
-use Rattle.sp_running.specs.Scopes.{is_among}
+use Rattle.sp_meaning_states.specs.Scopes.{is_among}
 use Rattle.sp_code_programs.specs.programs.Currents.{earlier, hooked_field}
 use Rattle.sp_lower_tables.specs.inside.Fields.{row_at, field_if, field_among, Notes, AreFields}
 

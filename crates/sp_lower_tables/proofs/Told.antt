@@ -7,7 +7,7 @@ use Rattle.std.proofs.lemmas.Str.Pattern.{NoCharPasses-char, drop_at_char}
 use Rattle.sp_code.specs.declared.program.Labels.{Labels}
 use Rattle.sp_code.specs.declared.program.Ranges.{Ranges}
 use Rattle.sp_code.specs.Programs as told
-use Rattle.sp_code_programs.specs.programs.Named.{behind_colons, own_name}
+use Rattle.sp_meaning.specs.Names.{behind_colons, own_name}
 
 -- bytes none of which is a colon
 abbrev NoColon : List ℕ → Type 0

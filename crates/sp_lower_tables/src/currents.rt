@@ -1,8 +1,8 @@
 // The kind of `$$` in a body of a hook.
 ghost use Rattle.std.specs.Prelude.{◌≡◌, Some, unwrap_or, option_copied, IfOk};
 ghost use Rattle.sp_types.specs.Types.{Ty};
-ghost use Rattle.sp_running.specs.Types.{kind_of_type};
-ghost use Rattle.sp_bodies.specs.Globals.{globals_of};
+ghost use Rattle.sp_meaning_states.specs.Types.{kind_of_type};
+ghost use Rattle.sp_meaning.specs.Globals.{globals_of};
 ghost use Rattle.sp_code_programs.specs.programs.Currents.{converted_by, read_type, element_type, current_type};
 ghost use Rattle.sp_lower_tables.specs.Numbers.{GivesNumber};
 ghost use Rattle.sp_lower_tables.specs.inside.Conversions.{is_convert, written_type, conversion};

@@ -1,7 +1,7 @@
 // The numbers of kinds of values.
 ghost use Rattle.std.specs.Prelude.{[], ◌∷◌, length, IfOk, OnOk};
-ghost use Rattle.sp_running.specs.Types.{kind_of_type};
-ghost use Rattle.sp_bodies.specs.Globals.{globals_of};
+ghost use Rattle.sp_meaning_states.specs.Types.{kind_of_type};
+ghost use Rattle.sp_meaning.specs.Globals.{globals_of};
 ghost use Rattle.sp_code_programs.specs.programs.Routines.{parameter_kinds, slot_kinds};
 ghost use Rattle.sp_code_programs.specs.programs.Units.{member_kinds};
 ghost use Rattle.sp_code.specs.Programs.{kind_of_row};

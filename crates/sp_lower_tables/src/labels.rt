@@ -1,8 +1,8 @@
 // How events tell labels of enums and ranges of bitfields.
 ghost use Rattle.std.specs.Prelude.{◌≡◌, IfOk};
-ghost use Rattle.sp_bodies.specs.Globals as globals;
+ghost use Rattle.sp_meaning.specs.Globals as globals;
 ghost use Rattle.sp_code.specs.Programs as told;
-ghost use Rattle.sp_code_programs.specs.programs.Named.{own_name, label_names, names_of_labels, range_names, names_of_ranges};
+ghost use Rattle.sp_meaning.specs.Names.{own_name, label_names, names_of_labels, range_names, names_of_ranges};
 
 use crate::names::scoped;
 use sp_base::{NoMemory, Text, or_drop};

@@ -1,6 +1,6 @@
 // How events tell hooks, and members of units.
 ghost use Rattle.std.specs.Prelude.{◌≡◌, IfOk, option_copied};
-ghost use Rattle.sp_code_programs.specs.programs.Named.{scoped, of_elements, unit_name, member_name, member_of_unit, field_hook_name, hook_name, member_names};
+ghost use Rattle.sp_meaning.specs.Names.{scoped, of_elements, unit_name, member_name, member_of_unit, field_hook_name, hook_name, member_names};
 
 use sp_base::{NoMemory, Text, or_drop};
 use sp_typed_units::{HookOf, Member, Unit};

@@ -4,8 +4,8 @@ use Rattle.std.specs.Prelude.{◌≤◌, slice_get, slice_set, unwrap_or, nat_le
 use Rattle.std.proofs.lemmas.Bool.{cond-true, le-leb}
 use Rattle.sp_value.specs.Val.{Val, void, unit}
 use Rattle.sp_value.specs.Parts.{instance_in}
-use Rattle.sp_running.specs.States.{Reading, Instance, State, instance_of, local_of, parameter_of, set_member, with_member, no_instance, go}
-use Rattle.sp_running.specs.Reads.{Ask, Read, Got}
+use Rattle.sp_meaning_states.specs.States.{Reading, Instance, State, instance_of, local_of, parameter_of, set_member, with_member, no_instance, go}
+use Rattle.sp_meaning_states.specs.Reads.{Ask, Read, Got}
 use Rattle.sp_code.specs.declared.instr.Instr.TheVariants.{SetField}
 use Rattle.sp_code.specs.Machine.{Frame, Plain, Next, Goes, Config, At, act, read_next}
 use Rattle.sp_code.specs.Runs.{Comes, here, next}

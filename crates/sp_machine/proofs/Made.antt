@@ -2,7 +2,7 @@
 use Rattle.std.proofs.Common.{◌≡◌, List, ◌∷◌, sym, ap, ◌∙◌, subst}
 use Rattle.sp_value.specs.Val.{Val, map}
 use Rattle.sp_value.specs.Changes.{IsMap, with_entry}
-use Rattle.sp_running.specs.Values.{with_entries}
+use Rattle.sp_meaning_states.specs.Values.{with_entries}
 
 stays_map : (m k v : Val) → IsMap m → IsMap (with_entry m k v)
 stays_map (map es) k v h = tt

@@ -3,7 +3,7 @@ use Rattle.std.proofs.Common.{◌≡◌, ℕ, zero, suc, ◌<◌, ◌≤◌, Lis
 use Rattle.std.specs.Prelude.{slice_get, get_or}
 use Rattle.sp_numbers.specs.declared.width.Width.TheVariants.{W8}
 use Rattle.sp_value.specs.Val.{Val, uint, tuple, vals_of}
-use Rattle.sp_running.specs.Values.{byte_values, entry_values}
+use Rattle.sp_meaning_states.specs.Values.{byte_values, entry_values}
 
 pub byte_at : (bytes : List ℕ) (i d : ℕ) → i < length bytes → slice_get (byte_values bytes) i ≡ Some (uint W8 (get_or bytes i d))
 byte_at [] i d h = absurd (omega (arith, h))

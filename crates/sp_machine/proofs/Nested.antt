@@ -18,9 +18,9 @@ use Rattle.sp_value.specs.Changes.{with_item, with_value, with_value_in}
 use Rattle.sp_value.proofs.Total.{val_cmp_total}
 use Rattle.sp_value.proofs.Lists.{list_of_vals_of, pairs_of_entries_of}
 use Rattle.sp_window.specs.Windows.{Held}
-use Rattle.sp_running.specs.States.{Reading, State, error_at, Failed}
-use Rattle.sp_running.specs.Reads.{Ask, Read}
-use Rattle.sp_running.specs.Values.{with_at}
+use Rattle.sp_meaning_states.specs.States.{Reading, State, error_at, Failed}
+use Rattle.sp_meaning_states.specs.Reads.{Ask, Read}
+use Rattle.sp_meaning_states.specs.Values.{with_at}
 use Rattle.sp_code.specs.declared.instr.Instr.TheVariants.{SetIndex, AddKey, DeleteKey, Lib}
 use Rattle.sp_code.specs.Can.{top, second, third, below_top, IsPlace}
 use Rattle.sp_code.specs.Machine.{Frame, Plain, Config, At, Ending, Next, Goes, Waits, Over, step, act, put}

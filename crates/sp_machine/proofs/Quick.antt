@@ -10,8 +10,8 @@ use Rattle.sp_value.specs.Order.{val_cmp}
 use Rattle.sp_value.specs.Parts.{number_in, width_in}
 use Rattle.sp_events.specs.Tree as told
 use Rattle.sp_operators.specs.Operators.{binary}
-use Rattle.sp_running.specs.States.{Instance}
-use Rattle.sp_running.specs.Telling.{Names, value_tree, value_trees}
+use Rattle.sp_meaning_states.specs.States.{Instance}
+use Rattle.sp_meaning_states.specs.Telling.{Names, value_tree, value_trees}
 
 -- an unsigned integer with a number
 record Number (v : Val) (n : ℕ) : Type 0 where

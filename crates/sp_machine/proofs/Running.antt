@@ -3,8 +3,8 @@ use Rattle.std.proofs.Common.{◌≡◌, ◌<◌, ℕ, suc, List, [], ◌∷◌,
 use Rattle.std.specs.Prelude.{Bool, IfOk}
 use Rattle.sp_events.specs.declared.event.What.{What}
 use Rattle.sp_window.specs.Windows.{Held}
-use Rattle.sp_running.specs.States.{Reading}
-use Rattle.sp_running.specs.Reads.{Ask, Read}
+use Rattle.sp_meaning_states.specs.States.{Reading}
+use Rattle.sp_meaning_states.specs.Reads.{Ask, Read}
 use Rattle.sp_code.specs.Machine.{Plain, Config, At, Ending, Next, Goes, Waits, Over, step}
 use Rattle.sp_code.specs.Turns.{Turns}
 use Rattle.sp_code.specs.Runs.{Comes, here, next}

@@ -9,7 +9,7 @@ use Rattle.sp_base.specs.declared.kinds.PKind.TheVariants.{Index}
 use Rattle.sp_value.specs.Val.{Val, uint, vector, vals_of, list_of}
 use Rattle.sp_value.specs.Changes.{items_of, with_item}
 use Rattle.sp_methods.specs.Taken.{last_item, parted, popped, without_last}
-use Rattle.sp_running.specs.Values.{with_at}
+use Rattle.sp_meaning_states.specs.Values.{with_at}
 use Rattle.sp_machine.specs.declared.rows.Spot.TheVariants.{Within, Past}
 use Rattle.sp_machine.specs.Rows.{IsSpot}
 

@@ -1,6 +1,6 @@
 -- Entries of a program as plain data, one by one.
 use Rattle.std.specs.Prelude.{ℕ, ◌<◌, List, [], ◌∷◌, length}
-use Rattle.sp_running.specs.Scopes.{Scope, InUnit, InParts, InFailing, InCall}
+use Rattle.sp_meaning_states.specs.Scopes.{Scope, InUnit, InParts, InFailing, InCall}
 use Rattle.sp_code.specs.declared.program.BodyCode.{BodyCode}
 use Rattle.sp_code.specs.declared.program.UnitCode.{UnitCode}
 use Rattle.sp_code.specs.declared.program.Program.{Program}

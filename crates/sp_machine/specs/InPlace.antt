@@ -2,7 +2,7 @@
 use Rattle.std.specs.Prelude.{◌≡◌, ◌<◌, ◌+◌, ℕ, Bool, true, false, List, [], ◌∷◌, length, Some, slice_get}
 use Rattle.sp_words.specs.Methods.{changes}
 use Rattle.sp_value.specs.Val.{Val, unit}
-use Rattle.sp_running.specs.States.{State, local_of, parameter_of, set_local, set_member}
+use Rattle.sp_meaning_states.specs.States.{State, local_of, parameter_of, set_local, set_member}
 use Rattle.sp_code.specs.declared.instr.Instr.{Instr}
 use Rattle.sp_code.specs.declared.instr.Instr.TheVariants.{Load, Store, Param, SelfUnit, SetField, Binary, SetIndex, Lib, AddKey, DeleteKey, ReadInt}
 use Rattle.sp_code.specs.Can.{HasMember}

@@ -5,7 +5,7 @@ use Rattle.sp_numbers.specs.declared.width.Width.TheVariants.{W64}
 use Rattle.sp_words.specs.declared.operators.BinaryOp.TheVariants.{Add}
 use Rattle.sp_words.specs.declared.methods.Method.TheVariants as method_is
 use Rattle.sp_value.specs.Val.{Val, bool, uint, unit, void}
-use Rattle.sp_running.specs.States.{Instance, State, Fine}
+use Rattle.sp_meaning_states.specs.States.{Instance, State, Fine}
 use Rattle.sp_code.specs.declared.instr.Instr.{Instr}
 use Rattle.sp_code.specs.declared.instr.Instr.TheVariants.{Load, Store, Param, SelfUnit, SetField, Binary, SetIndex, Lib}
 use Rattle.sp_code.specs.Machine.{Goes, Waits, Config, At, Ending}

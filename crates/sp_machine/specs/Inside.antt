@@ -4,8 +4,8 @@ use Rattle.sp_base.specs.declared.kinds.PKind.TheVariants.{Index}
 use Rattle.sp_words.specs.declared.methods.Method.{Method}
 use Rattle.sp_words.specs.declared.methods.Method.TheVariants.{PushBack}
 use Rattle.sp_value.specs.Val.{Val}
-use Rattle.sp_running.specs.States.{State}
-use Rattle.sp_running.specs.Values.{with_at}
+use Rattle.sp_meaning_states.specs.States.{State}
+use Rattle.sp_meaning_states.specs.Values.{with_at}
 use Rattle.sp_code.specs.declared.instr.Instr.{Instr}
 use Rattle.sp_code.specs.declared.instr.Instr.TheVariants.{Lib, SetIndex, AddKey, DeleteKey}
 use Rattle.sp_code.specs.Can.{top, second, IsPlace}

@@ -3,8 +3,8 @@ use Rattle.std.specs.Prelude.{◌≡◌, ℕ, Bool, false, List, [], ◌++◌, N
 use Rattle.sp_base.specs.Input.{Close, held_open, ended}
 use Rattle.sp_events.specs.declared.event.What.{What}
 use Rattle.sp_window.specs.Windows.{Held}
-use Rattle.sp_running.specs.States.{Main, Reading, State, Fine, Failed, Returned}
-use Rattle.sp_running.specs.Reads.{Ask, Read, Verdict, Grows}
+use Rattle.sp_meaning_states.specs.States.{Main, Reading, State, Fine, Failed, Returned}
+use Rattle.sp_meaning_states.specs.Reads.{Ask, Read, Verdict, Grows}
 use Rattle.sp_code.specs.Machine.{Config, At, Ending, Next, Goes, Waits, Over}
 use Rattle.sp_law_machine.specs.continues.Windows.{reads_window}
 use Rattle.sp_frames.specs.Frames.{error_of}

@@ -2,8 +2,8 @@
 use Rattle.std.specs.Prelude.{◌≡◌, ◌<◌, List, ◌++◌}
 use Rattle.sp_events.specs.declared.event.What.{What}
 use Rattle.sp_window.specs.Windows.{Held}
-use Rattle.sp_running.specs.States.{Reading}
-use Rattle.sp_running.specs.Reads.{Ask, Read}
+use Rattle.sp_meaning_states.specs.States.{Reading}
+use Rattle.sp_meaning_states.specs.Reads.{Ask, Read}
 use Rattle.sp_code.specs.Machine.{Plain, Config, Next, Waits, Over, step}
 use Rattle.sp_code.specs.Runs.{Comes}
 use Rattle.sp_law_machine.specs.ends.Ending.{steps_left, whole}

@@ -2,7 +2,7 @@
 use Rattle.std.specs.Prelude.{◌≡◌, ◌<◌, ◌≤◌, ℕ, length, Result, Ok, Err, MatchResult}
 use Rattle.sp_base.specs.declared.kinds.PKind.{PKind}
 use Rattle.sp_value.specs.Val.{Val, uint, vector, map, list_of}
-use Rattle.sp_running.specs.Values.{with_at}
+use Rattle.sp_meaning_states.specs.Values.{with_at}
 use Rattle.sp_machine.specs.declared.rows.Spot.{Spot}
 use Rattle.sp_machine.specs.declared.rows.Spot.TheVariants.{Within, Past, Keyed}
 

@@ -1,9 +1,9 @@
 // Instructions that open frames, and the ends that take them off.
 ghost use Rattle.std.specs.Prelude.{◌≡◌, ◌+◌, ◌<◌, ◌≤◌, ◌^◌, ◌∷◌, ◌++◌, [], length, drop, take, reverse, OnOk, IfOk, Some, IsTrue, IsFalse, nat_lt};
 ghost use Rattle.sp_base.specs.declared.kinds.PKind.TheVariants as error_is;
-ghost use Rattle.sp_running.specs.States.{Fine, Failed, Returned, error_at};
+ghost use Rattle.sp_meaning_states.specs.States.{Fine, Failed, Returned, error_at};
 ghost use Rattle.sp_code.specs.Machine.{At, Ending, Goes, called_frame, begun, parts_frame, unit_frame, entered, call_next, unit_next, landed, caught, unless_caught, take_off};
-ghost use Rattle.sp_running.specs.Scopes.{InParts, InCall, called_where, ends_fiber, leave};
+ghost use Rattle.sp_meaning_states.specs.Scopes.{InParts, InCall, called_where, ends_fiber, leave};
 ghost use Rattle.sp_code.specs.Programs.{called_as};
 ghost use Rattle.sp_frames.specs.Frames.{called, error_of, frame_of};
 ghost use Rattle.sp_frames.specs.declared.frame.Frame.TheVariants.{Parts};

@@ -2,7 +2,7 @@
 ghost use Rattle.std.specs.Prelude.{◌≡◌, ◌+◌, ◌<◌, ◌^◌, ◌∷◌, [], length, IsTrue, IsFalse, Ok, OnOk, IfOk, nat_lt, if◌then◌else◌};
 ghost use Rattle.sp_base.specs.declared.kinds.PKind.TheVariants as error_is;
 ghost use Rattle.sp_value.specs.Parts.{text_in};
-ghost use Rattle.sp_running.specs.States.{Failed, Returned, error_at, error_with, truth_of};
+ghost use Rattle.sp_meaning_states.specs.States.{Failed, Returned, error_at, error_with, truth_of};
 ghost use Rattle.sp_code.specs.Can.{top, second, below_top, IsBool, IsText, IsMessage};
 ghost use Rattle.sp_code.specs.Machine.{At, Ending, Goes, counted, raise, raise_with};
 ghost use Rattle.sp_machine.specs.declared.machine.Mode.TheVariants.{Running};

@@ -11,7 +11,7 @@ ghost use Rattle.sp_operators.specs.Operands.{are_joined, takes};
 ghost use Rattle.sp_operators.specs.Operators.{added, binary};
 ghost use Rattle.sp_methods.specs.Methods.{method, suits};
 ghost use Rattle.sp_methods.specs.Taken.{popped};
-ghost use Rattle.sp_running.specs.Values as values;
+ghost use Rattle.sp_meaning_states.specs.Values as values;
 ghost use Rattle.sp_machine.specs.declared.in_place.Slot.TheVariants as slot_is;
 ghost use Rattle.sp_code.specs.Can.{Can, top, second, third, below_top, IsPlace};
 ghost use Rattle.sp_code.specs.Machine.{At, Goes, act, put, put_all};

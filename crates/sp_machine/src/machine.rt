@@ -1,6 +1,6 @@
 // What a machine keeps, and how it goes on.
 ghost use Rattle.std.specs.Prelude.{◌≡◌, ◌+◌, ◌<◌, ◌^◌, [], ◌∷◌, reverse, OnOk};
-ghost use Rattle.sp_running.specs.States.{Failed, error_at};
+ghost use Rattle.sp_meaning_states.specs.States.{Failed, error_at};
 ghost use Rattle.sp_code.specs.Machine.{At, Ending};
 ghost use Rattle.sp_machine.specs.declared.machine.Mode.TheVariants.{Running};
 ghost use Rattle.sp_machine.specs.Plain.{first, state_of, plain};

@@ -1,7 +1,7 @@
 // Instructions that make tuples, vectors, sets and maps.
 ghost use Rattle.std.specs.Prelude.{◌≡◌, ◌+◌, ◌<◌, ◌≤◌, ◌^◌, ◌∷◌, [], length, take, drop, reverse, OnOk, IfOk};
 ghost use Rattle.sp_value.specs.Val.{tuple, vector, vals_of};
-ghost use Rattle.sp_running.specs.Values.{set_of, map_of};
+ghost use Rattle.sp_meaning_states.specs.Values.{set_of, map_of};
 ghost use Rattle.sp_code.specs.Machine.{At};
 ghost use Rattle.sp_machine.specs.declared.machine.Mode.TheVariants.{Running};
 ghost use Rattle.sp_machine.specs.Plain.{state_of, plain};

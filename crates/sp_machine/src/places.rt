@@ -4,7 +4,7 @@ ghost use Rattle.sp_numbers.specs.declared.width.Width.TheVariants.{W64};
 ghost use Rattle.sp_value.specs.Val.{uint};
 ghost use Rattle.sp_value.specs.Changes.{IsSet, IsKeyed, with_member, without_key};
 ghost use Rattle.sp_value.specs.Parts.{number_in};
-ghost use Rattle.sp_running.specs.Values as values;
+ghost use Rattle.sp_meaning_states.specs.Values as values;
 ghost use Rattle.sp_code.specs.Can.{top, second, third, below_top, IsItem, IsPlace, IsRow, IsNumber};
 ghost use Rattle.sp_code.specs.Machine.{At, put, each_next};
 ghost use Rattle.sp_machine.specs.declared.machine.Mode.TheVariants.{Running};

@@ -2,10 +2,10 @@
 ghost use Rattle.std.specs.Prelude.{◌≡◌, ◌+◌, ◌≤◌, ◌<◌, ◌^◌, ◌∷◌, [], List, length, take, drop, IfOk, IfSome, OnOk};
 ghost use Rattle.sp_base.specs.declared.kinds.PKind.TheVariants as error_is;
 ghost use Rattle.sp_value.specs.Integers.{integer_of};
-ghost use Rattle.sp_running.specs.States.{go};
-ghost use Rattle.sp_running.specs.Reads.{Bytes};
+ghost use Rattle.sp_meaning_states.specs.States.{go};
+ghost use Rattle.sp_meaning_states.specs.Reads.{Bytes};
 ghost use Rattle.sp_code.specs.Machine.{At, Goes, read_next, raise};
-ghost use Rattle.sp_running.specs.Types.{width_bytes};
+ghost use Rattle.sp_meaning_states.specs.Types.{width_bytes};
 ghost use Rattle.sp_machine.specs.declared.machine.Mode.TheVariants.{Running};
 ghost use Rattle.sp_machine.specs.InPlace.{IsSlot, IsPut};
 ghost use Rattle.sp_machine.specs.Plain.{state_of, reading_of, plain, reads_of, Leads, Does};

@@ -8,7 +8,7 @@ ghost use Rattle.sp_value.specs.Changes.{IsMap, value_at};
 ghost use Rattle.sp_value.specs.Pieces.{all_in};
 ghost use Rattle.sp_operators.specs.Operators.{value_or_error};
 ghost use Rattle.sp_operators.specs.Outcomes.{Answers};
-ghost use Rattle.sp_running.specs.Values as values;
+ghost use Rattle.sp_meaning_states.specs.Values as values;
 ghost use Rattle.sp_code.specs.Can.{IsItem, IsPlace, IsRow};
 ghost use Rattle.sp_machine.specs.Rows.{IsSpot, Changes};
 

@@ -2,7 +2,7 @@
 ghost use Rattle.std.specs.Prelude.{◌≡◌, ◌+◌, ◌<◌, ◌≤◌, ◌^◌, ◌∷◌, ◌++◌, [], length, take, drop, reverse, OnOk, IfOk, IsTrue, Some};
 ghost use Rattle.sp_events.specs.declared.event.What.{What as Told};
 ghost use Rattle.sp_events.specs.Tree.{uint};
-ghost use Rattle.sp_running.specs.Telling.{value_trees};
+ghost use Rattle.sp_meaning_states.specs.Telling.{value_trees};
 ghost use Rattle.sp_code.specs.Machine.{At, Goes, hook_event, hook_next};
 ghost use Rattle.sp_code.specs.Programs.{names_of, name_of, told_of};
 ghost use Rattle.sp_machine.specs.declared.machine.Mode.TheVariants.{Running};
@@ -15,7 +15,7 @@ use sp_base::{Limits, NoMemory, Text, or_drop};
 use sp_code::{BodyCode, BodyOf, Program};
 use sp_events::{Node, Tree, Trees, What};
 use sp_frames::Instance;
-use sp_tell::value_trees;
+use sp_show::value_trees;
 use sp_value::Value;
 use std::alloc::Global;
 

@@ -3,7 +3,7 @@ ghost use Rattle.std.specs.Prelude.{◌≡◌, ◌+◌, ◌-◌, ◌<◌, ◌^�
 ghost use Rattle.sp_numbers.specs.declared.width.Width.TheVariants.{W64};
 ghost use Rattle.sp_value.specs.Val.{bool, uint, unit};
 ghost use Rattle.sp_value.specs.Parts.{instance_in};
-ghost use Rattle.sp_running.specs.States.{instance_of, parameter_of, member_of, put_member, start_of};
+ghost use Rattle.sp_meaning_states.specs.States.{instance_of, parameter_of, member_of, put_member, start_of};
 ghost use Rattle.sp_code.specs.Can.{top, second, below_top, HasMember, IsInstance};
 ghost use Rattle.sp_code.specs.Machine.{At, push_set, landed};
 ghost use Rattle.sp_machine.specs.declared.machine.Mode.TheVariants.{Running};

@@ -11,8 +11,8 @@ ghost use Rattle.sp_operators.specs.Operands.{takes, takes_memory, takes_one, ha
 ghost use Rattle.sp_operators.specs.Operators.{binary, unary, cast};
 ghost use Rattle.sp_operators.specs.Outcomes.{Answers};
 ghost use Rattle.sp_methods.specs.Methods.{method};
-ghost use Rattle.sp_running.specs.States.{local_of, set_local};
-ghost use Rattle.sp_running.specs.Values.{size_value};
+ghost use Rattle.sp_meaning_states.specs.States.{local_of, set_local};
+ghost use Rattle.sp_meaning_states.specs.Values.{size_value};
 ghost use Rattle.sp_code.specs.Can.{top, second, below_top};
 ghost use Rattle.sp_code.specs.Machine.{At, put, put_all, under, const_of};
 ghost use Rattle.sp_machine.specs.Methods.{TellsOne};

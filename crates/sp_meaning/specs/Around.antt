@@ -1,7 +1,7 @@
 -- What stands round an expression of a body.
 use Rattle.std.specs.Prelude.{ℕ, ◌-◌, List, length, Option, None, nat_lt, slice_get, unwrap_or, if◌then◌else◌}
 use Rattle.sp_value.specs.Val.{Val, void}
-use Rattle.sp_running.specs.States.{State, parameter_of}
+use Rattle.sp_meaning_states.specs.States.{State, parameter_of}
 
 -- a body's own arguments, `$$`, and the offset of the field or the element at hand
 pub record Around : Type 0 where

@@ -7,16 +7,21 @@ use Rattle.sp_types.specs.Types.{Ty}
 use Rattle.sp_typed.specs.Stmts.{Stmt}
 use Rattle.sp_typed_units.specs.declared.declarations.Hook.{Hook}
 use Rattle.sp_typed_units.specs.declared.declarations.Typed.{Typed}
-use Rattle.sp_running.specs.States.{State, Fine, Returned, Unfinished, Result, ends, behind, done, turn, deeper, go}
-use Rattle.sp_running.specs.Scopes.{called_where, InCall, inside}
-use Rattle.sp_running.specs.Scopes as called_is
-use Rattle.sp_running.specs.Types.{zero_value}
-use Rattle.sp_running.specs.Telling.{Names, value_trees}
-use Rattle.sp_bodies.specs.Globals.{globals_of}
+use Rattle.sp_meaning_states.specs.States.{State, Fine, Returned, Unfinished, Result, ends, behind, done, turn, deeper, go}
+use Rattle.sp_meaning_states.specs.Scopes.{called_where, InCall, inside}
+use Rattle.sp_meaning_states.specs.Scopes as called_is
+use Rattle.sp_meaning_states.specs.Types.{zero_value}
+use Rattle.sp_meaning_states.specs.Telling.{Names, value_trees}
+use Rattle.sp_meaning.specs.Globals.{globals_of}
 use Rattle.sp_meaning.specs.Around.{Around, with_arguments}
-use Rattle.sp_bodies.specs.Exprs.{known}
-use Rattle.sp_bodies.specs.Calls.{zero_slots, has_current, is_foreach, told_count}
+use Rattle.sp_meaning.specs.Operations.{known}
+use Rattle.sp_meaning.specs.Hooks.{has_current, is_foreach, told_count}
 use Rattle.sp_meaning.specs.Stmts.{stmt_means}
+
+-- the values with which slots of these types begin
+abbrev pub zero_slots : List ℕ → List Ty → List Val
+zero_slots ranges [] = []
+zero_slots ranges (t ∷ ts) = zero_value ranges t ∷ zero_slots ranges ts
 
 -- What a body of a hook has by name, of what it is handed: `$$` and the offset of the field or the element, or its arguments.
 abbrev pub hook_around : Hook → List Val → Around

@@ -9,11 +9,11 @@ use Rattle.sp_typed.specs.declared.words.ManyOp.{ManyOp}
 use Rattle.sp_typed.specs.declared.words.ManyOp.TheVariants as many_is
 use Rattle.sp_typed.specs.declared.words.UnitMethod.TheVariants as unit_method
 use Rattle.sp_typed.specs.Exprs.{Expr, Exprs, leaf, one, two, three, many, none, more}
-use Rattle.sp_running.specs.States.{State, Gives, Fine, Unfinished, Result, ends, got, chosen, truth_of, answer, local_of, set_local, member_of, value_or_unset, put_member}
-use Rattle.sp_running.specs.Values.{item_at, with_at, set_of, map_of}
-use Rattle.sp_running.specs.Types.{number_value, zero_value}
-use Rattle.sp_bodies.specs.Globals.{Globals, label_value}
-use Rattle.sp_bodies.specs.Exprs.{known, given, taken, negative_literal, unless_literal, one_means, two_means, converted, offset_from, is_self, member_named, is_item, local_named, keep_owner, owner_means, slot_of_receiver, called_method, Changes}
+use Rattle.sp_meaning_states.specs.States.{State, Gives, Fine, Unfinished, Result, ends, got, chosen, truth_of, answer, local_of, set_local, member_of, value_or_unset, put_member}
+use Rattle.sp_meaning_states.specs.Values.{item_at, with_at, set_of, map_of}
+use Rattle.sp_meaning_states.specs.Types.{number_value, zero_value}
+use Rattle.sp_meaning.specs.Globals.{Globals, label_value}
+use Rattle.sp_meaning.specs.Operations.{known, given, taken, negative_literal, unless_literal, one_means, two_means, converted, offset_from, is_self, member_named, is_item, local_named, keep_owner, owner_means, slot_of_receiver, called_method, Changes}
 use Rattle.sp_meaning.specs.Around.{Around, parameter_in}
 use Rattle.sp_meaning.specs.Methods.{applied}
 

@@ -1,10 +1,15 @@
-pub mod Meaning
-pub mod Steady
+pub mod Globals
+pub mod Names
 pub mod Around
+pub mod Operations
 pub mod Methods
 pub mod Exprs
 pub mod Places
 pub mod Stmts
+pub mod Hooks
 pub mod Calls
+pub mod Integers
 pub mod Units
+pub mod Meaning
+pub mod Steady
 pub mod Rows

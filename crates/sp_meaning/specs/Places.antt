@@ -2,10 +2,10 @@
 use Rattle.std.specs.Prelude.{ℕ, List, Option}
 use Rattle.sp_value.specs.Val.{Val}
 use Rattle.sp_typed.specs.Exprs.{Expr, leaf, one, two}
-use Rattle.sp_running.specs.States.{State, Fine, Unfinished, Result, ends, got, chosen, answer, set_local, put_member}
-use Rattle.sp_running.specs.Values.{with_at}
-use Rattle.sp_bodies.specs.Globals.{Globals}
-use Rattle.sp_bodies.specs.Exprs.{known, member_named, is_item, local_named, keep_owner, owner_means}
+use Rattle.sp_meaning_states.specs.States.{State, Fine, Unfinished, Result, ends, got, chosen, answer, set_local, put_member}
+use Rattle.sp_meaning_states.specs.Values.{with_at}
+use Rattle.sp_meaning.specs.Globals.{Globals}
+use Rattle.sp_meaning.specs.Operations.{known, member_named, is_item, local_named, keep_owner, owner_means}
 use Rattle.sp_meaning.specs.Around.{Around}
 use Rattle.sp_meaning.specs.Exprs.{expr_means, place_means}
 

@@ -14,12 +14,12 @@ use Rattle.sp_typed.specs.declared.stmt_words.ValuedOp.{ValuedOp}
 use Rattle.sp_typed.specs.declared.stmt_words.ValuedOp.TheVariants as valued_is
 use Rattle.sp_typed.specs.Exprs.{Expr, Exprs, none, more}
 use Rattle.sp_typed.specs.Stmts.{Stmt, Stmts, Branches, Cases, bare, valued, assign, print, block, branch, while_loop, for_loop, switch, no_stmts, more_stmts, no_branches, more_branches, no_cases, more_cases}
-use Rattle.sp_running.specs.States.{State, Fine, Broke, Continued, Returned, Unfinished, Result, Ends, ends, got, done, round, chosen, truth_of, answer, local_of, set_local, turn}
-use Rattle.sp_running.specs.Values.{members_of}
-use Rattle.sp_running.specs.Types.{zero_value}
-use Rattle.sp_running.specs.Telling.{Names, value_trees}
-use Rattle.sp_bodies.specs.Globals.{Globals}
-use Rattle.sp_bodies.specs.Stmts.{fails_with, update_means}
+use Rattle.sp_meaning_states.specs.States.{State, Fine, Broke, Continued, Returned, Unfinished, Result, Ends, ends, got, done, round, chosen, truth_of, answer, local_of, set_local, turn}
+use Rattle.sp_meaning_states.specs.Values.{members_of}
+use Rattle.sp_meaning_states.specs.Types.{zero_value}
+use Rattle.sp_meaning_states.specs.Telling.{Names, value_trees}
+use Rattle.sp_meaning.specs.Globals.{Globals}
+use Rattle.sp_meaning.specs.Operations.{fails_with, update_means}
 use Rattle.sp_meaning.specs.Around.{Around}
 use Rattle.sp_meaning.specs.Exprs.{expr_means, all_got, place_means}
 use Rattle.sp_meaning.specs.Places.{put_means, key_means}

@@ -11,19 +11,38 @@ use Rattle.sp_typed_units.specs.declared.declarations.Typed.{Typed}
 use Rattle.sp_typed_units.specs.declared.declarations.Unit.{Unit}
 use Rattle.sp_typed_units.specs.declared.declarations.Variable.{Variable}
 use Rattle.sp_typed_units.specs.Parts.{Part, Parts, field, no_parts, more_parts, parts}
-use Rattle.sp_running.specs.States as running
-use Rattle.sp_running.specs.States.{Reading, Instance, State, End, Fine, Failed, Backs, Rejected, Need, Unfinished, Result, ends, on_end, got, done, chosen, put_member}
-use Rattle.sp_running.specs.Scopes.{InUnit, InFailing, ends_fiber, inside}
-use Rattle.sp_running.specs.Reads.{Ask, Read}
-use Rattle.sp_running.specs.Types.{width_bytes}
-use Rattle.sp_running.specs.Telling.{Names}
-use Rattle.sp_bodies.specs.Globals.{globals_of}
-use Rattle.sp_bodies.specs.Exprs.{known}
-use Rattle.sp_bodies.specs.Calls.{hook_bodies, integer_means}
-use Rattle.sp_bodies.specs.Units.{IntegerForm, integer_field, last_order, module_order, is_of_unit, is_plain, first_value, stored, offset_here}
+use Rattle.sp_meaning_states.specs.States as running
+use Rattle.sp_meaning_states.specs.States.{Reading, Instance, State, End, Fine, Failed, Backs, Rejected, Need, Unfinished, Result, ends, on_end, got, done, chosen, put_member}
+use Rattle.sp_meaning_states.specs.Scopes.{InUnit, InFailing, ends_fiber, inside}
+use Rattle.sp_meaning_states.specs.Reads.{Ask, Read}
+use Rattle.sp_meaning_states.specs.Types.{width_bytes}
+use Rattle.sp_meaning_states.specs.Telling.{Names}
+use Rattle.sp_meaning.specs.Globals.{globals_of}
+use Rattle.sp_meaning.specs.Operations.{known}
+use Rattle.sp_meaning.specs.Hooks.{hook_bodies, is_of_unit}
+use Rattle.sp_meaning.specs.Integers.{integer_means, IntegerForm, integer_field, last_order, module_order}
 use Rattle.sp_meaning.specs.Around.{with_arguments}
 use Rattle.sp_meaning.specs.Exprs.{expr_means}
 use Rattle.sp_meaning.specs.Calls.{counted, call_means, hooks_mean}
+
+-- a unit without sinks that is no filter
+abbrev pub is_plain : Bool → List Sink → Bool
+is_plain false [] = true
+is_plain filter sinks = false
+
+-- a value becomes that of a field, unless that has no name
+abbrev pub stored : Option ℕ → Val → State → Result
+stored (Some m) v st = put_member (unit st.self) m v st
+stored None v st = ends Fine st
+
+-- the value with which a member of a unit begins, where bitfields have so many ranges
+abbrev pub first_value : List ℕ → Option Member → Val
+first_value ranges (Some m) = zero_value ranges m.ty
+first_value ranges None = void
+
+-- how far the place is behind the start of the unit at hand
+abbrev pub offset_here : State → Val
+offset_here st = uint W64 (st.now.place - start_of st (unit st.self))
 
 -- one after another, each of which must end well
 abbrev pub in_turn : List (State → Result) → State → Result

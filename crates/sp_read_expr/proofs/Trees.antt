@@ -6,7 +6,7 @@ use Rattle.sp_lex.specs.Lexed.{Lexed}
 use Rattle.sp_lex.specs.declared.tokens.Token.{Token}
 use Rattle.sp_parser.specs.declared.symbol.ActionAt.{ActionAt}
 use Rattle.sp_grammar.specs.declared.language.Start.{Start}
-use Rattle.sp_runs.specs.Runs.{IsRead, IsPhrase}
+use Rattle.sp_phrases.specs.Runs.{IsRead, IsPhrase}
 use Rattle.sp_build.specs.Items.{built}
 use Rattle.sp_ast.specs.Groups.{is_of}
 use Rattle.sp_ast.specs.Slots.{is_formed}

@@ -4,7 +4,7 @@ use Rattle.sp_ast.specs.Trees.{Tree}
 use Rattle.sp_lex.specs.Lexed.{Lexed}
 use Rattle.sp_parser.specs.declared.symbol.ActionAt.{ActionAt}
 use Rattle.sp_grammar.specs.declared.language.Start.{Start}
-use Rattle.sp_runs.specs.Runs.{IsLongestRun, IsPhrase}
+use Rattle.sp_phrases.specs.Runs.{IsLongestRun, IsPhrase}
 use Rattle.sp_ast.specs.Groups.{is_of}
 use Rattle.sp_build.specs.Building.{IsBuilt}
 use Rattle.sp_build.specs.Starting.{group_of}

@@ -2,14 +2,14 @@
 ghost use Rattle.std.specs.Prelude.{◌≤◌, length, IfOk, IfErr};
 ghost use Rattle.sp_lex.specs.Faults.{OnDiag};
 ghost use Rattle.sp_grammar.specs.declared.language.Start.TheVariants as start;
-ghost use Rattle.sp_runs.specs.Runs.{IsRefused};
+ghost use Rattle.sp_phrases.specs.Runs.{IsRefused};
 ghost use Rattle.sp_read_expr.specs.Reading.{IsTreeRead};
 
 use sp_ast::{BoundedTree, Expr, Stmt, TypeTree};
 use sp_build::{Builder, every_phrase_is_built};
 use sp_grammar::Start;
 use sp_lex::{ReadFault, Tokens};
-use sp_runs::read_from;
+use sp_phrases::read_from;
 use std::alloc::Global;
 
 /// Reads the longest run of tokens from `at` on that begins some text of this kind. Where the run is such a text, the

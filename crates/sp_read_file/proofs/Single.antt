@@ -8,8 +8,8 @@ use Rattle.sp_lex.specs.declared.tokens.Token.{Token}
 use Rattle.sp_lex.specs.Faults.{GoesBefore}
 use Rattle.sp_lex.specs.Readings.{Reading, Ends, Stops, Reads as ReadsToken, whole}
 use Rattle.sp_grammar.specs.declared.language.Start.TheVariants.{Module}
-use Rattle.sp_runs.specs.Runs.{refused_at as run_refused_at, refused_with}
-use Rattle.sp_runs.proofs.Unique.{one_longest}
+use Rattle.sp_phrases.specs.Runs.{refused_at as run_refused_at, refused_with}
+use Rattle.sp_phrases.proofs.Unique.{one_longest}
 use Rattle.sp_lex.specs.Lexed.{Lexed}
 use Rattle.sp_ast.specs.Trees.{Tree}
 use Rattle.sp_build.specs.Items.{built}

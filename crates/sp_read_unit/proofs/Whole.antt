@@ -13,10 +13,10 @@ use Rattle.sp_lex.specs.declared.tokens.Token.{Token}
 use Rattle.sp_parser.specs.declared.symbol.ActionAt.{ActionAt}
 use Rattle.sp_grammar.specs.declared.language.Start.TheVariants.{Module}
 use Rattle.sp_grammar.specs.Sentences.{IsSentence}
-use Rattle.sp_runs.specs.Kinds.{numbers_of}
-use Rattle.sp_runs.specs.Runs.{IsLongestRun, IsPhrase, IsRead, IsRefused, refused_at, refused_with, unexpected}
-use Rattle.sp_runs.proofs.Longest.{numbers_length, inside_of}
-use Rattle.sp_runs.proofs.Unique.{one_longest, one_derivation}
+use Rattle.sp_phrases.specs.Kinds.{numbers_of}
+use Rattle.sp_phrases.specs.Runs.{IsLongestRun, IsPhrase, IsRead, IsRefused, refused_at, refused_with, unexpected}
+use Rattle.sp_phrases.proofs.Longest.{numbers_length, inside_of}
+use Rattle.sp_phrases.proofs.Unique.{one_longest, one_derivation}
 use Rattle.sp_ast.specs.Trees.{Tree}
 use Rattle.sp_lex.specs.Lexed.{Lexed}
 use Rattle.sp_read_expr.specs.Reading.{IsTreeRead}

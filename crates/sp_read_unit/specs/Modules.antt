@@ -11,8 +11,8 @@ use Rattle.sp_lex.specs.Lexed.{Lexed}
 use Rattle.sp_build.specs.Building.{IsBuilt}
 use Rattle.sp_ast.specs.Groups.{is_of}
 use Rattle.sp_build.specs.Starting.{group_of}
-use Rattle.sp_runs.specs.Kinds.{numbers_of}
-use Rattle.sp_runs.specs.Runs.{IsLongestRun, refused_at, refused_with}
+use Rattle.sp_phrases.specs.Kinds.{numbers_of}
+use Rattle.sp_phrases.specs.Runs.{IsLongestRun, refused_at, refused_with}
 
 -- all these tokens are the text of a module, and the grammar reads them passing these actions
 abbrev pub IsModule : List Token → List ActionAt → Type 0

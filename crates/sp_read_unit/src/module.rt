@@ -2,14 +2,14 @@
 ghost use Rattle.std.specs.Prelude.{◌≡◌, ◌≤◌, length, OnOk, IfOk, IfErr};
 ghost use Rattle.sp_lex.specs.Faults.{OnDiag};
 ghost use Rattle.sp_lex.specs.declared.tokens.ReadFault.TheVariants as fault_is;
-ghost use Rattle.sp_runs.specs.Runs.{unexpected};
+ghost use Rattle.sp_phrases.specs.Runs.{unexpected};
 ghost use Rattle.sp_read_unit.specs.Modules.{IsModuleText, IsModuleTree, IsModuleRefused};
 
 use sp_ast::Module;
 use sp_grammar::Start;
 use sp_lex::{ReadFault, Token, Tokens};
+use sp_phrases::unexpected;
 use sp_read_expr::read_tree;
-use sp_runs::unexpected;
 use std::alloc::Global;
 
 /// The refusal of a token that is left over.

@@ -4,8 +4,8 @@ use Rattle.sp_ast.specs.Trees.{Tree}
 use Rattle.sp_rules.specs.declared.fault.Fault.{Fault}
 use Rattle.sp_rules.specs.Least.{Among, IsLeast, checked}
 use Rattle.sp_typed_units.specs.declared.declarations.Typed.{Typed}
-use Rattle.sp_checked_list.specs.Settled.{Answers}
-use Rattle.sp_checked_list.specs.NameRules.{name_tests, BreaksName, IsTyped, IsAnswered}
+use Rattle.sp_type_answers.specs.Settled.{Answers}
+use Rattle.sp_type_answers.specs.NameRules.{name_tests, BreaksName, IsTyped, IsAnswered}
 
 -- the tests under some answers are those under any
 pub least_of_one : {A : Type 0} (tests : A → List (Bool × Fault)) (a : A) → ((b : A) → tests b ≡ tests a) → (o : Option Fault) → IsLeast (λ f. Among (tests a) (true, f)) o → IsLeast (λ f. (b : A) × Among (tests b) (true, f)) o

@@ -7,13 +7,13 @@ use Rattle.sp_types.specs.Types.{Ty}
 use Rattle.sp_rules.specs.declared.fault.Fault.{Fault}
 use Rattle.sp_rules.specs.Least.{checked}
 use Rattle.sp_typed_units.specs.declared.declarations.Typed.{Typed}
-use Rattle.sp_declared_values.specs.declared.answer.Answer.{Answer}
-use Rattle.sp_hook_rows.specs.declared.sites.Site.{Site}
-use Rattle.sp_hook_rows.specs.declared.rows.HookRow.{HookRow}
-use Rattle.sp_hook_rows.specs.Sites.{sites}
-use Rattle.sp_hook_rows.specs.HookRows.{rows_of, hook_rows}
-use Rattle.sp_checked_list.specs.Lists.{list_in, typed_list}
-use Rattle.sp_checked_list.specs.NameRules.{tests_at, tests_of}
+use Rattle.sp_type_values.specs.declared.answer.Answer.{Answer}
+use Rattle.sp_type_hook_rows.specs.declared.sites.Site.{Site}
+use Rattle.sp_type_hook_rows.specs.declared.rows.HookRow.{HookRow}
+use Rattle.sp_type_hook_rows.specs.Sites.{sites}
+use Rattle.sp_type_hook_rows.specs.HookRows.{rows_of, hook_rows}
+use Rattle.sp_type_answers.specs.Lists.{list_in, typed_list}
+use Rattle.sp_type_answers.specs.NameRules.{tests_at, tests_of}
 
 module _ (list : List Tree) (f : ℕ → Option Ty) (known : ℕ → Option Answer) (stored : List (Option Ty)) where
   list_same : (ss : List Site) (rs : List HookRow) → ss ≡ sites list → rs ≡ rows_of list f ss → list_in list f known stored ss rs ≡ typed_list list f known stored

@@ -7,10 +7,10 @@ use Rattle.sp_names.specs.declared.rows.Declaration.{Declaration}
 use Rattle.sp_names.specs.declared.sort.DeclSort.{DeclSort}
 use Rattle.sp_names.specs.declared.sort.DeclSort.TheVariants as sort_is
 use Rattle.sp_names.specs.Declarations.{rows, sort_of}
-use Rattle.sp_constants.specs.declared.outcome.Outcome.{Outcome}
-use Rattle.sp_declared_values.specs.declared.answer.Answer.{Answer}
-use Rattle.sp_declared_values.specs.TypedRows.{if_declared, next_constant, constants_from, typed_constants}
-use Rattle.sp_list_rules.specs.Told.{constant_told}
+use Rattle.sp_type_constants.specs.declared.outcome.Outcome.{Outcome}
+use Rattle.sp_type_values.specs.declared.answer.Answer.{Answer}
+use Rattle.sp_type_values.specs.TypedRows.{if_declared, next_constant, constants_from, typed_constants}
+use Rattle.sp_rule_lists.specs.Told.{constant_told}
 use Rattle.sp_scope.specs.Kept.{outcomes, outcome_or, if_kept, kept_from, kept}
 
 outcomes_more : (xs ys : List Constant) → outcomes (xs ++ ys) ≡ outcomes xs ++ outcomes ys

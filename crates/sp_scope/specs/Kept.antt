@@ -7,12 +7,12 @@ use Rattle.sp_names.specs.declared.rows.Declaration.{Declaration}
 use Rattle.sp_names.specs.declared.sort.DeclSort.{DeclSort}
 use Rattle.sp_names.specs.declared.sort.DeclSort.TheVariants as sort_is
 use Rattle.sp_names.specs.Declarations.{rows, sort_of}
-use Rattle.sp_constants.specs.declared.outcome.Outcome.{Outcome}
-use Rattle.sp_constants.specs.declared.outcome.Outcome.TheVariants as outcome_is
-use Rattle.sp_declared_values.specs.declared.answer.Answer.{Answer}
-use Rattle.sp_declared_values.specs.Answers.{constant_value}
-use Rattle.sp_declared_values.specs.TypedRows.{shown_value, next_constant}
-use Rattle.sp_list_rules.specs.Told.{constant_outcome}
+use Rattle.sp_type_constants.specs.declared.outcome.Outcome.{Outcome}
+use Rattle.sp_type_constants.specs.declared.outcome.Outcome.TheVariants as outcome_is
+use Rattle.sp_type_values.specs.declared.answer.Answer.{Answer}
+use Rattle.sp_type_values.specs.Answers.{constant_value}
+use Rattle.sp_type_values.specs.TypedRows.{shown_value, next_constant}
+use Rattle.sp_rule_lists.specs.Told.{constant_outcome}
 
 -- what each constant is
 abbrev pub outcomes : List Constant → List Outcome

@@ -2,17 +2,17 @@
 ghost use Rattle.std.specs.Prelude.{◌≡◌, ◌++◌, IfOk, OnOk};
 ghost use Rattle.sp_solver.specs.Told.{told};
 ghost use Rattle.sp_names.specs.Declarations.{sort_of};
-ghost use Rattle.sp_constants.specs.declared.outcome.Outcome.{Outcome as Data};
-ghost use Rattle.sp_declared_values.specs.Answers.{constant_value};
-ghost use Rattle.sp_declared_values.specs.TypedRows.{shown_value, next_constant};
-ghost use Rattle.sp_list_rules.specs.Told.{constant_outcome};
+ghost use Rattle.sp_type_constants.specs.declared.outcome.Outcome.{Outcome as Data};
+ghost use Rattle.sp_type_values.specs.Answers.{constant_value};
+ghost use Rattle.sp_type_values.specs.TypedRows.{shown_value, next_constant};
+ghost use Rattle.sp_rule_lists.specs.Told.{constant_outcome};
 ghost use Rattle.sp_scope.specs.Kept.{if_kept, kept};
 
 use sp_ast::DeclView;
 use sp_base::{NoMemory, or_drop};
-use sp_constants::{Constants, Measured, Outcome};
-use sp_declared_values::Known;
 use sp_names::{Declaration, RowView};
+use sp_type_constants::{Constants, Measured, Outcome};
+use sp_type_values::Known;
 use std::alloc::Global;
 
 /// What a constant is to the typed list: where its value is an error, it has none.

@@ -3,30 +3,30 @@ ghost use Rattle.std.specs.Prelude.{◌≡◌, None, length, IfOk, IfErr, OnOk};
 ghost use Rattle.sp_solver.specs.Told.{told};
 ghost use Rattle.sp_names.specs.Aliases.{IsResolved};
 ghost use Rattle.sp_rules.specs.Least.{IsLeast, checked};
-ghost use Rattle.sp_hook_rows.specs.Sites.{sites};
-ghost use Rattle.sp_hook_rows.specs.HookRows.{rows_of};
-ghost use Rattle.sp_around.specs.Sources.{questions};
-ghost use Rattle.sp_stored_types.specs.Tries.{AreStored};
-ghost use Rattle.sp_checked_list.specs.Lists.{list_in, typed_list};
-ghost use Rattle.sp_checked_list.specs.Settled.{AreValued, first_contexts, worth};
-ghost use Rattle.sp_checked_list.specs.NameRules.{IsTyped, IsAnswered, tests_at, tests_of, BreaksName};
-ghost use Rattle.sp_checked_list.specs.Refusals.{IsRefused};
+ghost use Rattle.sp_type_hook_rows.specs.Sites.{sites};
+ghost use Rattle.sp_type_hook_rows.specs.HookRows.{rows_of};
+ghost use Rattle.sp_type_modules.specs.Sources.{questions};
+ghost use Rattle.sp_type_members.specs.Tries.{AreStored};
+ghost use Rattle.sp_type_answers.specs.Lists.{list_in, typed_list};
+ghost use Rattle.sp_type_answers.specs.Settled.{AreValued, first_contexts, worth};
+ghost use Rattle.sp_type_answers.specs.NameRules.{IsTyped, IsAnswered, tests_at, tests_of, BreaksName};
+ghost use Rattle.sp_type_answers.specs.Refusals.{IsRefused};
 
 use crate::kept_values::kept;
 use crate::scopes::Scopes;
-use sp_around::Tables;
 use sp_ast::Module;
 use sp_base::{NoMemory, or_drop};
-use sp_checked_list::{CheckFault, answers_are_one};
-use sp_declared_values::{Known, ValueRow, answers};
-use sp_hook_rows::{HookRow, Site, all_sites, hook_rows, note_hooks};
-use sp_list_context::{all_parameters, homes, parameter_tables, seeing_parameters};
-use sp_list_rules::note_names;
 use sp_name_answers::{note_faults, resolve_types};
 use sp_names::Names;
+use sp_rule_lists::note_names;
 use sp_rules::{Fault, least_of_checked};
-use sp_stored_types::{MemberRows, stored_types};
-use sp_typed_list::typed_list;
+use sp_type_answers::{CheckFault, answers_are_one};
+use sp_type_hook_rows::{HookRow, Site, all_sites, hook_rows, note_hooks};
+use sp_type_list::typed_list;
+use sp_type_list_context::{all_parameters, homes, parameter_tables, seeing_parameters};
+use sp_type_members::{MemberRows, stored_types};
+use sp_type_modules::Tables;
+use sp_type_values::{Known, ValueRow, answers};
 use sp_typed_units::Typed;
 use sp_types::Type;
 use std::alloc::Global;
@@ -47,7 +47,7 @@ fn stored_in(alloc: Global, known: &Known<'_>) -> Result<Vec<Option<Type>>, NoMe
 }
 
 /// Notes the rules on names that are broken.
-#[tactic(auto, using(sp_list_rules::proofs::Checked::checked_more))]
+#[tactic(auto, using(sp_rule_lists::proofs::Checked::checked_more))]
 fn note_all(
     alloc: Global,
     tables: &Tables<'_>,
@@ -180,7 +180,7 @@ fn type_and_ask(alloc: Global, list: &[Module]) -> Result<(Scopes, Option<Fault>
 /// The typed list of a list of modules, where no rule on names is broken: modules, declarations, labels, ranges of bits,
 /// parameters, locals and members whose name is taken, names that name nothing, and hooks of nothing or with parameters that are
 /// not theirs. Else the least that is broken, by module, place and number. Time and calls are those of `type_list`.
-#[tactic(auto, using(sp_checked_list::proofs::Refused::refused_at))]
+#[tactic(auto, using(sp_type_answers::proofs::Refused::refused_at))]
 pub fn resolve(alloc: Global, list: &[Module]) -> Result<Scopes, CheckFault>
     ensures resolved { IfOk result (λ s. IsTyped list.now s.typed
         × IsLeast (BreaksName list.now) None) }

@@ -1,10 +1,10 @@
 // What the names of a list mean, and what its constants are.
 ghost use Rattle.std.specs.Prelude.{◌≡◌, option_copied, slice_get, IfOk};
-ghost use Rattle.sp_list_rules.specs.Told.{constant_told, label_outcome, label_in};
+ghost use Rattle.sp_rule_lists.specs.Told.{constant_told, label_outcome, label_in};
 ghost use Rattle.sp_scope.specs.Kept.{outcomes, outcome_or};
 
 use sp_base::NoMemory;
-use sp_constants::{Constants, Measured, label_of};
+use sp_type_constants::{Constants, Measured, label_of};
 use sp_typed_units::{Enum, Label, LabelNumber, Typed};
 
 /// What a label is.
@@ -72,7 +72,7 @@ impl Scopes {
 }
 
 impl Constants for Scopes {
-    ghost use Rattle.sp_list_rules.specs.Told.{values_of};
+    ghost use Rattle.sp_rule_lists.specs.Told.{values_of};
 
     ghost known = { λ s. values_of s.typed };
 

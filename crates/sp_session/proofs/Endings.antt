@@ -6,18 +6,19 @@ use Rattle.sp_base.specs.declared.places.ParseError.{ParseError}
 use Rattle.sp_events.specs.Tree.{TreeData}
 use Rattle.sp_events.specs.declared.event.What.{What}
 use Rattle.sp_value.specs.Val.{Val}
-use Rattle.sp_running.specs.States.{Main, Reading, Error, Instance, State, End, Gives, Fine, Failed, Returned, Result, Ends}
-use Rattle.sp_running.specs.Scopes.{leave}
-use Rattle.sp_running.specs.Reads.{Ask, Bytes, Read, is_ended, seen_from}
-use Rattle.sp_running.specs.Telling.{Names, value_tree}
+use Rattle.sp_meaning_states.specs.States.{Main, Reading, Error, Instance, State, End, Gives, Fine, Failed, Returned, Result, Ends, end_of, events_of}
+use Rattle.sp_meaning_states.specs.Scopes.{leave}
+use Rattle.sp_meaning_states.specs.Reads.{Ask, Bytes, Read, is_ended, seen_from}
+use Rattle.sp_meaning_states.specs.Telling.{Names, value_tree}
 use Rattle.sp_code.specs.Machine.{Frame, Plain, Config, Next, Goes, Waits, Over, caught, landed, unless_caught, take_off, step}
 use Rattle.sp_frames.specs.Frames.{error_of}
 use Rattle.sp_machine.specs.declared.machine.Machine.{Machine}
 use Rattle.sp_machine.specs.declared.machine.Mode.{Mode}
 use Rattle.sp_machine.specs.declared.machine.Mode.TheVariants.{Running, Leaving, Returning, Failing}
 use Rattle.sp_machine.specs.Plain.{reading_of, state_of, plain_in, plain}
-use Rattle.sp_law_programs.specs.unit_told.Told.{end_of, events_of, told_end, IsOverIn, Tells}
+use Rattle.sp_law_programs.specs.unit_told.Told.{told_end, IsOverIn, Tells}
 use Rattle.sp_law_programs.specs.unit_told.Told as results
+use Rattle.sp_meaning_states.specs.States as results_states
 use Rattle.sp_fiber.specs.declared.stand.Stand.{Stand}
 use Rattle.sp_fiber.specs.declared.stand.Stand.TheVariants as stand_is
 use Rattle.sp_fiber.specs.Moves.{whole_reads}
@@ -78,7 +79,7 @@ error_in stand = None
 -- a result that ends so, by the step at which the machine stands
 module _ (names : Names) (instances : List Instance) (fs : List Frame) where
   abbrev IsSeen : Next → Result → Type 0
-  IsSeen x r = (told_end fs x ≡ end_of r) × IsOverIn (results.state_of r) x
+  IsSeen x r = (told_end fs x ≡ end_of r) × IsOverIn (results_states.state_of r) x
 
   waits_ending : (m : ℕ) (r : Result) → IsSeen (Waits m) r → IsEnding names r ending_is.Waits
   waits_ending m (Ends how es st) h = subst (λ how. IsEnding names (Ends how es st) ending_is.Waits) h.0 (record { stands = refl; tells = refl })
@@ -144,7 +145,7 @@ module _ (f : Suspended) (stand : Stand) where
     stands : IsStand stand next
     stands = stand_of_stopped live over close from s (events_of r) h.stopped
 
-    seen : (told_end (results.frames_of f.at) next ≡ end_of r) × IsOverIn (results.state_of r) next
+    seen : (told_end (results.frames_of f.at) next ≡ end_of r) × IsOverIn (results_states.state_of r) next
     seen = (h.tells.ends, h.tells.state)
 
     pub ends_waiting : stand ≡ stand_is.Waiting → IsEnding names r ending_is.Waits

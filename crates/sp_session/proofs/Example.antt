@@ -6,16 +6,15 @@ use Rattle.sp_words.specs.declared.words.HookName.{HookName}
 use Rattle.sp_typed_units.specs.declared.declarations.Hook.{Hook}
 use Rattle.sp_typed_units.specs.declared.declarations.MemberKind.TheVariants as member_is
 use Rattle.sp_typed_units.specs.declared.declarations.Unit.{Unit as TypedUnit}
-use Rattle.sp_bodies.specs.Calls.{has_current}
-use Rattle.sp_bodies.specs.Globals.{globals_of}
-use Rattle.sp_bodies.specs.Units.{is_of_unit}
+use Rattle.sp_meaning.specs.Hooks.{has_current, is_of_unit}
+use Rattle.sp_meaning.specs.Globals.{globals_of}
 use Rattle.sp_code.specs.Machine.{Plain}
 use Rattle.sp_code.specs.Programs.{plain_of, shapes_of}
 use Rattle.sp_code.specs.Shapes.{Shapes, IsSound}
 use Rattle.sp_code.specs.Turns.{Turns}
 use Rattle.sp_code_programs.specs.exprs.Code.{kind_at}
 use Rattle.sp_code_programs.specs.programs.Currents.{currents_of}
-use Rattle.sp_code_programs.specs.programs.Named.{hook_names_of}
+use Rattle.sp_meaning.specs.Names.{hook_names_of}
 use Rattle.sp_code_programs.specs.programs.Whole.{starter_at, IsProgramOf}
 use Rattle.sp_law_programs.specs.program_laid.Fits as laid
 use Rattle.sp_law_programs.specs.program_laid.Places.{StmtChangesPlaces}

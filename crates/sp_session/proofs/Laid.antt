@@ -4,13 +4,12 @@ use Rattle.sp_base.specs.Input.{Close}
 use Rattle.sp_base.specs.declared.places.Limits.{Limits}
 use Rattle.sp_events.specs.declared.event.What.{What}
 use Rattle.sp_typed_units.specs.declared.declarations.Typed.{Typed}
-use Rattle.sp_running.specs.States.{State, End, Gives, Result, Ends}
-use Rattle.sp_running.specs.Telling.{Names}
-use Rattle.sp_code_programs.specs.programs.Named.{hook_names_of, value_names_of}
+use Rattle.sp_meaning_states.specs.States.{State, End, Gives, Result, Ends, first}
+use Rattle.sp_meaning_states.specs.Telling.{Names}
+use Rattle.sp_meaning.specs.Names.{hook_names_of, value_names_of}
 use Rattle.sp_law_meaning.specs.Laws.{Behind, Agree}
 use Rattle.sp_law_meaning.specs.Standing.{ListStands}
 use Rattle.sp_law_meaning.proofs.Units.{meanings_are_one}
-use Rattle.sp_law_programs.specs.unit_told.Told.{first}
 use Rattle.sp_law_programs.specs.whole_program.Meant.{list_means}
 use Rattle.sp_fiber.specs.Moves.{whole_reads}
 use Rattle.sp_session.specs.Units.{meaning_of, unit_result, unit_meaning}

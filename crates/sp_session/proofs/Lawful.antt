@@ -5,8 +5,8 @@ use Rattle.sp_base.specs.Input.{Close, held_open, ended}
 use Rattle.sp_base.specs.declared.places.Limits.{Limits}
 use Rattle.sp_events.specs.declared.event.What.{What}
 use Rattle.sp_typed_units.specs.declared.declarations.Typed.{Typed}
-use Rattle.sp_running.specs.States.{Result}
-use Rattle.sp_running.specs.Reads.{Grows, Match}
+use Rattle.sp_meaning_states.specs.States.{Result, end_of, events_of}
+use Rattle.sp_meaning_states.specs.Reads.{Grows, Match}
 use Rattle.sp_code.specs.declared.program.Program.{Program}
 use Rattle.sp_code.specs.declared.program.UnitCode.{UnitCode}
 use Rattle.sp_code.specs.Machine.{Plain, Config, step}
@@ -16,9 +16,9 @@ use Rattle.sp_code.specs.Shapes.{Shaped}
 use Rattle.sp_law_machine.specs.continues.Laws.{IsSteady}
 use Rattle.sp_law_machine.specs.ends.Ending.{IsStop}
 use Rattle.sp_machine.specs.Plain.{no_tokens}
-use Rattle.sp_code_programs.specs.programs.Named.{hook_names_of, value_names_of}
+use Rattle.sp_meaning.specs.Names.{hook_names_of, value_names_of}
 use Rattle.sp_code_programs.specs.programs.Whole.{starter_at}
-use Rattle.sp_law_programs.specs.unit_told.Told.{end_of, events_of, IsNeed, Tells}
+use Rattle.sp_law_programs.specs.unit_told.Told.{IsNeed, Tells}
 use Rattle.sp_law_programs.proofs.unit_told_lemmas.Kept.{started_keeps}
 use Rattle.sp_law_programs.specs.finished_units.Meaning.{meaning}
 use Rattle.sp_law_programs.specs.finished_units.Laws.{IsLast}

@@ -6,11 +6,11 @@ use Rattle.sp_base.specs.declared.places.Limits.{Limits}
 use Rattle.sp_events.specs.declared.event.Event.{Event}
 use Rattle.sp_events.specs.declared.event.What.{What}
 use Rattle.sp_typed_units.specs.declared.declarations.Typed.{Typed}
-use Rattle.sp_running.specs.States.{Gives, Failed, Need, Result, Ends}
-use Rattle.sp_running.specs.Telling.{Names}
+use Rattle.sp_meaning_states.specs.States.{Gives, Failed, Need, Result, Ends, end_of, events_of}
+use Rattle.sp_meaning_states.specs.Telling.{Names}
 use Rattle.sp_code.specs.declared.program.Program.{Program}
-use Rattle.sp_code_programs.specs.programs.Named.{value_names_of}
-use Rattle.sp_law_programs.specs.unit_told.Told.{end_of, events_of, IsNeed}
+use Rattle.sp_meaning.specs.Names.{value_names_of}
+use Rattle.sp_law_programs.specs.unit_told.Told.{IsNeed}
 use Rattle.sp_law_programs.specs.finished_units.Laws.{IsLast}
 use Rattle.sp_meaning.specs.declared.stand.Stand.{Stand}
 use Rattle.sp_meaning.specs.declared.stand.Stand.TheVariants as stand_is

@@ -9,17 +9,17 @@ use Rattle.sp_events.specs.declared.event.What.{What}
 use Rattle.sp_typed_units.specs.declared.declarations.Typed.{Typed}
 use Rattle.sp_value.specs.Val.{Val}
 use Rattle.sp_window.specs.Windows.{Held}
-use Rattle.sp_running.specs.States.{State, End, Failed, Returned, Backs, Rejected, Need, Result, Ends}
-use Rattle.sp_running.specs.Telling.{Names}
+use Rattle.sp_meaning_states.specs.States.{State, End, Failed, Returned, Backs, Rejected, Need, Result, Ends, end_of, events_of}
+use Rattle.sp_meaning_states.specs.Telling.{Names}
 use Rattle.sp_code.specs.declared.program.Program.{Program}
 use Rattle.sp_code.specs.Machine.{Frame, Plain, Config, At, Ending, Next, Waits, Over, step, low_of}
 use Rattle.sp_code.specs.Programs.{names_of, plain_of, shapes_of}
 use Rattle.sp_code.specs.Shapes.{Shaped}
 use Rattle.sp_code.specs.Runs.{Comes}
 use Rattle.sp_law_machine.specs.ends.Ending.{IsStop}
-use Rattle.sp_code_programs.specs.programs.Named.{value_names_of}
+use Rattle.sp_meaning.specs.Names.{value_names_of}
 use Rattle.sp_code_programs.specs.programs.Whole.{starter_at}
-use Rattle.sp_law_programs.specs.unit_told.Told.{end_of, events_of, told_end, Tells}
+use Rattle.sp_law_programs.specs.unit_told.Told.{told_end, Tells}
 use Rattle.sp_law_programs.specs.unit_told.Told as results
 use Rattle.sp_fiber.specs.declared.phase.Phase.{Phase as FiberPhase}
 use Rattle.sp_fiber.specs.declared.phase.Phase.TheVariants as fiber_is

@@ -3,8 +3,8 @@ use Rattle.std.proofs.Common.{◌≡◌, ◌≢◌, List, ◌++◌, refl, sym, a
 use Rattle.std.proofs.lemmas.List.{append-nil}
 use Rattle.sp_events.specs.declared.event.Event.{Event}
 use Rattle.sp_events.specs.declared.event.What.{What}
-use Rattle.sp_running.specs.States.{Result}
-use Rattle.sp_running.specs.Telling.{Names}
+use Rattle.sp_meaning_states.specs.States.{Result}
+use Rattle.sp_meaning_states.specs.Telling.{Names}
 use Rattle.sp_fiber.specs.Fibers.{Suspended}
 use Rattle.sp_meaning.specs.declared.stand.Stand.{Stand}
 use Rattle.sp_meaning.specs.declared.stand.Stand.TheVariants.{Waiting, Done, Failed}

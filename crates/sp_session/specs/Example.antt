@@ -18,8 +18,8 @@ use Rattle.sp_typed_units.specs.declared.declarations.Unit.{Unit as TypedUnit}
 use Rattle.sp_typed_units.specs.declared.readings.ReadOp.TheVariants as read_is
 use Rattle.sp_typed_units.specs.Specs.{read}
 use Rattle.sp_typed_units.specs.Parts.{field}
-use Rattle.sp_running.specs.Scopes.{Called}
-use Rattle.sp_bodies.specs.Units.{unit_slots}
+use Rattle.sp_meaning_states.specs.Scopes.{Called}
+use Rattle.sp_code_meaning.specs.Units.{unit_slots}
 use Rattle.sp_code.specs.declared.instr.Instr.{Instr}
 use Rattle.sp_code.specs.declared.instr.Instr.TheVariants as does
 use Rattle.sp_code.specs.Machine.{Plain}

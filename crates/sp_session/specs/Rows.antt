@@ -9,9 +9,8 @@ use Rattle.sp_events.specs.Tree.{TreeData, uint, unit, field, no_fields}
 use Rattle.sp_events.specs.declared.event.Event.{Event}
 use Rattle.sp_events.specs.declared.event.What.{What}
 use Rattle.sp_value.specs.Val as value_is
-use Rattle.sp_running.specs.States.{Gives, Failed, Result, Ends, error_with}
-use Rattle.sp_code_programs.specs.programs.Named.{value_names_of}
-use Rattle.sp_law_programs.specs.unit_told.Told.{first}
+use Rattle.sp_meaning_states.specs.States.{Gives, Failed, Result, Ends, error_with, first}
+use Rattle.sp_meaning.specs.Names.{value_names_of}
 use Rattle.sp_fiber.specs.declared.phase.Phase.TheVariants as fiber_is
 use Rattle.sp_meaning.specs.declared.stand.Stand.TheVariants as stand_is
 use Rattle.sp_meaning.specs.Meaning.{Meaning, told}

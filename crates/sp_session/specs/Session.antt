@@ -8,7 +8,7 @@ use Rattle.sp_typed_units.specs.declared.declarations.Typed.{Typed}
 use Rattle.sp_code.specs.declared.program.Program.{Program}
 use Rattle.sp_code.specs.Machine.{Config}
 use Rattle.sp_code.specs.Programs.{plain_of, shapes_of, IsSoundProgram}
-use Rattle.sp_code_programs.specs.programs.Named.{hook_names_of}
+use Rattle.sp_meaning.specs.Names.{hook_names_of}
 use Rattle.sp_code_programs.specs.programs.Whole.{starter_at, IsCompiled}
 use Rattle.sp_law_meaning.specs.Standing.{ListStands}
 use Rattle.sp_law_programs.specs.finished_units.Meaning.{RunsUnit}

@@ -3,10 +3,10 @@ use Rattle.std.specs.Prelude.{◌≡◌, ℕ, List, [], ◌++◌}
 use Rattle.sp_base.specs.Input.{Close, held_open, ended}
 use Rattle.sp_events.specs.declared.event.Event.{Event}
 use Rattle.sp_events.specs.declared.event.What.{What}
-use Rattle.sp_running.specs.States.{Result}
-use Rattle.sp_running.specs.Telling.{Names}
+use Rattle.sp_meaning_states.specs.States.{Result, events_of}
+use Rattle.sp_meaning_states.specs.Telling.{Names}
 use Rattle.sp_code.specs.Machine.{Config}
-use Rattle.sp_law_programs.specs.unit_told.Told.{events_of, Tells}
+use Rattle.sp_law_programs.specs.unit_told.Told.{Tells}
 use Rattle.sp_fiber.specs.Moves.{whole_reads}
 use Rattle.sp_fiber.specs.Fibers.{Suspended, StandsFor, EndedFor, HasRun}
 use Rattle.sp_meaning.specs.declared.stand.Stand.{Stand}

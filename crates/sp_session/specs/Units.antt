@@ -7,10 +7,9 @@ use Rattle.sp_base.specs.declared.places.ParseError.{ParseError}
 use Rattle.sp_events.specs.declared.event.Event.{Event}
 use Rattle.sp_events.specs.declared.event.What.{What}
 use Rattle.sp_typed_units.specs.declared.declarations.Typed.{Typed}
-use Rattle.sp_running.specs.States.{Error, Gives, Failed, Need, Result, Ends}
-use Rattle.sp_running.specs.Telling.{Names, value_tree}
-use Rattle.sp_code_programs.specs.programs.Named.{hook_names_of, value_names_of}
-use Rattle.sp_law_programs.specs.unit_told.Told.{first, events_of}
+use Rattle.sp_meaning_states.specs.States.{Error, Gives, Failed, Need, Result, Ends, first, events_of}
+use Rattle.sp_meaning_states.specs.Telling.{Names, value_tree}
+use Rattle.sp_meaning.specs.Names.{hook_names_of, value_names_of}
 use Rattle.sp_fiber.specs.Moves.{whole_reads}
 use Rattle.sp_meaning.specs.declared.stand.Stand.{Stand}
 use Rattle.sp_meaning.specs.Meaning.{Meaning, UnitMeaning, told}

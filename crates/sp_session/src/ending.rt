@@ -8,7 +8,7 @@ use sp_code::Program;
 use sp_events::Tree;
 use sp_fiber::{Fiber, Stand};
 use sp_meaning::copy_of;
-use sp_tell::value_tree;
+use sp_show::value_tree;
 use std::alloc::Global;
 
 /// How a unit ends, as its last event tells it.

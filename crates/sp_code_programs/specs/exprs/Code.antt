@@ -20,9 +20,11 @@ use Rattle.sp_typed.specs.declared.words.ManyOp.{ManyOp}
 use Rattle.sp_typed.specs.declared.words.ManyOp.TheVariants as many_is
 use Rattle.sp_typed.specs.declared.words.UnitMethod.TheVariants as unit_method
 use Rattle.sp_typed.specs.Exprs.{Expr, Exprs, leaf, one, two, three, many, none, more, type_of}
-use Rattle.sp_running.specs.Types.{number_value, plain_type, zero_value, kind_of_type}
-use Rattle.sp_bodies.specs.Globals.{Globals, Layout, label_value}
-use Rattle.sp_bodies.specs.Exprs.{how_many, negative_literal, offset_local, is_self, slot_local, slot_of_receiver, gives_result, member_named, local_named}
+use Rattle.sp_meaning_states.specs.Types.{number_value, plain_type, zero_value, kind_of_type}
+use Rattle.sp_meaning.specs.Globals.{Globals, label_value}
+use Rattle.sp_code_meaning.specs.Layouts.{Layout}
+use Rattle.sp_code_meaning.specs.Exprs.{how_many, offset_local, slot_local, gives_result}
+use Rattle.sp_meaning.specs.Operations.{negative_literal, is_self, slot_of_receiver, member_named, local_named}
 use Rattle.sp_code.specs.declared.instr.Instr.{Instr}
 use Rattle.sp_code.specs.declared.instr.Instr.TheVariants as does
 use Rattle.sp_code.specs.Shapes.{Shape, with_operands, push}

@@ -13,8 +13,9 @@ use Rattle.sp_typed.specs.declared.words.ManyOp.{ManyOp}
 use Rattle.sp_typed.specs.declared.words.ManyOp.TheVariants as many_is
 use Rattle.sp_typed.specs.declared.words.UnitMethod.TheVariants as unit_method
 use Rattle.sp_typed.specs.Exprs.{Expr, Exprs, leaf, one, two, three, many, none, more}
-use Rattle.sp_bodies.specs.Globals.{Layout}
-use Rattle.sp_bodies.specs.Exprs.{negative_literal, offset_local, is_self, slot_local, slot_of_receiver, gives_result, is_item_place}
+use Rattle.sp_code_meaning.specs.Layouts.{Layout}
+use Rattle.sp_meaning.specs.Operations.{negative_literal, is_self, slot_of_receiver}
+use Rattle.sp_code_meaning.specs.Exprs.{offset_local, slot_local, gives_result, is_item_place}
 
 -- a literal with a minus sign is one constant
 abbrev pub size_or : Option Val → ℕ → ℕ

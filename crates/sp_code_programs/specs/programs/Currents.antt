@@ -16,9 +16,9 @@ use Rattle.sp_typed_units.specs.declared.declarations.Unit.{Unit as TypedUnit}
 use Rattle.sp_typed_units.specs.declared.items.Field.{Field}
 use Rattle.sp_typed_units.specs.Specs.{Spec, read, unit_read, list_read, group_read}
 use Rattle.sp_typed_units.specs.Parts.{Part, Parts, Arms, field, choice, no_parts, more_parts, no_arms, more_arms, parts}
-use Rattle.sp_running.specs.Scopes.{is_among}
-use Rattle.sp_running.specs.Types.{kind_of_type}
-use Rattle.sp_bodies.specs.Globals.{globals_of}
+use Rattle.sp_meaning_states.specs.Scopes.{is_among}
+use Rattle.sp_meaning_states.specs.Types.{kind_of_type}
+use Rattle.sp_meaning.specs.Globals.{globals_of}
 
 -- what a `&convert` makes of a value of a type; others leave it
 abbrev pub unless_convert : AttributeName → Option Expr → Ty → Ty

@@ -3,7 +3,7 @@ use Rattle.std.specs.Prelude.{◌≡◌, ℕ, ◌+◌, List, [], ◌∷◌, ◌+
 use Rattle.sp_value.specs.Val.{Val}
 use Rattle.sp_methods.specs.Kinds.{Kind}
 use Rattle.sp_typed_units.specs.declared.declarations.Typed.{Typed}
-use Rattle.sp_bodies.specs.Globals.{Globals, globals_of}
+use Rattle.sp_meaning.specs.Globals.{Globals, globals_of}
 use Rattle.sp_code.specs.declared.instr.Instr.{Instr}
 use Rattle.sp_code.specs.Machine.{Body, Plain}
 use Rattle.sp_code.specs.Shapes.{Shape, BodyKinds, Shapes}

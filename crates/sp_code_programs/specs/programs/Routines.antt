@@ -10,9 +10,11 @@ use Rattle.sp_typed_units.specs.declared.declarations.Hook.{Hook}
 use Rattle.sp_typed_units.specs.declared.declarations.HookOf.{HookOf}
 use Rattle.sp_typed_units.specs.declared.declarations.HookOf.TheVariants as hook_of
 use Rattle.sp_typed_units.specs.declared.declarations.Typed.{Typed}
-use Rattle.sp_running.specs.Types.{zero_value, kind_of_type}
-use Rattle.sp_bodies.specs.Globals.{Globals, Layout, globals_of}
-use Rattle.sp_bodies.specs.Calls.{function_layout, hook_layout, has_current, is_foreach}
+use Rattle.sp_meaning_states.specs.Types.{zero_value, kind_of_type}
+use Rattle.sp_meaning.specs.Globals.{Globals, globals_of}
+use Rattle.sp_code_meaning.specs.Layouts.{Layout}
+use Rattle.sp_code_meaning.specs.Calls.{function_layout, hook_layout}
+use Rattle.sp_meaning.specs.Hooks.{has_current, is_foreach}
 use Rattle.sp_code.specs.Machine.{Body}
 use Rattle.sp_code.specs.Shapes.{Shape, BodyKinds, OfFunction, OfHook, body_shape}
 use Rattle.sp_code_programs.specs.exprs.Marked.{Marked}

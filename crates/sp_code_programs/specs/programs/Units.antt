@@ -4,7 +4,7 @@ use Rattle.sp_methods.specs.Kinds.{Kind}
 use Rattle.sp_typed_units.specs.declared.declarations.Member.{Member}
 use Rattle.sp_typed_units.specs.declared.declarations.Typed.{Typed}
 use Rattle.sp_typed_units.specs.declared.declarations.Unit.{Unit as TypedUnit}
-use Rattle.sp_running.specs.Types.{kind_of_type}
+use Rattle.sp_meaning_states.specs.Types.{kind_of_type}
 use Rattle.sp_code.specs.Machine.{UnitCode}
 use Rattle.sp_code.specs.Shapes.{UnitKinds}
 use Rattle.sp_code_programs.specs.exprs.Marked.{Marked}

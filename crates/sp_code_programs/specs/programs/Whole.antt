@@ -2,14 +2,14 @@
 use Rattle.std.specs.Prelude.{◌≡◌, ℕ, ◌+◌, List, ◌++◌}
 use Rattle.sp_base.specs.declared.places.Limits.{Limits}
 use Rattle.sp_typed_units.specs.declared.declarations.Typed.{Typed}
-use Rattle.sp_bodies.specs.Globals.{globals_of}
+use Rattle.sp_meaning.specs.Globals.{globals_of}
 use Rattle.sp_code.specs.declared.program.Program.{Program}
 use Rattle.sp_code.specs.Machine.{Plain}
 use Rattle.sp_code.specs.Shapes.{Shapes}
 use Rattle.sp_code.specs.Programs.{plain_of, shapes_of}
 use Rattle.sp_code_programs.specs.exprs.Marked.{Marked}
 use Rattle.sp_code_programs.specs.programs.Routines.{Routine, routines_of}
-use Rattle.sp_code_programs.specs.programs.Named.{hook_names_of, value_names_of}
+use Rattle.sp_meaning.specs.Names.{hook_names_of, value_names_of}
 use Rattle.sp_code_programs.specs.programs.Currents.{currents_of}
 use Rattle.sp_code_programs.specs.programs.Units.{units_code, units_end, unit_entries, starters_code, kinds_of_units}
 use Rattle.sp_code_programs.specs.programs.Programs.{bodies_end, program_code, IsLaid}

@@ -26,14 +26,14 @@ use Rattle.sp_typed_units.specs.declared.items.Field.{Field}
 use Rattle.sp_typed_units.specs.declared.readings.ReadOp.TheVariants as read_is
 use Rattle.sp_typed_units.specs.Specs.{Spec, read, list_read, group_read}
 use Rattle.sp_typed_units.specs.Parts.{field, choice, no_arms, more_arms, parts}
-use Rattle.sp_running.specs.Scopes.{Called}
-use Rattle.sp_bodies.specs.Units.{unit_slots}
+use Rattle.sp_meaning_states.specs.Scopes.{Called}
+use Rattle.sp_code_meaning.specs.Units.{unit_slots}
 use Rattle.sp_code.specs.declared.instr.IntForm.{IntForm}
 use Rattle.sp_code.specs.declared.instr.Instr.TheVariants as does
 use Rattle.sp_code.specs.Machine.{UnitCode, Plain}
 use Rattle.sp_code.specs.Shapes.{Shape, UnitKinds, Shapes, OfUnit, OfEnding, OfFailing, OfFunction, OfHook, body_shape, push, with_operands}
 use Rattle.sp_code_programs.specs.units.Units.{slot_kinds, unit_shape}
-use Rattle.sp_code_programs.specs.programs.Named.{hook_name, hook_names_of, own_name, names_of_labels}
+use Rattle.sp_meaning.specs.Names.{hook_name, hook_names_of, own_name, names_of_labels}
 use Rattle.sp_code_programs.specs.programs.Currents.{currents_of}
 use Rattle.sp_code_programs.specs.programs.Whole.{units_start, starters_start, starter_at, IsProgramOf}
 use Rattle.sp_code_programs.specs.programs.Rows.{here, byte, leaf_of, same, seven}

@@ -6,10 +6,13 @@ use Rattle.sp_typed.specs.Stmts.{Stmt}
 use Rattle.sp_typed_units.specs.declared.declarations.Function.{Function}
 use Rattle.sp_typed_units.specs.declared.declarations.Hook.{Hook}
 use Rattle.sp_typed_units.specs.declared.declarations.Typed.{Typed}
-use Rattle.sp_running.specs.Scopes as called_is
-use Rattle.sp_running.specs.Types.{zero_value, kind_of_type}
-use Rattle.sp_bodies.specs.Globals.{Globals, Layout, globals_of}
-use Rattle.sp_bodies.specs.Calls.{zero_slots, function_layout, hook_layout, has_current, is_foreach, told_count}
+use Rattle.sp_meaning_states.specs.Scopes as called_is
+use Rattle.sp_meaning_states.specs.Types.{zero_value, kind_of_type}
+use Rattle.sp_meaning.specs.Globals.{Globals, globals_of}
+use Rattle.sp_code_meaning.specs.Layouts.{Layout}
+use Rattle.sp_meaning.specs.Calls.{zero_slots}
+use Rattle.sp_code_meaning.specs.Calls.{function_layout, hook_layout}
+use Rattle.sp_meaning.specs.Hooks.{has_current, is_foreach, told_count}
 use Rattle.sp_code.specs.declared.instr.Instr.TheVariants as does
 use Rattle.sp_code.specs.Machine.{Body, Plain}
 use Rattle.sp_code.specs.Shapes.{Shape, push}

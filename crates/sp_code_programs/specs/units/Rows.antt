@@ -37,14 +37,15 @@ use Rattle.sp_typed_units.specs.declared.declarations.Hook.{Hook}
 use Rattle.sp_typed_units.specs.declared.declarations.HookOf.{HookOf}
 use Rattle.sp_typed_units.specs.declared.declarations.HookOf.TheVariants as hook_of
 use Rattle.sp_typed_units.specs.declared.declarations.Typed.{Typed}
-use Rattle.sp_running.specs.States.{Reading, Main, State, End, Gives, Fine, Failed, Returned, Need, Result, Ends}
-use Rattle.sp_running.specs.Scopes.{Called}
-use Rattle.sp_running.specs.Reads.{Ask, Read, NoToken, reads}
-use Rattle.sp_running.specs.Telling.{Names}
-use Rattle.sp_bodies.specs.Globals.{globals_of}
-use Rattle.sp_meaning.specs.Calls.{call_means, hooks_mean}
-use Rattle.sp_bodies.specs.Calls as laid
-use Rattle.sp_bodies.specs.Calls.{hook_bodies, integer_means, zero_slots, is_foreach, told_count, has_current}
+use Rattle.sp_meaning_states.specs.States.{Reading, Main, State, End, Gives, Fine, Failed, Returned, Need, Result, Ends}
+use Rattle.sp_meaning_states.specs.Scopes.{Called}
+use Rattle.sp_meaning_states.specs.Reads.{Ask, Read, NoToken, reads}
+use Rattle.sp_meaning_states.specs.Telling.{Names}
+use Rattle.sp_meaning.specs.Globals.{globals_of}
+use Rattle.sp_meaning.specs.Calls.{call_means, hooks_mean, zero_slots}
+use Rattle.sp_code_meaning.specs.Calls as laid
+use Rattle.sp_meaning.specs.Hooks.{hook_bodies, is_foreach, told_count, has_current}
+use Rattle.sp_meaning.specs.Integers.{integer_means}
 use Rattle.sp_code.specs.declared.instr.Instr.{Instr}
 use Rattle.sp_code.specs.declared.instr.Instr.TheVariants as does
 use Rattle.sp_code.specs.Machine.{Body, Plain, Config, At, Next, Goes, Waits, Over, step}

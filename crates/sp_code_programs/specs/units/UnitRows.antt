@@ -31,8 +31,8 @@ use Rattle.sp_typed_units.specs.declared.declarations.Variable.{Variable}
 use Rattle.sp_typed_units.specs.declared.readings.ReadOp.TheVariants as read_is
 use Rattle.sp_typed_units.specs.Specs.{read}
 use Rattle.sp_typed_units.specs.Parts.{Part, field}
-use Rattle.sp_running.specs.States.{Main, State}
-use Rattle.sp_bodies.specs.Units as laid
+use Rattle.sp_meaning_states.specs.States.{Main, State}
+use Rattle.sp_code_meaning.specs.Units as laid
 use Rattle.sp_meaning.specs.Units.{unit_means}
 use Rattle.sp_code.specs.declared.instr.Instr.TheVariants as does
 use Rattle.sp_code.specs.Machine.{Plain, At, step}

@@ -3,7 +3,7 @@ use Rattle.std.specs.Prelude.{◌≡◌, ℕ, List, Option}
 use Rattle.sp_ast.specs.Trees.{Tree}
 use Rattle.sp_load.specs.declared.sources.Source.{Source}
 use Rattle.sp_typed_units.specs.declared.declarations.Typed.{Typed}
-use Rattle.sp_driver_words.specs.Words.{Words}
+use Rattle.sp_driver_args.specs.Words.{Words}
 use Rattle.sp_driver.specs.declared.exits.Exit.{Exit}
 use Rattle.sp_driver.specs.Driver.{run_meaning}
 use Rattle.sp_driver.specs.Lists.{IsUnready, IsChosen}

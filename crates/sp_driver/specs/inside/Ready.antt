@@ -7,7 +7,7 @@ use Rattle.sp_load.specs.declared.sources.Source.{Source}
 use Rattle.sp_typed_units.specs.declared.declarations.Typed.{Typed}
 use Rattle.sp_typed_units.specs.declared.declarations.Unit.{Unit as TypedUnit}
 use Rattle.sp_unbuilt.specs.Unbuilt.{Texts, first_unbuilt}
-use Rattle.sp_list_laws.specs.fit_list.Passes.{ListPasses}
+use Rattle.sp_law_lists.specs.fit_list.Passes.{ListPasses}
 use Rattle.sp_code.specs.declared.program.Program.{Program}
 use Rattle.sp_choose.specs.Choices.{chosen}
 use Rattle.sp_session.specs.Session as session

@@ -8,15 +8,17 @@ use Rattle.sp_methods.specs.Kinds.{Kind}
 use Rattle.sp_typed.specs.Stmts.{Stmt}
 use Rattle.sp_typed_units.specs.declared.declarations.Function.{Function}
 use Rattle.sp_typed_units.specs.declared.declarations.Typed.{Typed}
-use Rattle.sp_running.specs.States.{Reading, State, Fine, Failed, Returned, Stopped, Backs, Rejected, Need, Result, Ends, ends, behind, done, fails, one_more, turn, deeper}
-use Rattle.sp_running.specs.Scopes.{Called, InCall, ends_fiber, dropped_unless, outside, inside}
-use Rattle.sp_running.specs.Scopes as called_is
-use Rattle.sp_running.specs.Reads.{Ask, Read}
-use Rattle.sp_running.specs.Types.{zero_value, kind_of_type}
-use Rattle.sp_bodies.specs.Globals.{Globals, Layout, globals_of}
-use Rattle.sp_bodies.specs.Exprs.{known}
-use Rattle.sp_bodies.specs.Stmts.{stmt_means}
-use Rattle.sp_bodies.specs.Calls.{zero_slots, function_layout, body_means, with_locals, one_deeper, call_means}
+use Rattle.sp_meaning_states.specs.States.{Reading, State, Fine, Failed, Returned, Stopped, Backs, Rejected, Need, Result, Ends, ends, behind, done, fails, one_more, turn, deeper}
+use Rattle.sp_meaning_states.specs.Scopes.{Called, InCall, ends_fiber, dropped_unless, outside, inside}
+use Rattle.sp_meaning_states.specs.Scopes as called_is
+use Rattle.sp_meaning_states.specs.Reads.{Ask, Read}
+use Rattle.sp_meaning_states.specs.Types.{zero_value, kind_of_type}
+use Rattle.sp_meaning.specs.Globals.{Globals, globals_of}
+use Rattle.sp_code_meaning.specs.Layouts.{Layout}
+use Rattle.sp_meaning.specs.Operations.{known}
+use Rattle.sp_code_meaning.specs.Stmts.{stmt_means}
+use Rattle.sp_meaning.specs.Calls.{zero_slots}
+use Rattle.sp_code_meaning.specs.Calls.{function_layout, body_means, with_locals, one_deeper, call_means}
 use Rattle.sp_code.specs.declared.instr.Instr.TheVariants as does
 use Rattle.sp_code.specs.Machine.{Frame, Plain, Config, At, Next, Goes, counted, nested, raise, landed, call_next, step}
 use Rattle.sp_code.specs.Shapes.{Shape, push}

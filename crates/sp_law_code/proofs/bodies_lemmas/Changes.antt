@@ -17,15 +17,17 @@ use Rattle.sp_typed.specs.declared.stmt_words.BareOp.TheVariants as bare_is
 use Rattle.sp_typed.specs.declared.stmt_words.ValuedOp.{ValuedOp}
 use Rattle.sp_typed.specs.declared.stmt_words.ValuedOp.TheVariants as valued_is
 use Rattle.sp_typed.specs.Exprs.{Expr, Exprs, leaf, one, two, three, many, none, more}
-use Rattle.sp_running.specs.States.{Reading, State, Gives, Fine, Failed, Returned, Result, Ends, ends, got, chosen, truth_of, answer, set_local, put_member, error_with}
-use Rattle.sp_running.specs.Reads.{Ask, Read}
-use Rattle.sp_running.specs.Values.{with_at}
-use Rattle.sp_running.specs.Types.{zero_value, kind_of_type}
-use Rattle.sp_running.specs.Telling.{value_trees}
-use Rattle.sp_bodies.specs.Globals.{Globals, Layout}
-use Rattle.sp_bodies.specs.Exprs.{known, member_named, is_item, local_named, slot_local, keep_owner, owner_means, expr_means, all_got, place_means}
-use Rattle.sp_bodies.specs.Places.{put_means, key_means}
-use Rattle.sp_bodies.specs.Stmts.{fails_with, printed, bare_means, valued_means, assign_means}
+use Rattle.sp_meaning_states.specs.States.{Reading, State, Gives, Fine, Failed, Returned, Result, Ends, ends, got, chosen, truth_of, answer, set_local, put_member, error_with}
+use Rattle.sp_meaning_states.specs.Reads.{Ask, Read}
+use Rattle.sp_meaning_states.specs.Values.{with_at}
+use Rattle.sp_meaning_states.specs.Types.{zero_value, kind_of_type}
+use Rattle.sp_meaning_states.specs.Telling.{value_trees}
+use Rattle.sp_meaning.specs.Globals.{Globals}
+use Rattle.sp_code_meaning.specs.Layouts.{Layout}
+use Rattle.sp_meaning.specs.Operations.{known, member_named, is_item, local_named, keep_owner, owner_means, fails_with}
+use Rattle.sp_code_meaning.specs.Exprs.{slot_local, expr_means, all_got, place_means}
+use Rattle.sp_code_meaning.specs.Places.{put_means, key_means}
+use Rattle.sp_code_meaning.specs.Stmts.{printed, bare_means, valued_means, assign_means}
 use Rattle.sp_code.specs.declared.instr.Instr.{Instr}
 use Rattle.sp_code.specs.declared.instr.Instr.TheVariants as does
 use Rattle.sp_code.specs.Machine.{Frame, Plain, Config, At, Ending, Goes, raise_with, act, step}

@@ -8,13 +8,15 @@ use Rattle.sp_value.specs.Val.{Val, void}
 use Rattle.sp_methods.specs.Kinds.{Void}
 use Rattle.sp_typed_units.specs.declared.declarations.Hook.{Hook}
 use Rattle.sp_typed_units.specs.declared.declarations.Typed.{Typed}
-use Rattle.sp_running.specs.States.{Reading, State, End, Fine, Failed, Returned, Backs, Rejected, Unfinished, Result, Ends, ends, behind, done, fails, local_of, one_more, turn}
-use Rattle.sp_running.specs.Scopes.{Called, called_where, InCall, ends_fiber, dropped_unless, outside, inside}
-use Rattle.sp_running.specs.Scopes as called_is
-use Rattle.sp_running.specs.Reads.{Ask, Read}
-use Rattle.sp_bodies.specs.Globals.{Globals, globals_of}
-use Rattle.sp_bodies.specs.Exprs.{known}
-use Rattle.sp_bodies.specs.Calls.{zero_slots, hook_layout, is_foreach, told_count, body_means, with_locals, hook_event, hook_means, hooks_mean}
+use Rattle.sp_meaning_states.specs.States.{Reading, State, End, Fine, Failed, Returned, Backs, Rejected, Unfinished, Result, Ends, ends, behind, done, fails, local_of, one_more, turn}
+use Rattle.sp_meaning_states.specs.Scopes.{Called, called_where, InCall, ends_fiber, dropped_unless, outside, inside}
+use Rattle.sp_meaning_states.specs.Scopes as called_is
+use Rattle.sp_meaning_states.specs.Reads.{Ask, Read}
+use Rattle.sp_meaning.specs.Globals.{Globals, globals_of}
+use Rattle.sp_meaning.specs.Operations.{known}
+use Rattle.sp_meaning.specs.Calls.{zero_slots}
+use Rattle.sp_code_meaning.specs.Calls.{hook_layout, body_means, with_locals, hook_event, hook_means, hooks_mean}
+use Rattle.sp_meaning.specs.Hooks.{is_foreach, told_count}
 use Rattle.sp_code.specs.declared.instr.Instr.TheVariants as does
 use Rattle.sp_code.specs.Machine.{Frame, Plain, Config, At, Next, Goes, counted, raise, is_failing, hook_next, step}
 use Rattle.sp_code.specs.Shapes.{Shape, push}

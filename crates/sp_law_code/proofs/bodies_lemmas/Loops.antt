@@ -4,11 +4,12 @@ use Rattle.std.specs.Prelude.{slice_get}
 use Rattle.sp_numbers.specs.declared.width.Width.{Width}
 use Rattle.sp_numbers.specs.declared.width.Width.TheVariants.{W64}
 use Rattle.sp_value.specs.Val.{Val, uint}
-use Rattle.sp_running.specs.States.{Reading, State, Fine, Result, ends, done, round, chosen, truth_of, set_local, turn}
-use Rattle.sp_running.specs.Reads.{Ask, Read}
-use Rattle.sp_running.specs.Values.{members_of}
-use Rattle.sp_bodies.specs.Globals.{Globals, Layout}
-use Rattle.sp_bodies.specs.Stmts.{rounds, each}
+use Rattle.sp_meaning_states.specs.States.{Reading, State, Fine, Result, ends, done, round, chosen, truth_of, set_local, turn}
+use Rattle.sp_meaning_states.specs.Reads.{Ask, Read}
+use Rattle.sp_meaning_states.specs.Values.{members_of}
+use Rattle.sp_meaning.specs.Globals.{Globals}
+use Rattle.sp_code_meaning.specs.Layouts.{Layout}
+use Rattle.sp_code_meaning.specs.Stmts.{rounds, each}
 use Rattle.sp_code.specs.declared.instr.Instr.TheVariants as does
 use Rattle.sp_code.specs.Machine.{Frame, Plain, At, Goes, each_next}
 use Rattle.sp_code.specs.Shapes.{Shape}

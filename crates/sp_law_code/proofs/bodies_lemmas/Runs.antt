@@ -3,8 +3,8 @@ use Rattle.std.proofs.Common.{◌≡◌, ℕ, ◌+◌, Bool, true, false, List, 
 use Rattle.std.specs.Prelude.{nat_lt, slice_get, if◌then◌else◌}
 use Rattle.sp_base.specs.declared.kinds.PKind.TheVariants.{Turns}
 use Rattle.sp_value.specs.Val.{Val}
-use Rattle.sp_running.specs.States.{Reading, State, End, Gives, Fine, Failed, Broke, Continued, Returned, Need, Unfinished, Result, Ends, ends, behind, on_end, with_value, with_done, with_round, got, done, round, chosen, truth_of, error_at, local_of, set_local, one_more, turn, fails}
-use Rattle.sp_running.specs.Reads.{Ask, Read}
+use Rattle.sp_meaning_states.specs.States.{Reading, State, End, Gives, Fine, Failed, Broke, Continued, Returned, Need, Unfinished, Result, Ends, ends, behind, on_end, with_value, with_done, with_round, got, done, round, chosen, truth_of, error_at, local_of, set_local, one_more, turn, fails}
+use Rattle.sp_meaning_states.specs.Reads.{Ask, Read}
 use Rattle.sp_code.specs.declared.instr.Instr.{Instr}
 use Rattle.sp_code.specs.declared.instr.Instr.TheVariants as does
 use Rattle.sp_code.specs.Machine.{Frame, Plain, Config, At, Ending, Next, Goes, counted, raise, act, step}

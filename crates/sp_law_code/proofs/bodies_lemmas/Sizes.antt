@@ -4,16 +4,16 @@ use Rattle.sp_words.specs.declared.operators.AssignOp.{AssignOp}
 use Rattle.sp_words.specs.declared.operators.AssignOp.TheVariants as assign_is
 use Rattle.sp_words.specs.declared.operators.BinaryOp.{BinaryOp}
 use Rattle.sp_words.specs.declared.operators.BinaryOp.TheVariants as op_is
-use Rattle.sp_methods.specs.Kinds.{Kind}
+use Rattle.sp_methods.specs.Kinds.{Kind, Bools, Unsigned}
 use Rattle.sp_typed.specs.declared.stmt_words.BareOp.{BareOp}
 use Rattle.sp_typed.specs.declared.stmt_words.BareOp.TheVariants as bare_is
 use Rattle.sp_typed.specs.declared.stmt_words.ValuedOp.{ValuedOp}
 use Rattle.sp_typed.specs.declared.stmt_words.ValuedOp.TheVariants as valued_is
 use Rattle.sp_typed.specs.Exprs.{Expr, Exprs, leaf, one, two, three, many, none, more}
 use Rattle.sp_typed.specs.Stmts.{Stmt, Stmts, Branches, Cases, bare, valued, assign, print, block, branch, while_loop, for_loop, switch, no_stmts, more_stmts, no_branches, more_branches, no_cases, more_cases}
-use Rattle.sp_bodies.specs.Globals.{Globals, Layout}
-use Rattle.sp_bodies.specs.Exprs.{slot_local}
-use Rattle.sp_methods.specs.Kinds.{Bools, Unsigned}
+use Rattle.sp_meaning.specs.Globals.{Globals}
+use Rattle.sp_code_meaning.specs.Layouts.{Layout}
+use Rattle.sp_code_meaning.specs.Exprs.{slot_local}
 use Rattle.sp_code.specs.declared.instr.Instr.{Instr}
 use Rattle.sp_code.specs.declared.instr.Instr.TheVariants as does
 use Rattle.sp_code.specs.Shapes.{Shape, push}

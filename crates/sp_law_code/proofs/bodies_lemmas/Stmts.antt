@@ -12,13 +12,14 @@ use Rattle.sp_typed.specs.declared.stmt_words.BareOp.{BareOp}
 use Rattle.sp_typed.specs.declared.stmt_words.BareOp.TheVariants as bare_is
 use Rattle.sp_typed.specs.Exprs.{Expr, Exprs, none, more}
 use Rattle.sp_typed.specs.Stmts.{Stmt, Stmts, Branches, Cases, bare, valued, assign, print, block, branch, while_loop, for_loop, switch, no_stmts, more_stmts, no_branches, more_branches, no_cases, more_cases}
-use Rattle.sp_running.specs.States.{Reading, State, Fine, Returned, Result, ends, got, done, chosen, truth_of, answer, local_of, set_local}
-use Rattle.sp_running.specs.Reads.{Ask, Read}
-use Rattle.sp_running.specs.Types.{zero_value, kind_of_type}
-use Rattle.sp_running.specs.Values.{members_of}
-use Rattle.sp_bodies.specs.Globals.{Globals, Layout}
-use Rattle.sp_bodies.specs.Exprs.{slot_local, expr_means}
-use Rattle.sp_bodies.specs.Stmts.{bare_means, valued_means, assign_means, one_equals, each, stmt_means, stmts_mean, branches_mean, cases_mean}
+use Rattle.sp_meaning_states.specs.States.{Reading, State, Fine, Returned, Result, ends, got, done, chosen, truth_of, answer, local_of, set_local}
+use Rattle.sp_meaning_states.specs.Reads.{Ask, Read}
+use Rattle.sp_meaning_states.specs.Types.{zero_value, kind_of_type}
+use Rattle.sp_meaning_states.specs.Values.{members_of}
+use Rattle.sp_meaning.specs.Globals.{Globals}
+use Rattle.sp_code_meaning.specs.Layouts.{Layout}
+use Rattle.sp_code_meaning.specs.Exprs.{slot_local, expr_means}
+use Rattle.sp_code_meaning.specs.Stmts.{bare_means, valued_means, assign_means, one_equals, each, stmt_means, stmts_mean, branches_mean, cases_mean}
 use Rattle.sp_code.specs.declared.instr.Instr.TheVariants as does
 use Rattle.sp_code.specs.Machine.{Frame, Plain, Config, At, Goes, act, step}
 use Rattle.sp_code.specs.Shapes.{Shape, push}

@@ -7,11 +7,13 @@ use Rattle.sp_methods.specs.Methods.{method}
 use Rattle.sp_typed.specs.declared.words.ManyOp.{ManyOp}
 use Rattle.sp_typed.specs.declared.words.ManyOp.TheVariants as many_is
 use Rattle.sp_typed.specs.Exprs.{Expr, Exprs, leaf, one, two, three, many, none, more}
-use Rattle.sp_running.specs.States.{Reading, State, Unfinished, Result, ends, chosen}
-use Rattle.sp_running.specs.Reads.{Ask, Read}
-use Rattle.sp_running.specs.Types.{kind_of_type}
-use Rattle.sp_bodies.specs.Globals.{Globals, Layout}
-use Rattle.sp_bodies.specs.Exprs.{Changes, negative_literal, one_means, offset_local, is_self, is_item, local_named, slot_local, taken, gives_result, is_item_place, member_named, expr_means, all_got, receiver_means, place_means}
+use Rattle.sp_meaning_states.specs.States.{Reading, State, Unfinished, Result, ends, chosen}
+use Rattle.sp_meaning_states.specs.Reads.{Ask, Read}
+use Rattle.sp_meaning_states.specs.Types.{kind_of_type}
+use Rattle.sp_meaning.specs.Globals.{Globals}
+use Rattle.sp_code_meaning.specs.Layouts.{Layout}
+use Rattle.sp_meaning.specs.Operations.{Changes, negative_literal, one_means, is_self, is_item, local_named, taken, member_named}
+use Rattle.sp_code_meaning.specs.Exprs.{offset_local, slot_local, gives_result, is_item_place, expr_means, all_got, receiver_means, place_means}
 use Rattle.sp_code.specs.declared.instr.Instr.TheVariants as does
 use Rattle.sp_code.specs.Machine.{Plain}
 use Rattle.sp_code.specs.Shapes.{Shape, with_operands, push}

@@ -16,13 +16,15 @@ use Rattle.sp_typed.specs.declared.words.OneOp.{OneOp}
 use Rattle.sp_typed.specs.declared.words.OneOp.TheVariants as one_is
 use Rattle.sp_typed.specs.declared.words.TwoOp.{TwoOp}
 use Rattle.sp_typed.specs.declared.words.TwoOp.TheVariants as two_is
-use Rattle.sp_running.specs.States.{Reading, State, Gives, Result, ends, got, answer, local_of, parameter_of, member_of}
-use Rattle.sp_running.specs.Reads.{Ask, Read}
-use Rattle.sp_running.specs.Values.{item_at, size_value}
-use Rattle.sp_running.specs.Types.{number_value, plain_type, zero_value}
-use Rattle.sp_bodies.specs.Globals.{Globals, Layout, label_value}
-use Rattle.sp_bodies.specs.Exprs.{known, negative_literal, range_value, one_means, binary_means, two_means, leaf_means, expr_means, all_got}
-use Rattle.sp_bodies.specs.Exprs as bodies
+use Rattle.sp_meaning_states.specs.States.{Reading, State, Gives, Result, ends, got, answer, local_of, parameter_of, member_of}
+use Rattle.sp_meaning_states.specs.Reads.{Ask, Read}
+use Rattle.sp_meaning_states.specs.Values.{item_at, size_value}
+use Rattle.sp_meaning_states.specs.Types.{number_value, plain_type, zero_value}
+use Rattle.sp_meaning.specs.Globals.{Globals, label_value}
+use Rattle.sp_code_meaning.specs.Layouts.{Layout}
+use Rattle.sp_meaning.specs.Operations.{known, negative_literal, range_value, one_means, binary_means, two_means}
+use Rattle.sp_code_meaning.specs.Exprs.{leaf_means, expr_means, all_got}
+use Rattle.sp_meaning.specs.Operations as bodies
 use Rattle.sp_code.specs.declared.instr.Instr.{Instr}
 use Rattle.sp_code.specs.declared.instr.Instr.TheVariants as does
 use Rattle.sp_code.specs.Machine.{Frame, Plain, At, Goes, put, act, step}

@@ -19,8 +19,9 @@ use Rattle.sp_typed.specs.declared.words.TwoOp.TheVariants as two_is
 use Rattle.sp_typed.specs.declared.words.ManyOp.{ManyOp}
 use Rattle.sp_typed.specs.declared.words.ManyOp.TheVariants as many_is
 use Rattle.sp_typed.specs.declared.words.UnitMethod.TheVariants as unit_method
-use Rattle.sp_running.specs.Types.{number_value, plain_type, zero_value}
-use Rattle.sp_bodies.specs.Globals.{Globals, Layout, label_value}
+use Rattle.sp_meaning_states.specs.Types.{number_value, plain_type, zero_value}
+use Rattle.sp_meaning.specs.Globals.{Globals, label_value}
+use Rattle.sp_code_meaning.specs.Layouts.{Layout}
 use Rattle.sp_code.specs.declared.instr.Instr.{Instr}
 use Rattle.sp_code.specs.declared.instr.Instr.TheVariants as does
 use Rattle.sp_code.specs.Machine.{Plain}

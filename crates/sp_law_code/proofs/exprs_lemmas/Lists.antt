@@ -14,11 +14,13 @@ use Rattle.sp_methods.specs.Methods.{method}
 use Rattle.sp_typed.specs.declared.words.ManyOp.{ManyOp}
 use Rattle.sp_typed.specs.declared.words.ManyOp.TheVariants as many_is
 use Rattle.sp_typed.specs.declared.words.UnitMethod.TheVariants as unit_method
-use Rattle.sp_running.specs.States.{Reading, State, Gives, Result, ends, chosen, local_of, start_of}
-use Rattle.sp_running.specs.Reads.{Ask, Read}
-use Rattle.sp_running.specs.Values.{set_of, map_of}
-use Rattle.sp_bodies.specs.Globals.{Globals, Layout}
-use Rattle.sp_bodies.specs.Exprs.{given, converted, offset_from, many_means}
+use Rattle.sp_meaning_states.specs.States.{Reading, State, Gives, Result, ends, chosen, local_of, start_of}
+use Rattle.sp_meaning_states.specs.Reads.{Ask, Read}
+use Rattle.sp_meaning_states.specs.Values.{set_of, map_of}
+use Rattle.sp_meaning.specs.Globals.{Globals}
+use Rattle.sp_code_meaning.specs.Layouts.{Layout}
+use Rattle.sp_meaning.specs.Operations.{given, converted, offset_from}
+use Rattle.sp_code_meaning.specs.Exprs.{many_means}
 use Rattle.sp_code.specs.declared.instr.Instr.{Instr}
 use Rattle.sp_code.specs.declared.instr.Instr.TheVariants as does
 use Rattle.sp_code.specs.Machine.{Frame, Plain, At, Goes, put_all, act, step}

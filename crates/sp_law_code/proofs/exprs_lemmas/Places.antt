@@ -11,10 +11,11 @@ use Rattle.sp_value.specs.Changes.{with_last}
 use Rattle.sp_methods.specs.Kinds.{Kind}
 use Rattle.sp_methods.specs.Methods.{method, in_two}
 use Rattle.sp_methods.specs.Taken.{popped}
-use Rattle.sp_running.specs.States.{Reading, State, Gives, Fine, Result, ends, got, done, answer, local_of, set_local, member_of, value_or_unset, put_member}
-use Rattle.sp_running.specs.Reads.{Ask, Read}
-use Rattle.sp_running.specs.Values.{item_at, with_at}
-use Rattle.sp_bodies.specs.Exprs.{Changes, known, taken, gives_result, keep_owner, owner_means}
+use Rattle.sp_meaning_states.specs.States.{Reading, State, Gives, Fine, Result, ends, got, done, answer, local_of, set_local, member_of, value_or_unset, put_member}
+use Rattle.sp_meaning_states.specs.Reads.{Ask, Read}
+use Rattle.sp_meaning_states.specs.Values.{item_at, with_at}
+use Rattle.sp_meaning.specs.Operations.{Changes, known, taken, keep_owner, owner_means}
+use Rattle.sp_code_meaning.specs.Exprs.{gives_result}
 use Rattle.sp_code.specs.declared.instr.Instr.{Instr}
 use Rattle.sp_code.specs.declared.instr.Instr.TheVariants as does
 use Rattle.sp_code.specs.Machine.{Frame, Plain, At, Goes, put_all, under, act, step}

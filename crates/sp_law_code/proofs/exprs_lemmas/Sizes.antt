@@ -18,9 +18,11 @@ use Rattle.sp_typed.specs.declared.words.ManyOp.{ManyOp}
 use Rattle.sp_typed.specs.declared.words.ManyOp.TheVariants as many_is
 use Rattle.sp_typed.specs.declared.words.UnitMethod.TheVariants as unit_method
 use Rattle.sp_typed.specs.Exprs.{Expr, Exprs, leaf, one, two, three, many, none, more}
-use Rattle.sp_running.specs.Types.{kind_of_type}
-use Rattle.sp_bodies.specs.Globals.{Globals, Layout}
-use Rattle.sp_bodies.specs.Exprs.{negative_literal, offset_local, is_self, slot_local, slot_of_receiver, gives_result}
+use Rattle.sp_meaning_states.specs.Types.{kind_of_type}
+use Rattle.sp_meaning.specs.Globals.{Globals}
+use Rattle.sp_code_meaning.specs.Layouts.{Layout}
+use Rattle.sp_meaning.specs.Operations.{negative_literal, is_self, slot_of_receiver}
+use Rattle.sp_code_meaning.specs.Exprs.{offset_local, slot_local, gives_result}
 use Rattle.sp_code.specs.declared.instr.Instr.TheVariants as does
 use Rattle.sp_code.specs.Shapes.{Shape, push}
 use Rattle.sp_code_programs.specs.exprs.Marked.{Marked, mark, constant}

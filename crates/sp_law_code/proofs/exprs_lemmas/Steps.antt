@@ -4,8 +4,8 @@ use Rattle.std.specs.Prelude.{slice_get, unwrap_or, if◌then◌else◌}
 use Rattle.sp_base.specs.declared.kinds.PKind.{PKind}
 use Rattle.sp_events.specs.declared.event.What.{What}
 use Rattle.sp_value.specs.Val.{Val, void}
-use Rattle.sp_running.specs.States.{Reading, State, End, Gives, Fine, Need, Unfinished, Result, Ends, ends, behind, on_end, with_value, with_done, got, done, chosen, truth_of, answer, value_or_unset}
-use Rattle.sp_running.specs.Reads.{Ask, Read}
+use Rattle.sp_meaning_states.specs.States.{Reading, State, End, Gives, Fine, Need, Unfinished, Result, Ends, ends, behind, on_end, with_value, with_done, got, done, chosen, truth_of, answer, value_or_unset}
+use Rattle.sp_meaning_states.specs.Reads.{Ask, Read}
 use Rattle.sp_code.specs.declared.instr.Instr.{Instr}
 use Rattle.sp_code.specs.declared.instr.Instr.TheVariants as does
 use Rattle.sp_code.specs.Machine.{Frame, Plain, Config, At, Goes, put, push_set, act, step}

@@ -1,8 +1,8 @@
 -- No height of a statement is further above its base than the statement has instructions.
 use Rattle.std.proofs.Common.{ℕ, zero, suc, ◌+◌, ◌≤◌, List, [], ◌∷◌, ◌++◌, arith}
 use Rattle.sp_typed.specs.Stmts.{Stmt, Stmts, Branches, Cases, bare, valued, assign, print, block, branch, while_loop, for_loop, switch, no_stmts, more_stmts, no_branches, more_branches, no_cases, more_cases}
-use Rattle.sp_bodies.specs.Globals.{Layout}
-use Rattle.sp_bodies.specs.Exprs.{slot_local}
+use Rattle.sp_code_meaning.specs.Layouts.{Layout}
+use Rattle.sp_code_meaning.specs.Exprs.{slot_local}
 use Rattle.sp_code_programs.specs.exprs.Sizes.{expr_size, exprs_size}
 use Rattle.sp_code_programs.specs.units.Sizes.{bare_size, valued_size, assign_size, values_size, stmt_size, stmts_size, branches_size, cases_size}
 use Rattle.sp_law_code.specs.turns.Falling.{AreAtMost}

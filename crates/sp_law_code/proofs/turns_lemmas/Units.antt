@@ -10,9 +10,10 @@ use Rattle.sp_typed_units.specs.declared.declarations.Typed.{Typed}
 use Rattle.sp_typed_units.specs.declared.declarations.Unit.{Unit as TypedUnit}
 use Rattle.sp_typed_units.specs.declared.declarations.Variable.{Variable}
 use Rattle.sp_typed_units.specs.Parts.{Part, Parts, field, no_parts, more_parts, parts}
-use Rattle.sp_bodies.specs.Globals.{globals_of}
-use Rattle.sp_bodies.specs.Calls.{hook_bodies}
-use Rattle.sp_bodies.specs.Units.{IntegerForm, integer_field, last_order, module_order, offset_slot, value_slot, unit_layout, is_of_unit}
+use Rattle.sp_meaning.specs.Globals.{globals_of}
+use Rattle.sp_meaning.specs.Hooks.{hook_bodies, is_of_unit}
+use Rattle.sp_meaning.specs.Integers.{IntegerForm, integer_field, last_order, module_order}
+use Rattle.sp_code_meaning.specs.Units.{offset_slot, value_slot, unit_layout}
 use Rattle.sp_code.specs.declared.instr.Instr.TheVariants as does
 use Rattle.sp_code.specs.Shapes.{Shape, OfUnit, OfEnding, OfFailing, push, read_kind}
 use Rattle.sp_code_programs.specs.exprs.Marked.{Marked, mark}

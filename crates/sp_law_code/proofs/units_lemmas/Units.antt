@@ -8,12 +8,13 @@ use Rattle.sp_value.specs.Val.{Val}
 use Rattle.sp_typed_units.specs.declared.declarations.Typed.{Typed}
 use Rattle.sp_typed_units.specs.declared.declarations.Unit.{Unit as TypedUnit}
 use Rattle.sp_typed_units.specs.Parts.{parts}
-use Rattle.sp_running.specs.States as running
-use Rattle.sp_running.specs.States.{Reading, State, End, Gives, Fine, Failed, Broke, Continued, Returned, Stopped, Backs, Rejected, Need, Unfinished, Result, Ends, ends, on_end, done, chosen, fails, one_more, turn, deeper}
-use Rattle.sp_running.specs.Scopes.{InUnit, InFailing, ends_fiber, inside}
-use Rattle.sp_running.specs.Reads.{Ask, Read}
-use Rattle.sp_bodies.specs.Exprs.{known}
-use Rattle.sp_bodies.specs.Units.{is_plain, variables_begin, variables_mean, parts_mean, unit_hook_means, unit_order, unit_parts_mean, failing_means, parts_left, unit_begun, entered_means}
+use Rattle.sp_meaning_states.specs.States as running
+use Rattle.sp_meaning_states.specs.States.{Reading, State, End, Gives, Fine, Failed, Broke, Continued, Returned, Stopped, Backs, Rejected, Need, Unfinished, Result, Ends, ends, on_end, done, chosen, fails, one_more, turn, deeper}
+use Rattle.sp_meaning_states.specs.Scopes.{InUnit, InFailing, ends_fiber, inside}
+use Rattle.sp_meaning_states.specs.Reads.{Ask, Read}
+use Rattle.sp_meaning.specs.Operations.{known}
+use Rattle.sp_meaning.specs.Units.{is_plain}
+use Rattle.sp_code_meaning.specs.Units.{variables_begin, variables_mean, parts_mean, unit_hook_means, unit_order, unit_parts_mean, failing_means, parts_left, unit_begun, entered_means}
 use Rattle.sp_code.specs.declared.instr.Instr.TheVariants as does
 use Rattle.sp_code.specs.Machine.{UnitCode, Frame, Plain, Config, At, Ending, Next, Goes, counted, nested, raise, landed, caught_unless, unless_caught, parts_frame, entered, unit_next, step}
 use Rattle.sp_code.specs.Shapes.{OfUnit, OfEnding, OfFailing}

@@ -1,8 +1,8 @@
 -- Code that stands in given frames, put together. What the bodies of a hook do hangs on the innermost frame.
 use Rattle.std.proofs.Common.{◌≡◌, ℕ, ◌+◌, List, [], ◌∷◌, ◌++◌, length, Some, ◌∙◌, arith, length-append}
 use Rattle.sp_value.specs.Val.{Val}
-use Rattle.sp_running.specs.States.{Reading, State, Result, got, done}
-use Rattle.sp_running.specs.Reads.{Ask, Read}
+use Rattle.sp_meaning_states.specs.States.{Reading, State, Result, got, done}
+use Rattle.sp_meaning_states.specs.Reads.{Ask, Read}
 use Rattle.sp_code.specs.declared.instr.Instr.{Instr}
 use Rattle.sp_code.specs.Machine.{Plain, At, Goes, act}
 use Rattle.sp_code.specs.Shapes.{Shape}

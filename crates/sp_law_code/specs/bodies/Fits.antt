@@ -10,9 +10,10 @@ use Rattle.sp_typed.specs.declared.stmt_words.ValuedOp.{ValuedOp}
 use Rattle.sp_typed.specs.declared.stmt_words.ValuedOp.TheVariants as valued_is
 use Rattle.sp_typed.specs.Exprs.{Expr, Exprs, two, none, more}
 use Rattle.sp_typed.specs.Stmts.{Stmt, Stmts, Branches, Cases, bare, valued, assign, print, block, branch, while_loop, for_loop, switch, no_stmts, more_stmts, no_branches, more_branches, no_cases, more_cases}
-use Rattle.sp_running.specs.Types.{zero_value, kind_of_type}
-use Rattle.sp_bodies.specs.Globals.{Globals, Layout}
-use Rattle.sp_bodies.specs.Exprs.{slot_local}
+use Rattle.sp_meaning_states.specs.Types.{zero_value, kind_of_type}
+use Rattle.sp_meaning.specs.Globals.{Globals}
+use Rattle.sp_code_meaning.specs.Layouts.{Layout}
+use Rattle.sp_code_meaning.specs.Exprs.{slot_local}
 use Rattle.sp_code.specs.Kinds.{kind_of_two, IsGoneOver}
 use Rattle.sp_code.specs.Machine.{Plain}
 use Rattle.sp_code.specs.Shapes.{Round, Shapes, IsResult, IsKeyOf}

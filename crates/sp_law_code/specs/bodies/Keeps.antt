@@ -3,7 +3,8 @@ use Rattle.std.specs.Prelude.{◌≡◌, ℕ, ◌+◌, Bool, true, false, List, 
 use Rattle.sp_value.specs.Val.{Val}
 use Rattle.sp_methods.specs.Kinds.{Kind, Has}
 use Rattle.sp_typed.specs.Stmts.{Stmt}
-use Rattle.sp_bodies.specs.Globals.{Globals, Layout}
+use Rattle.sp_meaning.specs.Globals.{Globals}
+use Rattle.sp_code_meaning.specs.Layouts.{Layout}
 use Rattle.sp_code.specs.Machine.{Plain}
 use Rattle.sp_code.specs.Shapes.{Shape, Shapes, IsResult, Shown}
 use Rattle.sp_code_programs.specs.exprs.Marked.{Shows}

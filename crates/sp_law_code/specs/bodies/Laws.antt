@@ -4,11 +4,12 @@ use Rattle.sp_value.specs.Val.{Val}
 use Rattle.sp_typed.specs.Stmts.{Stmt}
 use Rattle.sp_typed_units.specs.declared.declarations.Hook.{Hook}
 use Rattle.sp_typed_units.specs.declared.declarations.Typed.{Typed}
-use Rattle.sp_running.specs.States.{Reading, State, Result, local_of}
-use Rattle.sp_running.specs.Reads.{Ask, Read}
-use Rattle.sp_bodies.specs.Globals.{Globals, Layout}
-use Rattle.sp_bodies.specs.Stmts.{stmt_means}
-use Rattle.sp_bodies.specs.Calls.{call_means, hooks_mean}
+use Rattle.sp_meaning_states.specs.States.{Reading, State, Result, local_of}
+use Rattle.sp_meaning_states.specs.Reads.{Ask, Read}
+use Rattle.sp_meaning.specs.Globals.{Globals}
+use Rattle.sp_code_meaning.specs.Layouts.{Layout}
+use Rattle.sp_code_meaning.specs.Stmts.{stmt_means}
+use Rattle.sp_code_meaning.specs.Calls.{call_means, hooks_mean}
 use Rattle.sp_code.specs.Machine.{Plain, At, is_failing}
 use Rattle.sp_code.specs.Shapes.{Shape}
 use Rattle.sp_code.specs.Runs.{Ways, leads, Runs}

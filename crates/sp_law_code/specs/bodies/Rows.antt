@@ -13,7 +13,7 @@ use Rattle.sp_typed_units.specs.declared.declarations.Function.{Function}
 use Rattle.sp_typed_units.specs.declared.declarations.Hook.{Hook}
 use Rattle.sp_typed_units.specs.declared.declarations.HookOf.TheVariants as hook_of
 use Rattle.sp_typed_units.specs.declared.declarations.Typed.{Typed}
-use Rattle.sp_bodies.specs.Globals.{Globals, globals_of}
+use Rattle.sp_meaning.specs.Globals.{Globals, globals_of}
 use Rattle.sp_code.specs.declared.instr.Instr.TheVariants as does
 use Rattle.sp_code.specs.Machine.{Plain}
 use Rattle.sp_code.specs.Shapes.{Shape, OfFunction, body_shape}

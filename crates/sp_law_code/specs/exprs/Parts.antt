@@ -19,10 +19,12 @@ use Rattle.sp_typed.specs.declared.words.ManyOp.{ManyOp}
 use Rattle.sp_typed.specs.declared.words.ManyOp.TheVariants as many_is
 use Rattle.sp_typed.specs.declared.words.UnitMethod.TheVariants as unit_method
 use Rattle.sp_typed.specs.Exprs.{Expr, Exprs, leaf, one, two, three, many, none, more}
-use Rattle.sp_running.specs.Scopes as called_is
-use Rattle.sp_running.specs.Types.{number_value, plain_type, zero_value, kind_of_type}
-use Rattle.sp_bodies.specs.Globals.{Globals, Layout, label_value}
-use Rattle.sp_bodies.specs.Exprs.{negative_literal, offset_local, is_self, slot_local, slot_of_receiver, gives_result}
+use Rattle.sp_meaning_states.specs.Scopes as called_is
+use Rattle.sp_meaning_states.specs.Types.{number_value, plain_type, zero_value, kind_of_type}
+use Rattle.sp_meaning.specs.Globals.{Globals, label_value}
+use Rattle.sp_code_meaning.specs.Layouts.{Layout}
+use Rattle.sp_meaning.specs.Operations.{negative_literal, is_self, slot_of_receiver}
+use Rattle.sp_code_meaning.specs.Exprs.{offset_local, slot_local, gives_result}
 use Rattle.sp_code.specs.Kinds.{kind_of_two, kind_of_one, kind_of_cast, IsSized, IsPlaceIn, IsItemOf, in_turn}
 use Rattle.sp_code.specs.Machine.{Body, Plain}
 use Rattle.sp_code.specs.Shapes.{UnitKinds, Shapes, OfFunction, IsMember, Enters}

@@ -17,7 +17,7 @@ use Rattle.sp_typed.specs.declared.words.ManyOp.{ManyOp}
 use Rattle.sp_typed.specs.declared.words.ManyOp.TheVariants as many_is
 use Rattle.sp_typed.specs.declared.words.Standing.TheVariants.{Meant}
 use Rattle.sp_typed.specs.Exprs.{Expr, leaf, one, two, three, many, exprs}
-use Rattle.sp_running.specs.Scopes.{Called}
+use Rattle.sp_meaning_states.specs.Scopes.{Called}
 use Rattle.sp_methods.specs.Kinds.{Bools, Unsigned, VectorOf}
 use Rattle.sp_methods.specs.Methods.{push_back_takes, pop_back_takes}
 use Rattle.sp_code.specs.Kinds.{of_place, of_tuple, in_vector}

@@ -9,10 +9,12 @@ use Rattle.sp_typed_units.specs.declared.declarations.Typed.{Typed}
 use Rattle.sp_typed_units.specs.declared.declarations.Unit.{Unit as TypedUnit}
 use Rattle.sp_typed_units.specs.declared.declarations.Variable.{Variable}
 use Rattle.sp_typed_units.specs.Parts.{Part, Parts, field, no_parts, more_parts, parts}
-use Rattle.sp_running.specs.Scopes as called_is
-use Rattle.sp_bodies.specs.Globals.{globals_of}
-use Rattle.sp_bodies.specs.Calls.{hook_bodies}
-use Rattle.sp_bodies.specs.Units.{IntegerForm, integer_field, last_order, module_order, unit_layout, is_of_unit, first_value}
+use Rattle.sp_meaning_states.specs.Scopes as called_is
+use Rattle.sp_meaning.specs.Globals.{globals_of}
+use Rattle.sp_meaning.specs.Hooks.{hook_bodies, is_of_unit}
+use Rattle.sp_meaning.specs.Integers.{IntegerForm, integer_field, last_order, module_order}
+use Rattle.sp_code_meaning.specs.Units.{unit_layout}
+use Rattle.sp_meaning.specs.Units.{first_value}
 use Rattle.sp_code.specs.Machine.{Plain}
 use Rattle.sp_code.specs.Shapes.{Shapes, OfHook, read_kind, IsMember, Enters}
 use Rattle.sp_code_programs.specs.exprs.Code.{kind_of}

@@ -3,9 +3,9 @@ use Rattle.std.specs.Prelude.{◌≡◌, ℕ, ◌+◌, List, ◌++◌, length, S
 use Rattle.sp_value.specs.Val.{Val}
 use Rattle.sp_typed_units.specs.declared.declarations.Typed.{Typed}
 use Rattle.sp_typed_units.specs.declared.declarations.Unit.{Unit as TypedUnit}
-use Rattle.sp_running.specs.States.{Reading, State}
-use Rattle.sp_running.specs.Reads.{Ask, Read}
-use Rattle.sp_bodies.specs.Units.{unit_means}
+use Rattle.sp_meaning_states.specs.States.{Reading, State}
+use Rattle.sp_meaning_states.specs.Reads.{Ask, Read}
+use Rattle.sp_code_meaning.specs.Units.{unit_means}
 use Rattle.sp_code.specs.declared.instr.Instr.TheVariants as does
 use Rattle.sp_code.specs.Machine.{Plain, At}
 use Rattle.sp_code.specs.Runs.{Ways, leads, Runs}

@@ -8,8 +8,7 @@ use Rattle.sp_typed_units.specs.declared.declarations.Typed.{Typed}
 use Rattle.sp_typed_units.specs.declared.declarations.Unit.{Unit as TypedUnit}
 use Rattle.sp_typed_units.specs.declared.declarations.Variable.{Variable}
 use Rattle.sp_typed_units.specs.Parts.{Part, Parts, field, no_parts, more_parts, parts}
-use Rattle.sp_bodies.specs.Calls.{hook_bodies}
-use Rattle.sp_bodies.specs.Units.{is_of_unit}
+use Rattle.sp_meaning.specs.Hooks.{hook_bodies, is_of_unit}
 use Rattle.sp_code.specs.Machine.{Plain}
 use Rattle.sp_law_code.specs.exprs.Parts.{AreCounted}
 use Rattle.sp_law_code.specs.bodies.Laws.{AllTake}

@@ -18,7 +18,7 @@ use Rattle.sp_typed_units.specs.declared.declarations.Unit.{Unit as TypedUnit}
 use Rattle.sp_typed_units.specs.declared.readings.ReadOp.TheVariants as read_is
 use Rattle.sp_typed_units.specs.Specs.{read}
 use Rattle.sp_typed_units.specs.Parts.{field}
-use Rattle.sp_bodies.specs.Globals.{globals_of}
+use Rattle.sp_meaning.specs.Globals.{globals_of}
 use Rattle.sp_code.specs.declared.instr.IntForm.{IntForm}
 use Rattle.sp_code.specs.declared.instr.Instr.{Instr}
 use Rattle.sp_code.specs.declared.instr.Instr.TheVariants as does

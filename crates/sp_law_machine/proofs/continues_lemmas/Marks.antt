@@ -4,9 +4,9 @@ use Rattle.std.proofs.lemmas.Bool.{or_right, true≢false}
 use Rattle.std.specs.Prelude.{slice_get, nat_le, nat_lt, min, if◌then◌else◌}
 use Rattle.sp_base.specs.Input.{Close}
 use Rattle.sp_value.specs.Val.{Val}
-use Rattle.sp_running.specs.States.{Source, Main, Given, View, Reading, State}
-use Rattle.sp_running.specs.Scopes.{Scope, InUnit, InParts, InFailing, InCall, InSize, InMax, InFrom, InAt, InTry, needs}
-use Rattle.sp_running.specs.Reads.{Ask, Bytes, Mark, Rest, Word, Data, Reach, Read, Got, Lacks, Verdict, Grows, Match, NoToken, is_over, place_in, Seen, lacking, cut_at, told_by, read_in, seen_from, reads, least_with}
+use Rattle.sp_meaning_states.specs.States.{Source, Main, Given, View, Reading, State}
+use Rattle.sp_meaning_states.specs.Scopes.{Scope, InUnit, InParts, InFailing, InCall, InSize, InMax, InFrom, InAt, InTry, needs}
+use Rattle.sp_meaning_states.specs.Reads.{Ask, Bytes, Mark, Rest, Word, Data, Reach, Read, Got, Lacks, Verdict, Grows, Match, NoToken, is_over, place_in, Seen, lacking, cut_at, told_by, read_in, seen_from, reads, least_with}
 use Rattle.sp_code.specs.Machine.{Frame, Plain, At, Ending, step, low_of}
 use Rattle.sp_code.specs.Runs.{here, next}
 use Rattle.sp_law_machine.specs.continues.Windows.{PlaceFrom, MoveFrom, IsLayered, ScopesFrom, scopes_of, From, PlacesStay, WindowsRun, MarksServe}

@@ -8,13 +8,13 @@ use Rattle.sp_value.specs.Parts.{text_in}
 use Rattle.sp_operators.specs.Operators.{unary, binary, cast}
 use Rattle.sp_methods.specs.Methods.{method}
 use Rattle.sp_words.specs.Methods.{arity}
-use Rattle.sp_running.specs.States.{Error, Source, Main, Given, Reading, State, End, Gives, Fine, Failed, Backs, Result, Ends, truth_of, member_of, put_member}
-use Rattle.sp_running.specs.Scopes.{Scope, InUnit, InParts, InFailing, InCall, InSize, InMax, InFrom, InAt, InTry, Function, popped, put_place, unset_member, ends_fiber, leave, needs}
-use Rattle.sp_running.specs.Scopes as called_is
-use Rattle.sp_running.specs.Reads.{Ask, Bytes, Read, Got, Lacks, Shorts, NoWord, least_with}
-use Rattle.sp_running.specs.Values.{item_at, with_at, members_of}
-use Rattle.sp_running.specs.Types.{width_bytes}
-use Rattle.sp_running.specs.Telling.{Names}
+use Rattle.sp_meaning_states.specs.States.{Error, Source, Main, Given, Reading, State, End, Gives, Fine, Failed, Backs, Result, Ends, truth_of, member_of, put_member}
+use Rattle.sp_meaning_states.specs.Scopes.{Scope, InUnit, InParts, InFailing, InCall, InSize, InMax, InFrom, InAt, InTry, Function, popped, put_place, unset_member, ends_fiber, leave, needs}
+use Rattle.sp_meaning_states.specs.Scopes as called_is
+use Rattle.sp_meaning_states.specs.Reads.{Ask, Bytes, Read, Got, Lacks, Shorts, NoWord, least_with}
+use Rattle.sp_meaning_states.specs.Values.{item_at, with_at, members_of}
+use Rattle.sp_meaning_states.specs.Types.{width_bytes}
+use Rattle.sp_meaning_states.specs.Telling.{Names}
 use Rattle.sp_code.specs.declared.instr.Instr.{Instr}
 use Rattle.sp_code.specs.declared.instr.Instr.TheVariants as does
 use Rattle.sp_code.specs.Machine.{Body, UnitCode, Frame, Plain, Config, Ending, Next, Goes, Waits, Over, put, put_all, raise_with, push_set, landed, caught_unless, caught, unless_caught, read_next, each_next, call_next, hook_next, unit_next, act, step}

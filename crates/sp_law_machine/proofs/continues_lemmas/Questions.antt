@@ -5,7 +5,7 @@ use Rattle.std.proofs.lemmas.List.{take-append-le}
 use Rattle.std.specs.Prelude.{nat_le, nat_lt, min, ◌==◌, ◌&&◌, if◌then◌else◌}
 use Rattle.sp_base.specs.Input.{held_open}
 use Rattle.sp_operators.specs.Parts.{begins_with}
-use Rattle.sp_running.specs.Reads.{Ask, Bytes, Mark, Rest, Word, Data, Reach, Got, Lacks, Verdict, Grows, Match, NoToken, plus_one, place_in, Seen, lacking, cut_at, told_by, read_in, seen_from}
+use Rattle.sp_meaning_states.specs.Reads.{Ask, Bytes, Mark, Rest, Word, Data, Reach, Got, Lacks, Verdict, Grows, Match, NoToken, plus_one, place_in, Seen, lacking, cut_at, told_by, read_in, seen_from}
 use Rattle.sp_law_machine.specs.continues.Laws.{IsSteady, IsLack, ReadsContinue}
 use Rattle.sp_law_machine.proofs.continues_lemmas.Views.{Continues, Same, Longer, seen_continues}
 

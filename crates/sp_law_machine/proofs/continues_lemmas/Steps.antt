@@ -4,9 +4,9 @@ use Rattle.std.specs.Prelude.{slice_get}
 use Rattle.sp_base.specs.Input.{held_open}
 use Rattle.sp_events.specs.declared.event.What.{What}
 use Rattle.sp_value.specs.Val.{Val}
-use Rattle.sp_running.specs.States.{Reading, State}
-use Rattle.sp_running.specs.Reads.{Ask, Bytes, Read, Got, Lacks, Shorts, NoWord, reads}
-use Rattle.sp_running.specs.Types.{width_bytes}
+use Rattle.sp_meaning_states.specs.States.{Reading, State}
+use Rattle.sp_meaning_states.specs.Reads.{Ask, Bytes, Read, Got, Lacks, Shorts, NoWord, reads}
+use Rattle.sp_meaning_states.specs.Types.{width_bytes}
 use Rattle.sp_code.specs.declared.instr.Instr.{Instr}
 use Rattle.sp_code.specs.declared.instr.Instr.TheVariants.{ReadInt}
 use Rattle.sp_code.specs.Machine.{Frame, Plain, Config, At, Ending, Next, Goes, Waits, Over, read_next, act, step}

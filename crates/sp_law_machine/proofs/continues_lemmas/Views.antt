@@ -5,8 +5,8 @@ use Rattle.std.proofs.lemmas.List.{take_all, take-append-le, drop-append-le}
 use Rattle.std.proofs.Math.Seq.{take-append-add}
 use Rattle.std.specs.Prelude.{◌||◌, nat_le, min}
 use Rattle.sp_base.specs.Input.{Close, held_open}
-use Rattle.sp_running.specs.States.{Source, Main, Given, View}
-use Rattle.sp_running.specs.Reads.{is_ended, data_end, is_over, overs_of, Seen, seen_in, seen_from}
+use Rattle.sp_meaning_states.specs.States.{Source, Main, Given, View}
+use Rattle.sp_meaning_states.specs.Reads.{is_ended, data_end, is_over, overs_of, Seen, seen_in, seen_from}
 
 -- a view ends no earlier where there are more bytes, and at the same place where there were enough
 rises : (vs : List View) (len more : ℕ) → len ≤ more → data_end len vs ≤ data_end more vs

@@ -6,9 +6,9 @@ use Rattle.sp_base.specs.Input.{Close}
 use Rattle.sp_value.specs.Val.{Val}
 use Rattle.sp_value.specs.Integers.{integer_of}
 use Rattle.sp_base.specs.declared.kinds.PKind.TheVariants.{NoMatch}
-use Rattle.sp_running.specs.States.{Source, Main, Given, View, Reading, State, go}
-use Rattle.sp_running.specs.Reads.{Ask, Bytes, Read, is_ended, data_end, is_over, overs_of, Seen, read_in, seen_in, seen_from, reads}
-use Rattle.sp_running.specs.Types.{width_bytes}
+use Rattle.sp_meaning_states.specs.States.{Source, Main, Given, View, Reading, State, go}
+use Rattle.sp_meaning_states.specs.Reads.{Ask, Bytes, Read, is_ended, data_end, is_over, overs_of, Seen, read_in, seen_in, seen_from, reads}
+use Rattle.sp_meaning_states.specs.Types.{width_bytes}
 use Rattle.sp_code.specs.declared.instr.Instr.{Instr}
 use Rattle.sp_code.specs.declared.instr.Instr.TheVariants.{ReadInt}
 use Rattle.sp_code.specs.Machine.{Frame, Plain, At, Ending, Goes, raise, read_next, act}

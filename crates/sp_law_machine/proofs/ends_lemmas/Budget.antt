@@ -6,11 +6,11 @@ use Rattle.std.proofs.Math.Nat.{mul-le-mul_left}
 use Rattle.sp_base.specs.Input.{Close}
 use Rattle.sp_numbers.specs.declared.width.Width.{Width}
 use Rattle.sp_numbers.specs.declared.width.Width.TheVariants.{W8, W16, W32, W64}
-use Rattle.sp_running.specs.States.{Source, Main, Given, View, Reading, State, End, Gives, Fine, Backs, Result, Ends, going}
-use Rattle.sp_running.specs.Scopes.{Scope, InUnit, InCall, InSize, InMax, InFrom, InAt, InTry, popped, leave, unset_member}
-use Rattle.sp_running.specs.Scopes as called_is
-use Rattle.sp_running.specs.Reads.{Bytes, Read, Got, Verdict, Seen, lacking, seen_from, reads}
-use Rattle.sp_running.specs.Types.{width_bytes}
+use Rattle.sp_meaning_states.specs.States.{Source, Main, Given, View, Reading, State, End, Gives, Fine, Backs, Result, Ends, going}
+use Rattle.sp_meaning_states.specs.Scopes.{Scope, InUnit, InCall, InSize, InMax, InFrom, InAt, InTry, popped, leave, unset_member}
+use Rattle.sp_meaning_states.specs.Scopes as called_is
+use Rattle.sp_meaning_states.specs.Reads.{Bytes, Read, Got, Verdict, Seen, lacking, seen_from, reads}
+use Rattle.sp_meaning_states.specs.Types.{width_bytes}
 use Rattle.sp_law_machine.specs.ends.Ending.{data_of, turns_left, all_turns_left, budget}
 
 -- what is read ends within the data

@@ -2,7 +2,7 @@
 use Rattle.std.proofs.Common.{◌≡◌, ℕ, zero, suc, ◌<◌, Bool, List, refl, sym, subst, arith}
 use Rattle.sp_base.specs.Input.{Close}
 use Rattle.sp_events.specs.declared.event.What.{What}
-use Rattle.sp_running.specs.Reads.{Verdict, reads}
+use Rattle.sp_meaning_states.specs.Reads.{Verdict, reads}
 use Rattle.sp_code.specs.Machine.{Plain, Config, Next, Goes, Waits, Over, step}
 use Rattle.sp_code.specs.Runs.{Comes, here, next}
 use Rattle.sp_code.specs.Turns.{Turns}

@@ -12,11 +12,11 @@ use Rattle.sp_value.specs.Integers.{integer_of}
 use Rattle.sp_value.specs.Parts.{text_in}
 use Rattle.sp_operators.specs.Operators.{unary, binary, cast}
 use Rattle.sp_methods.specs.Methods.{method}
-use Rattle.sp_running.specs.States.{Error, State, End, Gives, Fine, Failed, Result, Ends, one_more, go, truth_of, member_of, put_member}
-use Rattle.sp_running.specs.Scopes.{Scope, InParts, ends_fiber, leave}
-use Rattle.sp_running.specs.Reads.{Bytes, Read, Got, Lacks, Shorts, NoWord, Verdict, reads}
-use Rattle.sp_running.specs.Values.{item_at, with_at, members_of}
-use Rattle.sp_running.specs.Types.{width_bytes}
+use Rattle.sp_meaning_states.specs.States.{Error, State, End, Gives, Fine, Failed, Result, Ends, one_more, go, truth_of, member_of, put_member}
+use Rattle.sp_meaning_states.specs.Scopes.{Scope, InParts, ends_fiber, leave}
+use Rattle.sp_meaning_states.specs.Reads.{Bytes, Read, Got, Lacks, Shorts, NoWord, Verdict, reads}
+use Rattle.sp_meaning_states.specs.Values.{item_at, with_at, members_of}
+use Rattle.sp_meaning_states.specs.Types.{width_bytes}
 use Rattle.sp_code.specs.declared.instr.Instr.{Instr}
 use Rattle.sp_code.specs.declared.instr.Instr.TheVariants.{Const, Load, Store, Param, SelfUnit, GetField, HasField, SetField, Unary, Binary, Cast, MakeTuple, MakeVector, MakeSet, MakeMap, Index, SetIndex, Size, Lib, AddKey, DeleteKey, Pop, Dup, Under, Jump, JumpNot, Call, Return, Turn, EachStart, EachNext, Print, Assert, Throw, Fail, EnterUnit, LeaveUnit, Hook, Offset, ReadInt}
 use Rattle.sp_code.specs.Machine.{Body, UnitCode, Plain, Frame, Config, At, Ending, Next, Goes, Waits, Over, put, put_all, raise_with, raise, push_set, landed, caught_unless, caught, unless_caught, take_off, read_next, each_next, call_next, hook_next, unit_next, act, step}

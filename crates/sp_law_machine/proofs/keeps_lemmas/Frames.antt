@@ -3,8 +3,8 @@ use Rattle.std.proofs.Common.{◌≡◌, ℕ, zero, suc, List, [], ◌∷◌, Op
 use Rattle.std.specs.Prelude.{slice_get, slice_set, unwrap_or, Bool, true, false, if◌then◌else◌}
 use Rattle.sp_value.specs.Val.{Val, bool, unit}
 use Rattle.sp_methods.specs.Kinds.{Kind, Bools, UnitOf, somewhere, Has, Have}
-use Rattle.sp_running.specs.States.{Reading, Instance, State, End, Fine, Failed, Returned, Stopped, Backs, Rejected, Error, ends, no_instance, instance_of, with_member, set_member}
-use Rattle.sp_running.specs.Scopes.{Called, Function, Hook, FailingHook, Scope, InUnit, InParts, InFailing, InCall, ends_fiber, dropped_unless, InSize, InMax, InFrom, InAt, InTry, popped, leave_from, without_member, unset_member, leave}
+use Rattle.sp_meaning_states.specs.States.{Reading, Instance, State, End, Fine, Failed, Returned, Stopped, Backs, Rejected, Error, ends, no_instance, instance_of, with_member, set_member}
+use Rattle.sp_meaning_states.specs.Scopes.{Called, Function, Hook, FailingHook, Scope, InUnit, InParts, InFailing, InCall, ends_fiber, dropped_unless, InSize, InMax, InFrom, InAt, InTry, popped, leave_from, without_member, unset_member, leave}
 use Rattle.sp_code.specs.Machine.{Plain, Frame, Config, Next, Goes, landed, caught_unless, caught, failing_frame, unless_caught, take_off}
 use Rattle.sp_code.specs.Shapes.{UnitKinds, Shape, Shapes, Opens, AView, ATry, Round, OfUnit, OfEnding, OfFailing, OfFunction, OfHook, body_shape, given_by, IsView, IsTry, IsSelf, IsKnownAs, IsCalled, IsRound, known_unit, MayEnd, Shown, Framed, HasKinds, AllHaveKinds, Holds, ShapedAt, ShapedEnd, Shaped, units_of}
 use Rattle.sp_law_machine.specs.keeps.Laws.{ShapedOver, IsKept}

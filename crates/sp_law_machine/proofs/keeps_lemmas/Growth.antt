@@ -4,8 +4,8 @@ use Rattle.std.specs.Prelude.{slice_get}
 use Rattle.std.specs.List.{AllByRecursion}
 use Rattle.sp_value.specs.Val.{Val}
 use Rattle.sp_methods.specs.Kinds.{Kind, Kinds, Void, Bools, Unsigned, Signed, Bytes, Text, Iterator, Only, EnumOf, UnitOf, BitsOf, TupleOf, VectorOf, SetOf, MapOf, no_kinds, kind_and, IsUnit, nowhere, somewhere, Has, HasEach, Have}
-use Rattle.sp_running.specs.States.{Instance}
-use Rattle.sp_running.specs.Scopes.{Scope, InUnit, InParts, InFailing, InCall, InSize, InMax, InFrom, InAt, InTry}
+use Rattle.sp_meaning_states.specs.States.{Instance}
+use Rattle.sp_meaning_states.specs.Scopes.{Scope, InUnit, InParts, InFailing, InCall, InSize, InMax, InFrom, InAt, InTry}
 use Rattle.sp_code.specs.Machine.{Plain, Frame}
 use Rattle.sp_code.specs.Shapes.{Shape, Shapes, Opens, AView, ATry, Round, HasIfSet, HaveIfSet, IsSelf, IsKnownAs, IsRound, Framed, AllHaveKinds}
 

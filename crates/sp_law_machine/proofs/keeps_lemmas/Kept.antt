@@ -13,12 +13,12 @@ use Rattle.sp_methods.specs.Kinds.{Kind, Bools, Unsigned, Text, UnitOf, TupleOf,
 use Rattle.sp_methods.specs.Methods.{method}
 use Rattle.sp_methods.specs.Kept.{Gives as GivesKinds}
 use Rattle.sp_methods.proofs.KindsKept.{methods_keep}
-use Rattle.sp_running.specs.States.{Reading, Instance, State, End, Returned, Fine, truth_of, local_of, set_local, instance_of, parameter_of, member_of, set_member, flat, one_more, go}
-use Rattle.sp_running.specs.Scopes.{Called, Function, called_where, InUnit, InParts, InCall}
-use Rattle.sp_running.specs.Scopes as called_is
-use Rattle.sp_running.specs.Reads.{Ask, Bytes, Read, Got, Lacks, Shorts, NoWord}
-use Rattle.sp_running.specs.Types.{width_bytes}
-use Rattle.sp_running.specs.Values.{item_at, with_at, members_of}
+use Rattle.sp_meaning_states.specs.States.{Reading, Instance, State, End, Returned, Fine, truth_of, local_of, set_local, instance_of, parameter_of, member_of, set_member, flat, one_more, go}
+use Rattle.sp_meaning_states.specs.Scopes.{Called, Function, called_where, InUnit, InParts, InCall}
+use Rattle.sp_meaning_states.specs.Scopes as called_is
+use Rattle.sp_meaning_states.specs.Reads.{Ask, Bytes, Read, Got, Lacks, Shorts, NoWord}
+use Rattle.sp_meaning_states.specs.Types.{width_bytes}
+use Rattle.sp_meaning_states.specs.Values.{item_at, with_at, members_of}
 use Rattle.sp_code.specs.declared.instr.Instr.{Instr}
 use Rattle.sp_code.specs.declared.instr.Instr.TheVariants.{Const, Load, Store, Param, SelfUnit, GetField, HasField, SetField, Unary, Binary, Cast, MakeTuple, MakeVector, MakeSet, MakeMap, Index, SetIndex, Size, Lib, AddKey, DeleteKey, Pop, Dup, Under, Jump, JumpNot, Call, Return, Turn, EachStart, EachNext, Print, Assert, Throw, Fail, EnterUnit, LeaveUnit, Hook, Offset, ReadInt}
 use Rattle.sp_code.specs.Kinds.{in_turn, IsMessage}

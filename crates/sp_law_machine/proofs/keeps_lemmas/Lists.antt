@@ -5,7 +5,7 @@ use Rattle.std.specs.List.{AllByRecursion}
 use Rattle.std.proofs.lemmas.List.{reverse-append}
 use Rattle.sp_value.specs.Val.{Val, void}
 use Rattle.sp_methods.specs.Kinds.{Kind, kinds_of, Has, HasEach, Have}
-use Rattle.sp_running.specs.States.{Instance, flat}
+use Rattle.sp_meaning_states.specs.States.{Instance, flat}
 use Rattle.sp_code.specs.Machine.{Plain}
 use Rattle.sp_code.specs.Shapes.{Shapes, HasIfSet, HaveIfSet, HasKinds, AllHaveKinds, units_of}
 

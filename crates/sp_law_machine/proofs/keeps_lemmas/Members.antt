@@ -21,7 +21,7 @@ use Rattle.sp_value.proofs.Lists.{list_of_vals_of, pairs_of_entries_of}
 use Rattle.sp_operators.specs.Operators.{value_or_error}
 use Rattle.sp_methods.specs.Kinds.{Kind, Kinds, Unsigned, TupleOf, VectorOf, SetOf, MapOf, no_kinds, kind_and, kinds_of, Has, HasEach, Have}
 use Rattle.sp_methods.specs.Methods.{IsMethod, to_uint_takes, to_int_takes, to_uint_order_takes, to_int_order_takes, sub_takes, starts_with_takes, split_takes, split1_takes, lower_takes, upper_takes, decode_takes, encode_takes, push_back_takes, pop_back_takes, front_takes, back_takes, get_takes, get_or_takes}
-use Rattle.sp_running.specs.Values.{item_at, with_at, with_members, set_of, with_entries, map_of, byte_values, entry_values, members_of}
+use Rattle.sp_meaning_states.specs.Values.{item_at, with_at, with_members, set_of, with_entries, map_of, byte_values, entry_values, members_of}
 use Rattle.sp_code.specs.Kinds.{IsUnsigned, kind_in, IsPlaceIn, in_vector, in_map, IsItemOf, of_place, of_tuple, of_bits, IsGoneOver, over_vector, over_set, over_bytes, over_map, in_turn}
 use Rattle.sp_code.specs.Shapes.{IsKeyOf}
 use Rattle.sp_code.specs.Can.{IsItem, IsPlace, IsRow}

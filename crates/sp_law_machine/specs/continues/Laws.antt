@@ -2,8 +2,8 @@
 use Rattle.std.specs.Prelude.{◌≡◌, ◌≤◌, ℕ, Bool, false, List, ◌++◌, length}
 use Rattle.sp_base.specs.Input.{Close, held_open}
 use Rattle.sp_events.specs.declared.event.What.{What}
-use Rattle.sp_running.specs.States.{Reading}
-use Rattle.sp_running.specs.Reads.{Ask, Read, Lacks, Verdict, Grows, Match, reads}
+use Rattle.sp_meaning_states.specs.States.{Reading}
+use Rattle.sp_meaning_states.specs.Reads.{Ask, Read, Lacks, Verdict, Grows, Match, reads}
 use Rattle.sp_code.specs.Machine.{Plain, Config, Next, Waits, step}
 use Rattle.sp_code.specs.Runs.{Comes}
 

@@ -4,9 +4,9 @@ use Rattle.std.proofs.Common.{arith}
 use Rattle.sp_base.specs.Input.{held_open, ended}
 use Rattle.sp_numbers.specs.declared.width.Width.TheVariants.{W16}
 use Rattle.sp_value.specs.Val.{uint}
-use Rattle.sp_running.specs.States.{Main, Reading, State}
-use Rattle.sp_running.specs.Scopes.{InUnit}
-use Rattle.sp_running.specs.Reads.{Bytes, Word, Got, Lacks, Shorts, NoWord, Verdict, Grows, Match, NoToken, reads}
+use Rattle.sp_meaning_states.specs.States.{Main, Reading, State}
+use Rattle.sp_meaning_states.specs.Scopes.{InUnit}
+use Rattle.sp_meaning_states.specs.Reads.{Bytes, Word, Got, Lacks, Shorts, NoWord, Verdict, Grows, Match, NoToken, reads}
 use Rattle.sp_code.specs.declared.instr.Instr.TheVariants.{ReadInt}
 use Rattle.sp_code.specs.Machine.{Frame, Plain, Config, At, Goes, Waits, step, low_of}
 use Rattle.sp_law_machine.specs.continues.Laws.{IsSteady}

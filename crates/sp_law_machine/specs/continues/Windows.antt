@@ -3,9 +3,9 @@ use Rattle.std.specs.Prelude.{◌≡◌, ◌≤◌, ℕ, ◌+◌, ◌-◌, Bool,
 use Rattle.sp_base.specs.Input.{Close}
 use Rattle.sp_events.specs.declared.event.What.{What}
 use Rattle.sp_value.specs.Val.{Val}
-use Rattle.sp_running.specs.States.{Source, Main, Given, View, Reading, State}
-use Rattle.sp_running.specs.Scopes.{Scope, InUnit, InFrom, InAt, InTry}
-use Rattle.sp_running.specs.Reads.{Ask, Read, Verdict, is_ended, data_end, is_over, overs_of, Seen, read_in, seen_in, reads}
+use Rattle.sp_meaning_states.specs.States.{Source, Main, Given, View, Reading, State}
+use Rattle.sp_meaning_states.specs.Scopes.{Scope, InUnit, InFrom, InAt, InTry}
+use Rattle.sp_meaning_states.specs.Reads.{Ask, Read, Verdict, is_ended, data_end, is_over, overs_of, Seen, read_in, seen_in, reads}
 use Rattle.sp_code.specs.Machine.{Frame, Plain, Config, At, Ending, Goes, Waits, step, low_of}
 use Rattle.sp_code.specs.Runs.{Comes}
 

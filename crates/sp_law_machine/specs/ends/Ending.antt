@@ -1,9 +1,9 @@
 -- Why runs of the plain machine end: heights of addresses, the turns that are left, and a bound on the steps.
 use Rattle.std.specs.Prelude.{ℕ, zero, suc, ◌+◌, ◌-◌, ◌*◌, List, [], ◌∷◌, ◌++◌, length, replicate, max, slice_get}
 use Rattle.sp_events.specs.declared.event.What.{What}
-use Rattle.sp_running.specs.States.{Source, Main, Given, Reading, State}
-use Rattle.sp_running.specs.Scopes.{Scope, InParts}
-use Rattle.sp_running.specs.Reads.{Ask, Read}
+use Rattle.sp_meaning_states.specs.States.{Source, Main, Given, Reading, State}
+use Rattle.sp_meaning_states.specs.Scopes.{Scope, InParts}
+use Rattle.sp_meaning_states.specs.Reads.{Ask, Read}
 use Rattle.sp_code.specs.declared.instr.Instr.{Instr}
 use Rattle.sp_code.specs.Machine.{Frame, Plain, Config, At, Ending, Next, Goes, Waits, Over, step}
 use Rattle.sp_code.specs.Turns.{edges}

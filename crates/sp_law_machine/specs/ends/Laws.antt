@@ -2,7 +2,7 @@
 use Rattle.std.specs.Prelude.{◌≡◌, ℕ, ◌<◌, ◌≤◌, Bool, List, length, slice_get}
 use Rattle.sp_base.specs.Input.{Close}
 use Rattle.sp_events.specs.declared.event.What.{What}
-use Rattle.sp_running.specs.Reads.{Verdict, reads}
+use Rattle.sp_meaning_states.specs.Reads.{Verdict, reads}
 use Rattle.sp_code.specs.Machine.{Plain, Config, Goes, step}
 use Rattle.sp_code.specs.Runs.{Comes}
 use Rattle.sp_code.specs.Turns.{edges, AreLower, Turns}

@@ -5,8 +5,8 @@ use Rattle.sp_base.specs.declared.kinds.PKind.TheVariants as error_is
 use Rattle.sp_base.specs.Input.{held_open}
 use Rattle.sp_numbers.specs.declared.width.Width.TheVariants.{W16}
 use Rattle.sp_value.specs.Val.{bool, uint}
-use Rattle.sp_running.specs.States.{Main, State}
-use Rattle.sp_running.specs.Reads.{NoToken}
+use Rattle.sp_meaning_states.specs.States.{Main, State}
+use Rattle.sp_meaning_states.specs.Reads.{NoToken}
 use Rattle.sp_code.specs.declared.instr.Instr.{Instr}
 use Rattle.sp_code.specs.declared.instr.Instr.TheVariants as does
 use Rattle.sp_code.specs.Machine.{UnitCode, Plain, Config, At, Next, Goes, step}

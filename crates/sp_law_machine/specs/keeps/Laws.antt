@@ -2,8 +2,8 @@
 use Rattle.std.specs.Prelude.{ℕ, List, [], Option, slice_get}
 use Rattle.sp_value.specs.Val.{Val}
 use Rattle.sp_methods.specs.Kinds.{Kind}
-use Rattle.sp_running.specs.States.{Reading, State, End}
-use Rattle.sp_running.specs.Reads.{Ask, Read}
+use Rattle.sp_meaning_states.specs.States.{Reading, State, End}
+use Rattle.sp_meaning_states.specs.Reads.{Ask, Read}
 use Rattle.sp_code.specs.Machine.{Frame, Plain, Config, Next, Goes, Waits, Over, step}
 use Rattle.sp_code.specs.Shapes.{Round, Shapes, MayEnd, Holds, Shaped, ShapedAt, IsSound}
 use Rattle.sp_code.specs.Can.{Can}

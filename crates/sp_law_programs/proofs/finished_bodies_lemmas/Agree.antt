@@ -4,8 +4,8 @@ use Rattle.std.specs.Prelude.{◌⊎◌}
 use Rattle.sp_base.specs.declared.kinds.PKind.{PKind}
 use Rattle.sp_events.specs.declared.event.What.{What}
 use Rattle.sp_value.specs.Val.{Val, unit}
-use Rattle.sp_running.specs.States.{State, End, Gives, Fine, Broke, Continued, Unfinished, Result, Ends, ends, behind, on_end, with_value, with_done, with_round, got, done, round, chosen, answer, value_or_unset, put_member}
-use Rattle.sp_bodies.specs.Exprs.{known, given, taken, unless_literal}
+use Rattle.sp_meaning_states.specs.States.{State, End, Gives, Fine, Broke, Continued, Unfinished, Result, Ends, ends, behind, on_end, with_value, with_done, with_round, got, done, round, chosen, answer, value_or_unset, put_member}
+use Rattle.sp_meaning.specs.Operations.{known, given, taken, unless_literal}
 
 -- the turns behind a part
 abbrev pub count_of : Result → ℕ

@@ -6,8 +6,8 @@ use Rattle.sp_base.specs.declared.kinds.PKind.TheVariants.{Unset}
 use Rattle.sp_events.specs.declared.event.What.{What}
 use Rattle.sp_value.specs.Val.{Val, void}
 use Rattle.sp_methods.specs.Kinds.{Kind, UnitOf, nowhere, somewhere, Has}
-use Rattle.sp_running.specs.States.{State, End, Gives, Fine, Failed, Unfinished, Result, Ends, ends, behind, on_end, with_value, with_done, got, done, chosen, fails, answer, local_of, set_local, member_of, parameter_of, value_or_unset, put_member, one_more, flat}
-use Rattle.sp_bodies.specs.Exprs.{known}
+use Rattle.sp_meaning_states.specs.States.{State, End, Gives, Fine, Failed, Unfinished, Result, Ends, ends, behind, on_end, with_value, with_done, got, done, chosen, fails, answer, local_of, set_local, member_of, parameter_of, value_or_unset, put_member, one_more, flat}
+use Rattle.sp_meaning.specs.Operations.{known}
 use Rattle.sp_code.specs.Machine.{Plain}
 use Rattle.sp_code.specs.Shapes.{UnitKinds, Shapes, Round, HasIfSet, IsSelf, IsMember, Holds}
 use Rattle.sp_law_machine.proofs.keeps_lemmas.Operators.{Kept}

@@ -8,14 +8,17 @@ use Rattle.sp_methods.specs.Kinds.{Kind, Have}
 use Rattle.sp_typed.specs.Stmts.{Stmt}
 use Rattle.sp_typed_units.specs.declared.declarations.Hook.{Hook}
 use Rattle.sp_typed_units.specs.declared.declarations.Typed.{Typed}
-use Rattle.sp_running.specs.States.{Error, State, End, Gives, Fine, Failed, Broke, Continued, Returned, Result, Ends, ends, behind, done, with_done, fails, one_more, turn, deeper}
-use Rattle.sp_running.specs.Scopes.{called_where, InCall, ends_fiber, dropped_unless, outside, inside}
-use Rattle.sp_running.specs.Scopes as called_is
-use Rattle.sp_running.specs.Types.{zero_value}
-use Rattle.sp_running.specs.Telling.{Names}
-use Rattle.sp_bodies.specs.Globals.{Layout, globals_of}
-use Rattle.sp_bodies.specs.Exprs.{known}
-use Rattle.sp_bodies.specs.Calls.{zero_slots, function_layout, hook_layout, is_foreach, told_count, body_means, with_locals, one_deeper, call_means, hook_event, hook_means, hooks_mean}
+use Rattle.sp_meaning_states.specs.States.{Error, State, End, Gives, Fine, Failed, Broke, Continued, Returned, Result, Ends, ends, behind, done, with_done, fails, one_more, turn, deeper}
+use Rattle.sp_meaning_states.specs.Scopes.{called_where, InCall, ends_fiber, dropped_unless, outside, inside}
+use Rattle.sp_meaning_states.specs.Scopes as called_is
+use Rattle.sp_meaning_states.specs.Types.{zero_value}
+use Rattle.sp_meaning_states.specs.Telling.{Names}
+use Rattle.sp_code_meaning.specs.Layouts.{Layout}
+use Rattle.sp_meaning.specs.Globals.{globals_of}
+use Rattle.sp_meaning.specs.Operations.{known}
+use Rattle.sp_meaning.specs.Calls.{zero_slots}
+use Rattle.sp_code_meaning.specs.Calls.{function_layout, hook_layout, body_means, with_locals, one_deeper, call_means, hook_event, hook_means, hooks_mean}
+use Rattle.sp_meaning.specs.Hooks.{is_foreach, told_count}
 use Rattle.sp_code.specs.Machine.{Plain}
 use Rattle.sp_code.specs.Shapes.{Shapes, Round, OfFunction, OfHook, IsSelf, AlwaysHave, units_of, Enters, AllHaveKinds, Holds}
 use Rattle.sp_law_code.specs.bodies.Fits.{StmtFits}

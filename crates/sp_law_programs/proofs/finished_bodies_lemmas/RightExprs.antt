@@ -30,13 +30,15 @@ use Rattle.sp_typed.specs.declared.words.ManyOp.TheVariants as many_is
 use Rattle.sp_typed.specs.declared.words.UnitMethod.TheVariants as unit_method
 use Rattle.sp_typed.specs.Exprs.{Expr, Exprs, leaf, one, two, three, many, none, more}
 use Rattle.sp_typed_units.specs.declared.declarations.Function.{Function}
-use Rattle.sp_running.specs.States.{State, Result, Gives, Fine, Unfinished, ends, got, chosen, truth_of, answer, local_of, set_local, member_of, value_or_unset, put_member, parameter_of, start_of}
-use Rattle.sp_running.specs.Scopes as called_is
-use Rattle.sp_running.specs.Types.{number_value, zero_value, plain_type}
-use Rattle.sp_running.specs.Values.{item_at, with_at, size_value, set_of, map_of}
-use Rattle.sp_bodies.specs.Globals.{Globals, Layout, label_value, parameter_in}
-use Rattle.sp_bodies.specs.Exprs.{Changes, known, given, taken, negative_literal, unless_literal, range_value, one_means, binary_means, two_means, converted, offset_from, is_self, offset_local, member_named, local_named, keep_owner, owner_means, slot_local, gives_result, leaf_means, many_means, expr_means, all_got, receiver_means, place_means}
-use Rattle.sp_bodies.specs.Places.{put_means, key_means}
+use Rattle.sp_meaning_states.specs.States.{State, Result, Gives, Fine, Unfinished, ends, got, chosen, truth_of, answer, local_of, set_local, member_of, value_or_unset, put_member, parameter_of, start_of}
+use Rattle.sp_meaning_states.specs.Scopes as called_is
+use Rattle.sp_meaning_states.specs.Types.{number_value, zero_value, plain_type}
+use Rattle.sp_meaning_states.specs.Values.{item_at, with_at, size_value, set_of, map_of}
+use Rattle.sp_meaning.specs.Globals.{Globals, label_value}
+use Rattle.sp_code_meaning.specs.Layouts.{Layout, parameter_in}
+use Rattle.sp_meaning.specs.Operations.{Changes, known, given, taken, negative_literal, unless_literal, range_value, one_means, binary_means, two_means, converted, offset_from, is_self, member_named, local_named, keep_owner, owner_means}
+use Rattle.sp_code_meaning.specs.Exprs.{offset_local, slot_local, gives_result, leaf_means, many_means, expr_means, all_got, receiver_means, place_means}
+use Rattle.sp_code_meaning.specs.Places.{put_means, key_means}
 use Rattle.sp_code.specs.Kinds.{kind_of_two, kind_of_one, kind_of_cast, of_place, in_turn}
 use Rattle.sp_code.specs.Machine.{Plain}
 use Rattle.sp_code.specs.Shapes.{Shapes, OfUnit, OfFunction, IsSelf, IsMember, Enters, Holds}

@@ -20,14 +20,16 @@ use Rattle.sp_typed.specs.declared.stmt_words.ValuedOp.TheVariants as valued_is
 use Rattle.sp_typed.specs.Exprs.{Expr, Exprs, none, more}
 use Rattle.sp_typed.specs.Stmts.{Stmt, Stmts, Branches, Cases, bare, valued, assign, print, block, branch, while_loop, for_loop, switch, no_stmts, more_stmts, no_branches, more_branches, no_cases, more_cases}
 use Rattle.sp_typed_units.specs.declared.declarations.Function.{Function}
-use Rattle.sp_running.specs.States.{State, End, Gives, Fine, Failed, Broke, Continued, Returned, Result, ends, got, done, round, with_done, with_round, fails, answer, truth_of, local_of, set_local, chosen, one_more, turn}
-use Rattle.sp_running.specs.Types.{zero_value, kind_of_type}
-use Rattle.sp_running.specs.Values.{members_of}
-use Rattle.sp_running.specs.Telling.{Names}
-use Rattle.sp_bodies.specs.Globals.{Globals, Layout}
-use Rattle.sp_bodies.specs.Exprs.{Changes, slot_local, expr_means, place_means}
-use Rattle.sp_bodies.specs.Places.{key_means}
-use Rattle.sp_bodies.specs.Stmts.{fails_with, printed, bare_means, valued_means, assign_means, rounds, each, one_equals, stmt_means, stmts_mean, branches_mean, cases_mean}
+use Rattle.sp_meaning_states.specs.States.{State, End, Gives, Fine, Failed, Broke, Continued, Returned, Result, ends, got, done, round, with_done, with_round, fails, answer, truth_of, local_of, set_local, chosen, one_more, turn}
+use Rattle.sp_meaning_states.specs.Types.{zero_value, kind_of_type}
+use Rattle.sp_meaning_states.specs.Values.{members_of}
+use Rattle.sp_meaning_states.specs.Telling.{Names}
+use Rattle.sp_meaning.specs.Globals.{Globals}
+use Rattle.sp_code_meaning.specs.Layouts.{Layout}
+use Rattle.sp_meaning.specs.Operations.{Changes, fails_with}
+use Rattle.sp_code_meaning.specs.Exprs.{slot_local, expr_means, place_means}
+use Rattle.sp_code_meaning.specs.Places.{key_means}
+use Rattle.sp_code_meaning.specs.Stmts.{printed, bare_means, valued_means, assign_means, rounds, each, one_equals, stmt_means, stmts_mean, branches_mean, cases_mean}
 use Rattle.sp_code.specs.Kinds.{kind_of_two}
 use Rattle.sp_code.specs.Machine.{Plain}
 use Rattle.sp_code.specs.Shapes.{Shapes, Round, OfFunction, OfHook, IsResult, IsKeyOf, Holds}

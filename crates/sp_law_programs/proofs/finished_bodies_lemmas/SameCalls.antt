@@ -6,13 +6,15 @@ use Rattle.sp_base.specs.declared.places.Limits.{Limits}
 use Rattle.sp_value.specs.Val.{Val, void}
 use Rattle.sp_typed.specs.Stmts.{Stmt}
 use Rattle.sp_typed_units.specs.declared.declarations.Typed.{Typed}
-use Rattle.sp_running.specs.States.{State, End, Returned, Fine, Unfinished, Result, Ends, ends, fails, one_more, deeper}
-use Rattle.sp_running.specs.Scopes.{Called, called_where, InCall, left, inside}
-use Rattle.sp_running.specs.Scopes as called_is
-use Rattle.sp_running.specs.Types.{zero_value}
-use Rattle.sp_running.specs.Telling.{Names}
-use Rattle.sp_bodies.specs.Globals.{Layout, globals_of}
-use Rattle.sp_bodies.specs.Calls.{function_layout, hook_layout, is_foreach, told_count, hook_event, body_means, with_locals, one_deeper, call_means, hook_means, hooks_mean}
+use Rattle.sp_meaning_states.specs.States.{State, End, Returned, Fine, Unfinished, Result, Ends, ends, fails, one_more, deeper}
+use Rattle.sp_meaning_states.specs.Scopes.{Called, called_where, InCall, left, inside}
+use Rattle.sp_meaning_states.specs.Scopes as called_is
+use Rattle.sp_meaning_states.specs.Types.{zero_value}
+use Rattle.sp_meaning_states.specs.Telling.{Names}
+use Rattle.sp_code_meaning.specs.Layouts.{Layout}
+use Rattle.sp_meaning.specs.Globals.{globals_of}
+use Rattle.sp_code_meaning.specs.Calls.{function_layout, hook_layout, hook_event, body_means, with_locals, one_deeper, call_means, hook_means, hooks_mean}
+use Rattle.sp_meaning.specs.Hooks.{is_foreach, told_count}
 use Rattle.sp_law_programs.specs.finished_bodies.Laws.{IsFinished, OfAll, IsTheSameAtMore, IsDecidedByTurns, MoreFuelIsTheSame, TurnsAreEnough}
 use Rattle.sp_law_programs.proofs.finished_bodies_lemmas.Agree.{IsUnfinished, Agree, Same, then_behind, ended, at_once, then_done, known_same}
 use Rattle.sp_law_programs.proofs.finished_bodies_lemmas.SameExprs.{expr_same}

@@ -19,11 +19,13 @@ use Rattle.sp_typed.specs.declared.words.ManyOp.{ManyOp}
 use Rattle.sp_typed.specs.declared.words.ManyOp.TheVariants as many_is
 use Rattle.sp_typed.specs.declared.words.UnitMethod.TheVariants as unit_method
 use Rattle.sp_typed.specs.Exprs.{Expr, Exprs, leaf, one, two, three, many, none, more}
-use Rattle.sp_running.specs.States.{State, Result, Gives, Fine, Unfinished, ends, got, answer, local_of, set_local, member_of, value_or_unset}
-use Rattle.sp_running.specs.Values.{item_at, with_at}
-use Rattle.sp_bodies.specs.Globals.{Globals, Layout}
-use Rattle.sp_bodies.specs.Exprs.{Changes, negative_literal, one_means, binary_means, two_means, converted, offset_from, is_self, offset_local, offset_means, member_named, is_item, local_named, keep_owner, owner_means, slot_local, slot_of_receiver, called_method, leaf_means, many_means, expr_means, all_got, receiver_means, place_means}
-use Rattle.sp_bodies.specs.Places.{put_means, key_means}
+use Rattle.sp_meaning_states.specs.States.{State, Result, Gives, Fine, Unfinished, ends, got, answer, local_of, set_local, member_of, value_or_unset}
+use Rattle.sp_meaning_states.specs.Values.{item_at, with_at}
+use Rattle.sp_meaning.specs.Globals.{Globals}
+use Rattle.sp_code_meaning.specs.Layouts.{Layout}
+use Rattle.sp_meaning.specs.Operations.{Changes, negative_literal, one_means, binary_means, two_means, converted, offset_from, is_self, member_named, is_item, local_named, keep_owner, owner_means, slot_of_receiver, called_method}
+use Rattle.sp_code_meaning.specs.Exprs.{offset_local, offset_means, slot_local, leaf_means, many_means, expr_means, all_got, receiver_means, place_means}
+use Rattle.sp_code_meaning.specs.Places.{put_means, key_means}
 use Rattle.sp_law_programs.proofs.finished_bodies_lemmas.Agree.{Same, at_once, then_got, chosen_same, known_same, literal_same, answer_same, member_same, put_same, given_same, taken_same}
 
 module _ (May : Type 0) (c : ℕ) where

@@ -17,12 +17,14 @@ use Rattle.sp_typed.specs.declared.stmt_words.ValuedOp.{ValuedOp}
 use Rattle.sp_typed.specs.declared.stmt_words.ValuedOp.TheVariants as valued_is
 use Rattle.sp_typed.specs.Exprs.{Expr, Exprs, none, more}
 use Rattle.sp_typed.specs.Stmts.{Stmt, Stmts, Branches, Cases, bare, valued, assign, print, block, branch, while_loop, for_loop, switch, no_stmts, more_stmts, no_branches, more_branches, no_cases, more_cases}
-use Rattle.sp_running.specs.States.{State, Result, Fine, Unfinished, ends, done, fails, answer, truth_of, local_of, set_local, one_more, turn}
-use Rattle.sp_running.specs.Values.{members_of}
-use Rattle.sp_running.specs.Telling.{Names}
-use Rattle.sp_bodies.specs.Globals.{Globals, Layout}
-use Rattle.sp_bodies.specs.Exprs.{slot_local}
-use Rattle.sp_bodies.specs.Stmts.{fails_with, update_means, bare_means, valued_means, assign_means, rounds, each, one_equals, stmt_means, stmts_mean, branches_mean, cases_mean}
+use Rattle.sp_meaning_states.specs.States.{State, Result, Fine, Unfinished, ends, done, fails, answer, truth_of, local_of, set_local, one_more, turn}
+use Rattle.sp_meaning_states.specs.Values.{members_of}
+use Rattle.sp_meaning_states.specs.Telling.{Names}
+use Rattle.sp_meaning.specs.Globals.{Globals}
+use Rattle.sp_code_meaning.specs.Layouts.{Layout}
+use Rattle.sp_code_meaning.specs.Exprs.{slot_local}
+use Rattle.sp_meaning.specs.Operations.{fails_with, update_means}
+use Rattle.sp_code_meaning.specs.Stmts.{bare_means, valued_means, assign_means, rounds, each, one_equals, stmt_means, stmts_mean, branches_mean, cases_mean}
 use Rattle.sp_law_programs.proofs.finished_bodies_lemmas.Agree.{Agree, Same, later, then_behind, at_once, then_got, then_done, then_round, chosen_same, answer_same}
 use Rattle.sp_law_programs.proofs.finished_bodies_lemmas.SameExprs.{set_same, expr_same, all_same, place_same, put_means_same, key_same}
 

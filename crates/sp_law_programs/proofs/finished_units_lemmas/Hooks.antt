@@ -8,9 +8,8 @@ use Rattle.sp_typed_units.specs.declared.declarations.HookOf.{HookOf}
 use Rattle.sp_typed_units.specs.declared.declarations.HookOf.TheVariants as hook_of
 use Rattle.sp_typed_units.specs.declared.declarations.Typed.{Typed}
 use Rattle.sp_typed_units.specs.declared.declarations.Unit.{Unit as TypedUnit}
-use Rattle.sp_running.specs.Scopes as called_is
-use Rattle.sp_bodies.specs.Calls.{is_foreach, runs_before, put_in_order, in_order, bodies_of, numbers, hook_bodies}
-use Rattle.sp_bodies.specs.Units.{is_of_unit}
+use Rattle.sp_meaning_states.specs.Scopes as called_is
+use Rattle.sp_meaning.specs.Hooks.{is_foreach, runs_before, put_in_order, in_order, bodies_of, numbers, hook_bodies, is_of_unit}
 use Rattle.sp_code.specs.Machine.{Plain}
 use Rattle.sp_code.specs.Shapes.{Shapes, OfHook, Enters}
 use Rattle.sp_law_code.specs.units.Fits.{BodiesFit}

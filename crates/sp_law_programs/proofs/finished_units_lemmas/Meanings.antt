@@ -5,12 +5,12 @@ use Rattle.std.proofs.lemmas.Bool.{ltb-true, ltb-false}
 use Rattle.sp_base.specs.Input.{held_open, ended}
 use Rattle.sp_value.specs.Val.{Val}
 use Rattle.sp_typed_units.specs.declared.declarations.Typed.{Typed}
-use Rattle.sp_running.specs.States.{Reading, End, Gives, Failed, Need, Unfinished, Result, Ends}
-use Rattle.sp_running.specs.Reads.{Ask, Read, reads}
+use Rattle.sp_meaning_states.specs.States.{Reading, End, Gives, Failed, Need, Unfinished, Result, Ends, first, end_of}
+use Rattle.sp_meaning_states.specs.Reads.{Ask, Read, reads}
 use Rattle.sp_code.specs.Machine.{Plain}
 use Rattle.sp_code_programs.specs.units.Units.{starter_kinds}
 use Rattle.sp_law_programs.specs.finished_bodies.Laws.{IsFinished}
-use Rattle.sp_law_programs.specs.unit_told.Told.{first, meant, end_of, IsNeed}
+use Rattle.sp_law_programs.specs.unit_told.Told.{meant, IsNeed}
 use Rattle.sp_law_programs.proofs.unit_told_lemmas.Units as units
 use Rattle.sp_law_programs.proofs.unit_told_lemmas.Fronts as fronts
 use Rattle.sp_law_programs.proofs.unit_told_lemmas.Ended.{ended_decides}

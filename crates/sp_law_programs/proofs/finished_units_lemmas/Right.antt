@@ -3,8 +3,8 @@ use Rattle.std.proofs.Common.{◌≡◌, ℕ, Bool, true, false, List, Option, S
 use Rattle.sp_events.specs.declared.event.What.{What}
 use Rattle.sp_value.specs.Val.{Val, unit}
 use Rattle.sp_methods.specs.Kinds.{Kind, Has}
-use Rattle.sp_running.specs.States.{State, End, Gives, Fine, Failed, Need, Unfinished, Result, Ends, ends, behind, on_end, with_value, with_done, got, done, chosen, put_member}
-use Rattle.sp_bodies.specs.Exprs.{known}
+use Rattle.sp_meaning_states.specs.States.{State, End, Gives, Fine, Failed, Need, Unfinished, Result, Ends, ends, behind, on_end, with_value, with_done, got, done, chosen, put_member}
+use Rattle.sp_meaning.specs.Operations.{known}
 use Rattle.sp_code.specs.Machine.{Plain}
 use Rattle.sp_code.specs.Shapes.{Shapes, IsMember, Holds}
 use Rattle.sp_law_machine.proofs.keeps_lemmas.Frames.{member_changed}

@@ -12,14 +12,17 @@ use Rattle.sp_typed_units.specs.declared.declarations.Member.{Member}
 use Rattle.sp_typed_units.specs.declared.declarations.Typed.{Typed}
 use Rattle.sp_typed_units.specs.declared.declarations.Variable.{Variable}
 use Rattle.sp_typed_units.specs.Parts.{Part, Parts, field, no_parts, more_parts}
-use Rattle.sp_running.specs.States.{Reading, State, Gives, Fine, Result, ends, fails, go, local_of, set_local, put_member, start_of}
-use Rattle.sp_running.specs.Reads.{Ask, Bytes, Read, Got, Lacks, Shorts, NoWord, on_read}
-use Rattle.sp_running.specs.Types.{width_bytes}
-use Rattle.sp_running.specs.Telling.{Names}
-use Rattle.sp_bodies.specs.Globals.{globals_of}
-use Rattle.sp_bodies.specs.Exprs.{known, expr_means}
-use Rattle.sp_bodies.specs.Calls.{call_means, hooks_mean}
-use Rattle.sp_bodies.specs.Units.{IntegerForm, integer_field, offset_slot, value_slot, unit_layout, stored, first_value, offset_here, integer_in, field_means, part_means, parts_mean, variables_begin, variable_means, variables_mean}
+use Rattle.sp_meaning_states.specs.States.{Reading, State, Gives, Fine, Result, ends, fails, go, local_of, set_local, put_member, start_of}
+use Rattle.sp_meaning_states.specs.Reads.{Ask, Bytes, Read, Got, Lacks, Shorts, NoWord, on_read}
+use Rattle.sp_meaning_states.specs.Types.{width_bytes}
+use Rattle.sp_meaning_states.specs.Telling.{Names}
+use Rattle.sp_meaning.specs.Globals.{globals_of}
+use Rattle.sp_meaning.specs.Operations.{known}
+use Rattle.sp_code_meaning.specs.Exprs.{expr_means}
+use Rattle.sp_code_meaning.specs.Calls.{call_means, hooks_mean}
+use Rattle.sp_meaning.specs.Integers.{IntegerForm, integer_field}
+use Rattle.sp_code_meaning.specs.Units.{offset_slot, value_slot, unit_layout, integer_in, field_means, part_means, parts_mean, variables_begin, variable_means, variables_mean}
+use Rattle.sp_meaning.specs.Units.{stored, first_value, offset_here}
 use Rattle.sp_code.specs.Machine.{Plain}
 use Rattle.sp_code.specs.Shapes.{Shapes, read_kind, Holds}
 use Rattle.sp_law_machine.proofs.keeps_lemmas.Frames.{still}

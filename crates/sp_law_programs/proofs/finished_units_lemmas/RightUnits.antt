@@ -12,14 +12,15 @@ use Rattle.sp_methods.specs.Kinds.{Kind, Have}
 use Rattle.sp_typed_units.specs.declared.declarations.Typed.{Typed}
 use Rattle.sp_typed_units.specs.declared.declarations.Unit.{Unit as TypedUnit}
 use Rattle.sp_typed_units.specs.Parts.{parts}
-use Rattle.sp_running.specs.States as running
-use Rattle.sp_running.specs.States.{Reading, Instance, State, End, Fine, Failed, Need, Unfinished, Result, Ends, ends, behind, on_end, done, chosen, fails, one_more, turn, deeper}
-use Rattle.sp_running.specs.Scopes.{InUnit, InFailing, ends_fiber, left, inside}
-use Rattle.sp_running.specs.Reads.{Ask, Read}
-use Rattle.sp_running.specs.Telling.{Names}
-use Rattle.sp_bodies.specs.Exprs.{known}
-use Rattle.sp_bodies.specs.Calls.{hook_bodies}
-use Rattle.sp_bodies.specs.Units.{unit_slots, is_plain, is_of_unit, parts_mean, variables_begin, variables_mean, unit_hook_means, unit_order, unit_parts_mean, failing_means, parts_left, unit_begun, entered_means}
+use Rattle.sp_meaning_states.specs.States as running
+use Rattle.sp_meaning_states.specs.States.{Reading, Instance, State, End, Fine, Failed, Need, Unfinished, Result, Ends, ends, behind, on_end, done, chosen, fails, one_more, turn, deeper, end_of}
+use Rattle.sp_meaning_states.specs.Scopes.{InUnit, InFailing, ends_fiber, left, inside}
+use Rattle.sp_meaning_states.specs.Reads.{Ask, Read}
+use Rattle.sp_meaning_states.specs.Telling.{Names}
+use Rattle.sp_meaning.specs.Operations.{known}
+use Rattle.sp_meaning.specs.Hooks.{hook_bodies, is_of_unit}
+use Rattle.sp_code_meaning.specs.Units.{unit_slots, parts_mean, variables_begin, variables_mean, unit_hook_means, unit_order, unit_parts_mean, failing_means, parts_left, unit_begun, entered_means}
+use Rattle.sp_meaning.specs.Units.{is_plain}
 use Rattle.sp_code.specs.Machine.{Plain}
 use Rattle.sp_code.specs.Shapes.{UnitKinds, Shapes, AlwaysHave, Holds}
 use Rattle.sp_law_machine.proofs.keeps_lemmas.Growth.{have_grows, all_grow}
@@ -28,7 +29,6 @@ use Rattle.sp_code_programs.specs.units.Units.{slot_kinds}
 use Rattle.sp_law_code.specs.units.Fits.{UnitHookFits, UnitFits}
 use Rattle.sp_law_code.specs.units.Keeps.{AreKindsOf}
 use Rattle.sp_law_programs.specs.finished_bodies.Finished.{FunctionsFit}
-use Rattle.sp_law_programs.specs.unit_told.Told.{end_of}
 use Rattle.sp_law_programs.specs.finished_units.Built.{UnitIsBuilt, HooksFit}
 use Rattle.sp_law_programs.specs.finished_units.Fuel.{IsUnitEnd, UnitsAreFinished}
 use Rattle.sp_law_programs.proofs.finished_units_lemmas.Right.{IsPart, Right, then_end, then_done, at_once, chosen_right}

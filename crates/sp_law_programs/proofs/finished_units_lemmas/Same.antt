@@ -4,8 +4,8 @@ use Rattle.std.proofs.Common.{◌≡◌, Bool, true, false, List, Option, Some, 
 use Rattle.std.specs.Prelude.{◌⊎◌}
 use Rattle.sp_events.specs.declared.event.What.{What}
 use Rattle.sp_value.specs.Val.{Val}
-use Rattle.sp_running.specs.States.{State, End, Gives, Fine, Unfinished, Result, Ends, ends, behind, on_end, with_value, with_done, got, done, chosen}
-use Rattle.sp_bodies.specs.Exprs.{known}
+use Rattle.sp_meaning_states.specs.States.{State, End, Gives, Fine, Unfinished, Result, Ends, ends, behind, on_end, with_value, with_done, got, done, chosen}
+use Rattle.sp_meaning.specs.Operations.{known}
 use Rattle.sp_law_programs.proofs.finished_bodies_lemmas.Agree.{IsUnfinished}
 
 -- May says whether the first of two parts may lack fuel.

@@ -10,15 +10,18 @@ use Rattle.sp_typed_units.specs.declared.declarations.Typed.{Typed}
 use Rattle.sp_typed_units.specs.declared.declarations.Unit.{Unit as TypedUnit}
 use Rattle.sp_typed_units.specs.declared.declarations.Variable.{Variable}
 use Rattle.sp_typed_units.specs.Parts.{Part, Parts, field, no_parts, more_parts, parts}
-use Rattle.sp_running.specs.States as running
-use Rattle.sp_running.specs.States.{Reading, End, Fine, Failed, Unfinished, Result, Ends, ends, local_of, set_local, put_member, turn, deeper}
-use Rattle.sp_running.specs.Scopes.{InUnit, InFailing, ends_fiber, left}
-use Rattle.sp_running.specs.Reads.{Ask, Read}
-use Rattle.sp_running.specs.Telling.{Names}
-use Rattle.sp_bodies.specs.Globals.{globals_of}
-use Rattle.sp_bodies.specs.Exprs.{expr_means}
-use Rattle.sp_bodies.specs.Calls.{hook_bodies, call_means, hooks_mean}
-use Rattle.sp_bodies.specs.Units.{IntegerForm, integer_field, offset_slot, value_slot, unit_layout, is_of_unit, stored, is_plain, offset_here, integer_in, field_means, part_means, parts_mean, variables_begin, variable_means, variables_mean, unit_hook_means, unit_order, unit_parts_mean, failing_means, parts_left, unit_begun, entered_means, unit_means}
+use Rattle.sp_meaning_states.specs.States as running
+use Rattle.sp_meaning_states.specs.States.{Reading, End, Fine, Failed, Unfinished, Result, Ends, ends, local_of, set_local, put_member, turn, deeper}
+use Rattle.sp_meaning_states.specs.Scopes.{InUnit, InFailing, ends_fiber, left}
+use Rattle.sp_meaning_states.specs.Reads.{Ask, Read}
+use Rattle.sp_meaning_states.specs.Telling.{Names}
+use Rattle.sp_meaning.specs.Globals.{globals_of}
+use Rattle.sp_code_meaning.specs.Exprs.{expr_means}
+use Rattle.sp_meaning.specs.Hooks.{hook_bodies, is_of_unit}
+use Rattle.sp_code_meaning.specs.Calls.{call_means, hooks_mean}
+use Rattle.sp_meaning.specs.Integers.{IntegerForm, integer_field}
+use Rattle.sp_code_meaning.specs.Units.{offset_slot, value_slot, unit_layout, integer_in, field_means, part_means, parts_mean, variables_begin, variable_means, variables_mean, unit_hook_means, unit_order, unit_parts_mean, failing_means, parts_left, unit_begun, entered_means, unit_means}
+use Rattle.sp_meaning.specs.Units.{stored, is_plain, offset_here}
 use Rattle.sp_law_programs.specs.finished_bodies.Laws.{IsFinished}
 use Rattle.sp_law_programs.proofs.finished_bodies_lemmas.SameCalls as bodies
 use Rattle.sp_law_programs.specs.finished_units.Fuel.{UnitsAreTheSameAtMore, UnitsAreDecidedByTurns}

@@ -6,15 +6,16 @@ use Rattle.sp_methods.specs.Kinds.{Kind, Has}
 use Rattle.sp_typed_units.specs.declared.declarations.Function.{Function}
 use Rattle.sp_typed_units.specs.declared.declarations.Hook.{Hook}
 use Rattle.sp_typed_units.specs.declared.declarations.Typed.{Typed}
-use Rattle.sp_running.specs.Scopes as called_is
-use Rattle.sp_running.specs.Types.{zero_value, kind_of_type}
-use Rattle.sp_bodies.specs.Globals.{Globals, globals_of}
-use Rattle.sp_bodies.specs.Calls.{function_layout, hook_layout, is_foreach}
+use Rattle.sp_meaning_states.specs.Scopes as called_is
+use Rattle.sp_meaning_states.specs.Types.{zero_value, kind_of_type}
+use Rattle.sp_meaning.specs.Globals.{Globals, globals_of}
+use Rattle.sp_code_meaning.specs.Calls.{function_layout, hook_layout}
+use Rattle.sp_meaning.specs.Hooks.{is_foreach}
 use Rattle.sp_code.specs.Machine.{Body, Plain}
 use Rattle.sp_code.specs.Shapes.{Shapes, Round, OfFunction, OfHook, body_shape, IsResult, AlwaysHave, Shown, Enters}
 use Rattle.sp_code_programs.specs.exprs.Code.{kind_at}
 use Rattle.sp_code_programs.specs.units.Bodies.{name_at}
-use Rattle.sp_code_programs.specs.programs.Named.{hook_names_of}
+use Rattle.sp_meaning.specs.Names.{hook_names_of}
 use Rattle.sp_code_programs.specs.programs.Routines.{Routine, entry_at, function_shape, hook_shape, function_routine, hook_routine}
 use Rattle.sp_code_programs.specs.programs.Currents.{currents_of}
 use Rattle.sp_code_programs.specs.programs.Whole.{behind_bodies, IsProgramOf}

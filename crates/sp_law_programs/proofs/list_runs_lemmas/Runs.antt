@@ -7,19 +7,19 @@ use Rattle.sp_value.specs.Val.{Val}
 use Rattle.sp_methods.specs.Kinds.{Kind, Have}
 use Rattle.sp_typed_units.specs.declared.declarations.Parameter.{Parameter}
 use Rattle.sp_typed_units.specs.declared.declarations.Typed.{Typed}
-use Rattle.sp_running.specs.States.{Reading}
-use Rattle.sp_running.specs.Reads.{Ask, Read, reads}
-use Rattle.sp_bodies.specs.Globals.{globals_of}
+use Rattle.sp_meaning_states.specs.States.{Reading, end_of, events_of}
+use Rattle.sp_meaning_states.specs.Reads.{Ask, Read, reads}
+use Rattle.sp_meaning.specs.Globals.{globals_of}
 use Rattle.sp_code.specs.declared.program.Program.{Program}
 use Rattle.sp_code.specs.Machine.{Plain, Config, step}
 use Rattle.sp_code.specs.Programs.{plain_of, shapes_of}
 use Rattle.sp_code.specs.Shapes.{Shapes, Shaped}
 use Rattle.sp_code_programs.specs.units.Units.{kinds_over, starter_kinds}
-use Rattle.sp_code_programs.specs.programs.Named.{hook_names_of}
+use Rattle.sp_meaning.specs.Names.{hook_names_of}
 use Rattle.sp_code_programs.specs.programs.Whole.{starter_at}
 use Rattle.sp_law_machine.specs.ends.Ending.{IsStop}
 use Rattle.sp_law_programs.specs.finished_bodies.Laws.{IsFinished}
-use Rattle.sp_law_programs.specs.unit_told.Told.{started, end_of, events_of, Tells}
+use Rattle.sp_law_programs.specs.unit_told.Told.{started, Tells}
 use Rattle.sp_law_programs.specs.finished_units.Built.{UnitIsBuilt}
 use Rattle.sp_law_programs.specs.finished_units.Fuel.{IsUnitEnd}
 use Rattle.sp_law_programs.specs.finished_units.Meaning.{meaning, RunsUnit}

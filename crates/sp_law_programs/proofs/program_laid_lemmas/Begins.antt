@@ -21,8 +21,10 @@ use Rattle.sp_typed.specs.declared.stmt_words.ValuedOp.{ValuedOp}
 use Rattle.sp_typed.specs.declared.stmt_words.ValuedOp.TheVariants as valued_is
 use Rattle.sp_typed.specs.Exprs.{Expr, Exprs, leaf, one, two, three, many, none, more}
 use Rattle.sp_typed.specs.Stmts.{Stmt, Stmts, Branches, bare, valued, assign, print, block, branch, while_loop, for_loop, switch, no_stmts, more_stmts, no_branches, more_branches}
-use Rattle.sp_bodies.specs.Globals.{Globals, Layout}
-use Rattle.sp_bodies.specs.Exprs.{negative_literal, offset_local, is_self, slot_local}
+use Rattle.sp_meaning.specs.Globals.{Globals}
+use Rattle.sp_code_meaning.specs.Layouts.{Layout}
+use Rattle.sp_meaning.specs.Operations.{negative_literal, is_self}
+use Rattle.sp_code_meaning.specs.Exprs.{offset_local, slot_local}
 use Rattle.sp_code.specs.declared.instr.Instr.{Instr}
 use Rattle.sp_code.specs.declared.instr.Instr.TheVariants as does
 use Rattle.sp_code.specs.Shapes.{Shape, with_operands}

@@ -5,8 +5,9 @@ use Rattle.std.specs.Prelude.{slice_get, if◌then◌else◌}
 use Rattle.sp_methods.specs.Kinds.{Kind, Unsigned}
 use Rattle.sp_typed_units.specs.declared.declarations.Parameter.{Parameter}
 use Rattle.sp_typed_units.specs.declared.declarations.Hook.{Hook}
-use Rattle.sp_bodies.specs.Globals.{globals_of}
-use Rattle.sp_bodies.specs.Calls.{function_layout, hook_layout, has_current}
+use Rattle.sp_meaning.specs.Globals.{globals_of}
+use Rattle.sp_code_meaning.specs.Calls.{function_layout, hook_layout}
+use Rattle.sp_meaning.specs.Hooks.{has_current}
 use Rattle.sp_code.specs.Machine.{Body, Plain}
 use Rattle.sp_code.specs.Shapes.{BodyKinds, Shapes, Round, body_shape, AlwaysHave, IsBody, Shown, Enters}
 use Rattle.sp_code_programs.specs.exprs.Code.{kind_at}

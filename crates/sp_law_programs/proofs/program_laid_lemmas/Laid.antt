@@ -5,8 +5,8 @@ use Rattle.sp_methods.specs.Kinds.{Kind}
 use Rattle.sp_typed_units.specs.declared.declarations.Hook.{Hook}
 use Rattle.sp_typed_units.specs.declared.declarations.Typed.{Typed}
 use Rattle.sp_typed_units.specs.declared.declarations.Function.{Function}
-use Rattle.sp_running.specs.Reads.{NoWord}
-use Rattle.sp_bodies.specs.Globals.{Globals, globals_of}
+use Rattle.sp_meaning_states.specs.Reads.{NoWord}
+use Rattle.sp_meaning.specs.Globals.{Globals, globals_of}
 use Rattle.sp_code.specs.Shapes.{Shape, IsSound, Shapes, Shown, Keeps}
 use Rattle.sp_code.specs.Machine.{Plain}
 use Rattle.sp_code_programs.specs.exprs.Marked.{Marked, HasAt, Shows}

@@ -4,8 +4,8 @@ use Rattle.std.specs.Prelude.{slice_get, unwrap_or}
 use Rattle.sp_methods.specs.Kinds.{Kind, Has}
 use Rattle.sp_typed_units.specs.declared.declarations.Function.{Function}
 use Rattle.sp_typed_units.specs.declared.declarations.Hook.{Hook}
-use Rattle.sp_running.specs.Reads.{NoWord}
-use Rattle.sp_bodies.specs.Globals.{Globals}
+use Rattle.sp_meaning_states.specs.Reads.{NoWord}
+use Rattle.sp_meaning.specs.Globals.{Globals}
 use Rattle.sp_code.specs.Machine.{Body, Plain}
 use Rattle.sp_code.specs.Shapes.{BodyKinds, Shapes, IsResult}
 use Rattle.sp_code_programs.specs.exprs.Marked.{Marked, HasAt, Shows}

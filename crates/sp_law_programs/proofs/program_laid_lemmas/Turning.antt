@@ -1,7 +1,7 @@
 -- A program that is laid out counts a turn in each cycle, where its bodies keep to their loops and what stands behind them does so.
 use Rattle.std.proofs.Common.{◌≡◌, ℕ, ◌+◌, false, List, [], ◌∷◌, ◌++◌, length, sym, subst, arith}
-use Rattle.sp_bodies.specs.Globals.{Globals, globals_of}
-use Rattle.sp_bodies.specs.Calls.{function_layout, hook_layout}
+use Rattle.sp_meaning.specs.Globals.{Globals, globals_of}
+use Rattle.sp_code_meaning.specs.Calls.{function_layout, hook_layout}
 use Rattle.sp_code_programs.specs.exprs.Marked.{Marked}
 use Rattle.sp_code_programs.specs.exprs.Code.{kind_at}
 use Rattle.sp_code_programs.specs.programs.Routines.{Routine, routine_size, routine_code, function_shape, hook_shape}

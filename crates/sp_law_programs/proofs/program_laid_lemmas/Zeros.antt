@@ -7,8 +7,8 @@ use Rattle.sp_types.specs.declared.words.Word.{Word}
 use Rattle.sp_types.specs.declared.words.Word.TheVariants as word_is
 use Rattle.sp_types.specs.declared.words.Maker.TheVariants as maker_is
 use Rattle.sp_types.specs.Types.{Ty, Tys, word, made, none, more}
-use Rattle.sp_running.specs.Types.{ranges_of, word_zero, zero_value, zero_values, kind_of_word, kind_of_type, kinds_of_types}
-use Rattle.sp_bodies.specs.Calls.{zero_slots}
+use Rattle.sp_meaning_states.specs.Types.{ranges_of, word_zero, zero_value, zero_values, kind_of_word, kind_of_type, kinds_of_types}
+use Rattle.sp_meaning.specs.Calls.{zero_slots}
 use Rattle.sp_code_programs.specs.programs.Routines.{slot_kinds}
 
 module _ (ranges units : List ℕ) where

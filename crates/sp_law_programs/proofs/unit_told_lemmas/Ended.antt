@@ -4,8 +4,8 @@ use Rattle.std.proofs.lemmas.Bool.{or_right, true≢false}
 use Rattle.std.specs.Prelude.{slice_get, nat_le, nat_lt, min, if◌then◌else◌}
 use Rattle.sp_base.specs.Input.{ended}
 use Rattle.sp_events.specs.declared.event.What.{What}
-use Rattle.sp_running.specs.States.{Source, Main, Given, View, End, Need, Unfinished, Result, Ends}
-use Rattle.sp_running.specs.Reads.{Ask, Bytes, Mark, Rest, Word, Data, Reach, Read, Lacks, Verdict, Grows, Match, NoToken, is_over, place_in, Seen, lacking, cut_at, told_by, read_in, seen_from, reads}
+use Rattle.sp_meaning_states.specs.States.{Source, Main, Given, View, End, Need, Unfinished, Result, Ends, end_of, events_of}
+use Rattle.sp_meaning_states.specs.Reads.{Ask, Bytes, Mark, Rest, Word, Data, Reach, Read, Lacks, Verdict, Grows, Match, NoToken, is_over, place_in, Seen, lacking, cut_at, told_by, read_in, seen_from, reads}
 use Rattle.sp_code.specs.Runs.{Comes, here, next}
 use Rattle.sp_code.specs.Machine.{Plain, Config, At, Ending, Next, Waits, step}
 use Rattle.sp_law_machine.specs.continues.Laws.{IsLack, IsWait}
@@ -13,7 +13,7 @@ use Rattle.sp_law_machine.specs.continues.Windows.{From}
 use Rattle.sp_law_machine.proofs.continues_lemmas.Places.{After, act_after, end_after}
 use Rattle.sp_law_machine.proofs.continues_lemmas.Marks.{places_stay}
 use Rattle.sp_law_programs.specs.finished_bodies.Laws.{IsFinished}
-use Rattle.sp_law_programs.specs.unit_told.Told.{frames_of, started, meant, end_of, events_of, IsNeed}
+use Rattle.sp_law_programs.specs.unit_told.Told.{frames_of, started, meant, IsNeed}
 use Rattle.sp_law_programs.specs.unit_told.Laws.{EndedStepsDecide, EndedDecides}
 use Rattle.sp_law_programs.proofs.unit_told_lemmas.Exact.{needs_wait}
 use Rattle.sp_law_programs.proofs.unit_told_lemmas.Units.{meanings_are_told}

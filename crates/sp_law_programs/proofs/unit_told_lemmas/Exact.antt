@@ -1,7 +1,7 @@
 -- Which end is told by a step that stops, and by that step alone.
 use Rattle.std.proofs.Common.{◌≡◌, ℕ, List, refl, ap}
 use Rattle.sp_value.specs.Val.{Val}
-use Rattle.sp_running.specs.States.{Error, State, End, Gives, Failed, Returned, Backs, Rejected, Need, Unfinished}
+use Rattle.sp_meaning_states.specs.States.{Error, State, End, Gives, Failed, Returned, Backs, Rejected, Need, Unfinished}
 use Rattle.sp_code.specs.Machine.{Frame, Next, Goes, Waits, Over, low_of}
 use Rattle.sp_law_programs.specs.unit_told.Told.{told_end}
 use Rattle.sp_law_programs.specs.unit_told.Laws.{EndsAreExact}

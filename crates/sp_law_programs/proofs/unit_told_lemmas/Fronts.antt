@@ -1,13 +1,13 @@
 -- What is told on a front of an input is told on the whole.
 use Rattle.std.proofs.Common.{◌≡◌, List, ◌++◌, sym, ap, ◌∙◌, subst}
 use Rattle.sp_base.specs.Input.{held_open}
-use Rattle.sp_running.specs.States.{State, Result, Ends}
-use Rattle.sp_running.specs.Reads.{reads}
+use Rattle.sp_meaning_states.specs.States.{State, Result, Ends, end_of, events_of, state_of}
+use Rattle.sp_meaning_states.specs.Reads.{reads}
 use Rattle.sp_code.specs.Machine.{Frame, Next, Goes, Waits, Over, step}
 use Rattle.sp_law_machine.specs.continues.Laws.{IsWait}
 use Rattle.sp_law_machine.proofs.continues_lemmas.Steps.{steps_continue, runs_continue}
 use Rattle.sp_law_machine.specs.ends.Ending.{IsStop}
-use Rattle.sp_law_programs.specs.unit_told.Told.{started, meant, end_of, events_of, state_of, IsNeed, frames_of, told_end, IsOverIn}
+use Rattle.sp_law_programs.specs.unit_told.Told.{started, meant, IsNeed, frames_of, told_end, IsOverIn}
 use Rattle.sp_law_programs.specs.unit_told.Laws.{ToldStays, FeedsAreMeant}
 use Rattle.sp_law_programs.proofs.unit_told_lemmas.Stops.{runs_pass, runs_go_on}
 use Rattle.sp_law_programs.proofs.unit_told_lemmas.Units.{meanings_are_told, stops_are_meant}

@@ -1,8 +1,8 @@
 -- Runs of the plain machine are determined, and go on over more of an input.
 use Rattle.std.proofs.Common.{◌≡◌, List, [], ◌++◌, refl, sym, ap, ◌∙◌, subst, append_assoc, append-nil}
 use Rattle.sp_events.specs.declared.event.What.{What}
-use Rattle.sp_running.specs.States.{Reading}
-use Rattle.sp_running.specs.Reads.{Ask, Read, reads}
+use Rattle.sp_meaning_states.specs.States.{Reading}
+use Rattle.sp_meaning_states.specs.Reads.{Ask, Read, reads}
 use Rattle.sp_code.specs.Machine.{Plain, Config, Next, Goes, step}
 use Rattle.sp_code.specs.Runs.{Comes, here, next}
 use Rattle.sp_law_code.proofs.exprs_lemmas.Steps.{then_comes}

@@ -6,11 +6,12 @@ use Rattle.sp_events.specs.declared.event.What.{What}
 use Rattle.sp_value.specs.Val.{Val}
 use Rattle.sp_typed_units.specs.declared.declarations.Typed.{Typed}
 use Rattle.sp_typed_units.specs.declared.declarations.Unit.{Unit as TypedUnit}
-use Rattle.sp_running.specs.States.{Reading, State, End, Gives, Fine, Failed, Returned, Backs, Rejected, Need, Unfinished, Result, Ends, ends, behind, on_end, done, chosen, fails, one_more, turn, deeper}
-use Rattle.sp_running.specs.Scopes.{InUnit, left}
-use Rattle.sp_running.specs.Reads.{Ask, Read}
-use Rattle.sp_bodies.specs.Units.{is_plain, entered_means}
-use Rattle.sp_bodies.specs.Exprs.{known}
+use Rattle.sp_meaning_states.specs.States.{Reading, State, End, Gives, Fine, Failed, Returned, Backs, Rejected, Need, Unfinished, Result, Ends, ends, behind, on_end, done, chosen, fails, one_more, turn, deeper, first, end_of, events_of}
+use Rattle.sp_meaning_states.specs.Scopes.{InUnit, left}
+use Rattle.sp_meaning_states.specs.Reads.{Ask, Read}
+use Rattle.sp_meaning.specs.Units.{is_plain}
+use Rattle.sp_code_meaning.specs.Units.{entered_means}
+use Rattle.sp_meaning.specs.Operations.{known}
 use Rattle.sp_code.specs.declared.instr.Instr.TheVariants as does
 use Rattle.sp_code.specs.Machine.{Plain, Config, At, Ending, step}
 use Rattle.sp_code.specs.Runs.{Ways, leads, Comes, Runs}
@@ -18,7 +19,7 @@ use Rattle.sp_law_code.proofs.exprs_lemmas.Steps.{then_comes, one, act_at}
 use Rattle.sp_law_code.proofs.units_lemmas.Units.{units_run}
 use Rattle.sp_law_machine.specs.ends.Ending.{IsStop}
 use Rattle.sp_law_programs.specs.finished_bodies.Laws.{IsFinished}
-use Rattle.sp_law_programs.specs.unit_told.Told.{first, started, meant, end_of, events_of, MayEndUnit, told_end, IsOverIn, Tells}
+use Rattle.sp_law_programs.specs.unit_told.Told.{started, meant, MayEndUnit, told_end, IsOverIn, Tells}
 use Rattle.sp_law_programs.specs.unit_told.Laws.{UnitsEnd, MeaningsAreTold, StopsAreMeant}
 use Rattle.sp_law_programs.proofs.unit_told_lemmas.Stops.{stops_are_one}
 

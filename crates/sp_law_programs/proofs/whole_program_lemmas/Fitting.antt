@@ -11,18 +11,20 @@ use Rattle.sp_typed_units.specs.declared.declarations.Typed.{Typed}
 use Rattle.sp_typed_units.specs.declared.declarations.Unit.{Unit as TypedUnit}
 use Rattle.sp_typed_units.specs.declared.declarations.Variable.{Variable}
 use Rattle.sp_typed_units.specs.Parts.{Part, Parts, field, no_parts, more_parts, parts}
-use Rattle.sp_running.specs.Scopes as called_is
-use Rattle.sp_running.specs.Types.{kind_of_type}
-use Rattle.sp_bodies.specs.Globals.{globals_of}
-use Rattle.sp_bodies.specs.Calls.{has_current, is_foreach, hook_bodies}
-use Rattle.sp_bodies.specs.Units.{IntegerForm, integer_field, last_order, module_order, unit_layout, is_of_unit, first_value}
+use Rattle.sp_meaning_states.specs.Scopes as called_is
+use Rattle.sp_meaning_states.specs.Types.{kind_of_type}
+use Rattle.sp_meaning.specs.Globals.{globals_of}
+use Rattle.sp_meaning.specs.Hooks.{has_current, is_foreach, hook_bodies, is_of_unit}
+use Rattle.sp_meaning.specs.Integers.{IntegerForm, integer_field, last_order, module_order}
+use Rattle.sp_code_meaning.specs.Units.{unit_layout}
+use Rattle.sp_meaning.specs.Units.{first_value}
 use Rattle.sp_code.specs.Machine.{Plain}
 use Rattle.sp_code.specs.Programs.{plain_of, shapes_of}
 use Rattle.sp_code.specs.Shapes.{Shapes, OfHook, read_kind, IsMember, Enters}
 use Rattle.sp_code_programs.specs.exprs.Code.{kind_of, kind_at}
 use Rattle.sp_code_programs.specs.units.Bodies.{handed}
 use Rattle.sp_code_programs.specs.units.Units.{member_kind}
-use Rattle.sp_code_programs.specs.programs.Named.{hook_names_of}
+use Rattle.sp_meaning.specs.Names.{hook_names_of}
 use Rattle.sp_code_programs.specs.programs.Routines.{hook_unit, parameter_kinds, handed_kinds}
 use Rattle.sp_code_programs.specs.programs.Currents.{currents_of}
 use Rattle.sp_code_programs.specs.programs.Units.{kinds_of_unit}

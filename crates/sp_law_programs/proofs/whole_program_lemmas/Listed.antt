@@ -6,8 +6,7 @@ use Rattle.sp_words.specs.declared.words.HookName.{HookName}
 use Rattle.sp_typed_units.specs.declared.declarations.Hook.{Hook}
 use Rattle.sp_typed_units.specs.declared.declarations.HookOf.{HookOf}
 use Rattle.sp_typed_units.specs.declared.declarations.HookOf.TheVariants as hook_of
-use Rattle.sp_bodies.specs.Calls.{has_current, is_foreach, runs_before, put_in_order, in_order, bodies_of, numbers, hook_bodies}
-use Rattle.sp_bodies.specs.Units.{is_hook, is_of_unit}
+use Rattle.sp_meaning.specs.Hooks.{has_current, is_foreach, runs_before, put_in_order, in_order, bodies_of, numbers, hook_bodies, is_hook, is_of_unit}
 use Rattle.sp_code_programs.specs.programs.Routines.{hook_unit}
 
 -- a body with its number among these, which passes a test of what it is of

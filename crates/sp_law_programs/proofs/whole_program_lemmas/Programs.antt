@@ -3,14 +3,14 @@ use Rattle.std.proofs.Common.{◌≡◌, ℕ, ◌+◌, List, ◌++◌, length, S
 use Rattle.std.specs.Prelude.{slice_get}
 use Rattle.sp_typed_units.specs.declared.declarations.Typed.{Typed}
 use Rattle.sp_typed_units.specs.declared.declarations.Unit.{Unit as TypedUnit}
-use Rattle.sp_running.specs.Reads.{NoWord}
-use Rattle.sp_bodies.specs.Globals.{globals_of}
-use Rattle.sp_bodies.specs.Units.{unit_means}
+use Rattle.sp_meaning_states.specs.Reads.{NoWord}
+use Rattle.sp_meaning.specs.Globals.{globals_of}
+use Rattle.sp_code_meaning.specs.Units.{unit_means}
 use Rattle.sp_code.specs.Machine.{Plain}
 use Rattle.sp_code.specs.Shapes.{Shapes}
 use Rattle.sp_code_programs.specs.exprs.Marked.{Marked, HasAt, Shows}
 use Rattle.sp_code_programs.specs.units.Units.{starter_kinds, starter_code, HasUnit}
-use Rattle.sp_code_programs.specs.programs.Named.{hook_names_of}
+use Rattle.sp_meaning.specs.Names.{hook_names_of}
 use Rattle.sp_code_programs.specs.programs.Currents.{currents_of}
 use Rattle.sp_code_programs.specs.programs.Units.{ending_at, failing_at, units_code, starters_code, kinds_of_unit}
 use Rattle.sp_code_programs.specs.programs.Routines.{routines_of}
@@ -26,7 +26,7 @@ use Rattle.sp_law_programs.proofs.program_laid_lemmas.Laid.{rest_at, laid_progra
 use Rattle.sp_law_programs.proofs.program_laid_lemmas.Placed.{wanted_length}
 use Rattle.sp_law_programs.proofs.program_laid_lemmas.Enters.{laid_functions_enter}
 use Rattle.sp_law_programs.proofs.program_laid_lemmas.Turning.{laid_programs_turn}
-use Rattle.sp_law_programs.specs.unit_told.Told.{first}
+use Rattle.sp_meaning_states.specs.States.{first}
 use Rattle.sp_law_programs.proofs.unit_told_lemmas.Kept.{starters_keep}
 use Rattle.sp_law_programs.specs.whole_program.Laws.{WhatStandsIsTheProgram, UnitsMeanTheirs, ProgramsHaveBodies, ProgramsHaveUnits, ProgramsHaveStarters, StartersAreLast, UnitsHaveKinds, MembersAreListed, FunctionsAreEntered, ProgramsAreSound, ProgramsTurn}
 use Rattle.sp_law_programs.proofs.whole_program_lemmas.Placed.{units_sized, start_among, entry_from, entry_among, entries_counted, starters_sized, Pieces, unit_among, starter_among, all_units_turn, all_starters_turn, all_units_keep, all_starters_keep}

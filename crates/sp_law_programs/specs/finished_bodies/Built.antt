@@ -15,8 +15,8 @@ use Rattle.sp_typed.specs.declared.stmt_words.ValuedOp.TheVariants as valued_is
 use Rattle.sp_typed.specs.Exprs.{Expr, Exprs, leaf, one, two, three, many, none, more}
 use Rattle.sp_typed.specs.Stmts.{Stmt, Stmts, Branches, Cases, bare, valued, assign, print, block, branch, while_loop, for_loop, switch, no_stmts, more_stmts, no_branches, more_branches, no_cases, more_cases}
 use Rattle.sp_typed_units.specs.declared.declarations.Function.{Function}
-use Rattle.sp_bodies.specs.Globals.{Globals}
-use Rattle.sp_bodies.specs.Exprs.{member_named, is_item, local_named}
+use Rattle.sp_meaning.specs.Globals.{Globals}
+use Rattle.sp_meaning.specs.Operations.{member_named, is_item, local_named}
 use Rattle.sp_law_code.specs.exprs.Parts.{OneOf}
 
 -- there is something

@@ -5,11 +5,13 @@ use Rattle.sp_methods.specs.Kinds.{Kind, Bools, Has}
 use Rattle.sp_typed_units.specs.declared.declarations.Function.{Function}
 use Rattle.sp_typed_units.specs.declared.declarations.Hook.{Hook}
 use Rattle.sp_typed_units.specs.declared.declarations.Typed.{Typed}
-use Rattle.sp_running.specs.States.{End, Gives, Fine, Failed, Broke, Continued, Returned, Result, Ends}
-use Rattle.sp_running.specs.Scopes as called_is
-use Rattle.sp_running.specs.Types.{zero_value}
-use Rattle.sp_bodies.specs.Globals.{globals_of}
-use Rattle.sp_bodies.specs.Calls.{zero_slots, function_layout, hook_layout, is_foreach}
+use Rattle.sp_meaning_states.specs.States.{End, Gives, Fine, Failed, Broke, Continued, Returned, Result, Ends}
+use Rattle.sp_meaning_states.specs.Scopes as called_is
+use Rattle.sp_meaning_states.specs.Types.{zero_value}
+use Rattle.sp_meaning.specs.Globals.{globals_of}
+use Rattle.sp_meaning.specs.Calls.{zero_slots}
+use Rattle.sp_code_meaning.specs.Calls.{function_layout, hook_layout}
+use Rattle.sp_meaning.specs.Hooks.{is_foreach}
 use Rattle.sp_code.specs.Machine.{Plain}
 use Rattle.sp_code.specs.Shapes.{Shapes, Round, OfFunction, OfHook, AlwaysHave, Enters, Holds}
 use Rattle.sp_law_code.specs.bodies.Fits.{StmtFits}

@@ -8,13 +8,15 @@ use Rattle.sp_typed.specs.Stmts.{Stmt}
 use Rattle.sp_typed_units.specs.declared.declarations.Function.{Function}
 use Rattle.sp_typed_units.specs.declared.declarations.Hook.{Hook}
 use Rattle.sp_typed_units.specs.declared.declarations.Typed.{Typed}
-use Rattle.sp_running.specs.States.{State, Unfinished, Result, Ends}
-use Rattle.sp_running.specs.Scopes as called_is
-use Rattle.sp_running.specs.Telling.{Names}
-use Rattle.sp_bodies.specs.Globals.{Layout, globals_of}
-use Rattle.sp_bodies.specs.Exprs.{expr_means}
-use Rattle.sp_bodies.specs.Stmts.{stmt_means}
-use Rattle.sp_bodies.specs.Calls.{is_foreach, body_means, call_means, hook_means, hooks_mean}
+use Rattle.sp_meaning_states.specs.States.{State, Unfinished, Result, Ends}
+use Rattle.sp_meaning_states.specs.Scopes as called_is
+use Rattle.sp_meaning_states.specs.Telling.{Names}
+use Rattle.sp_code_meaning.specs.Layouts.{Layout}
+use Rattle.sp_meaning.specs.Globals.{globals_of}
+use Rattle.sp_code_meaning.specs.Exprs.{expr_means}
+use Rattle.sp_code_meaning.specs.Stmts.{stmt_means}
+use Rattle.sp_meaning.specs.Hooks.{is_foreach}
+use Rattle.sp_code_meaning.specs.Calls.{body_means, call_means, hook_means, hooks_mean}
 use Rattle.sp_code.specs.Machine.{Plain}
 use Rattle.sp_code.specs.Shapes.{Shapes, Round, OfFunction, Enters, Holds}
 use Rattle.sp_code_programs.specs.exprs.Code.{kind_of}

@@ -27,11 +27,12 @@ use Rattle.sp_typed_units.specs.declared.declarations.Function.{Function}
 use Rattle.sp_typed_units.specs.declared.declarations.Hook.{Hook}
 use Rattle.sp_typed_units.specs.declared.declarations.HookOf.TheVariants as hook_of
 use Rattle.sp_typed_units.specs.declared.declarations.Typed.{Typed}
-use Rattle.sp_running.specs.States.{Main, State, End, Gives, Fine, Failed, Broke, Unfinished, Result, Ends, ends, error_at}
-use Rattle.sp_running.specs.Telling.{Names}
-use Rattle.sp_bodies.specs.Globals.{Layout, globals_of}
-use Rattle.sp_bodies.specs.Stmts.{stmt_means}
-use Rattle.sp_bodies.specs.Calls.{call_means, hook_means, hooks_mean}
+use Rattle.sp_meaning_states.specs.States.{Main, State, End, Gives, Fine, Failed, Broke, Unfinished, Result, Ends, ends, error_at}
+use Rattle.sp_meaning_states.specs.Telling.{Names}
+use Rattle.sp_code_meaning.specs.Layouts.{Layout}
+use Rattle.sp_meaning.specs.Globals.{globals_of}
+use Rattle.sp_code_meaning.specs.Stmts.{stmt_means}
+use Rattle.sp_code_meaning.specs.Calls.{call_means, hook_means, hooks_mean}
 use Rattle.sp_code.specs.Machine.{Body, Plain}
 use Rattle.sp_code.specs.Shapes.{BodyKinds, Shape, Shapes, Round, OfFunction, body_shape, Holds}
 use Rattle.sp_code_programs.specs.units.Bodies.{function_entry}

@@ -8,10 +8,11 @@ use Rattle.sp_typed_units.specs.declared.declarations.Typed.{Typed}
 use Rattle.sp_typed_units.specs.declared.declarations.Unit.{Unit as TypedUnit}
 use Rattle.sp_typed_units.specs.declared.declarations.Variable.{Variable}
 use Rattle.sp_typed_units.specs.Parts.{Part, Parts, field, no_parts, more_parts, parts}
-use Rattle.sp_running.specs.Scopes as called_is
-use Rattle.sp_bodies.specs.Globals.{globals_of}
-use Rattle.sp_bodies.specs.Calls.{is_foreach}
-use Rattle.sp_bodies.specs.Units.{integer_field, last_order, module_order, is_of_unit, is_plain}
+use Rattle.sp_meaning_states.specs.Scopes as called_is
+use Rattle.sp_meaning.specs.Globals.{globals_of}
+use Rattle.sp_meaning.specs.Hooks.{is_foreach, is_of_unit}
+use Rattle.sp_meaning.specs.Integers.{integer_field, last_order, module_order}
+use Rattle.sp_meaning.specs.Units.{is_plain}
 use Rattle.sp_code.specs.Machine.{Plain}
 use Rattle.sp_code.specs.Shapes.{Shapes, OfHook, Enters}
 use Rattle.sp_law_programs.specs.finished_bodies.Built.{IsThere, ExprIsBuilt, StmtIsBuilt}

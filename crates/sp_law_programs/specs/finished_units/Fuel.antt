@@ -5,17 +5,16 @@ use Rattle.sp_value.specs.Val.{Val, unit}
 use Rattle.sp_methods.specs.Kinds.{Kind, Have}
 use Rattle.sp_typed_units.specs.declared.declarations.Typed.{Typed}
 use Rattle.sp_typed_units.specs.declared.declarations.Unit.{Unit as TypedUnit}
-use Rattle.sp_running.specs.States.{Reading, State, End, Gives, Failed, Need}
-use Rattle.sp_running.specs.Reads.{Ask, Read}
-use Rattle.sp_running.specs.Telling.{Names}
-use Rattle.sp_bodies.specs.Units.{unit_means}
+use Rattle.sp_meaning_states.specs.States.{Reading, State, End, Gives, Failed, Need, end_of}
+use Rattle.sp_meaning_states.specs.Reads.{Ask, Read}
+use Rattle.sp_meaning_states.specs.Telling.{Names}
+use Rattle.sp_code_meaning.specs.Units.{unit_means}
 use Rattle.sp_code.specs.Machine.{Plain}
 use Rattle.sp_code.specs.Shapes.{UnitKinds, Shapes, Holds}
 use Rattle.sp_law_code.specs.units.Fits.{UnitFits}
 use Rattle.sp_law_code.specs.units.Keeps.{AreKindsOf}
 use Rattle.sp_law_programs.specs.finished_bodies.Finished.{FunctionsFit}
 use Rattle.sp_law_programs.specs.finished_bodies.Laws.{IsTheSameAtMore}
-use Rattle.sp_law_programs.specs.unit_told.Told.{end_of}
 use Rattle.sp_law_programs.specs.finished_units.Built.{UnitIsBuilt, HooksFit}
 
 -- More fuel changes nothing of a unit that is finished, whatever stands in it.

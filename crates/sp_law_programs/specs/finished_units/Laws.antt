@@ -4,15 +4,15 @@ use Rattle.sp_base.specs.Input.{Close, held_open, ended}
 use Rattle.sp_events.specs.declared.event.What.{What}
 use Rattle.sp_value.specs.Val.{Val, unit}
 use Rattle.sp_typed_units.specs.declared.declarations.Typed.{Typed}
-use Rattle.sp_running.specs.States.{Reading, End, Gives, Failed}
-use Rattle.sp_running.specs.Reads.{Ask, Read, Verdict, reads}
+use Rattle.sp_meaning_states.specs.States.{Reading, End, Gives, Failed, end_of, events_of}
+use Rattle.sp_meaning_states.specs.Reads.{Ask, Read, Verdict, reads}
 use Rattle.sp_code.specs.Machine.{Plain, Config, step}
 use Rattle.sp_code.specs.Runs.{Comes}
 use Rattle.sp_code.specs.Shapes.{Shapes}
 use Rattle.sp_law_machine.specs.continues.Laws.{IsSteady}
 use Rattle.sp_law_machine.specs.ends.Ending.{IsStop}
 use Rattle.sp_law_programs.specs.finished_bodies.Laws.{IsFinished}
-use Rattle.sp_law_programs.specs.unit_told.Told.{started, meant, end_of, events_of, IsNeed, Tells}
+use Rattle.sp_law_programs.specs.unit_told.Told.{started, meant, IsNeed, Tells}
 use Rattle.sp_law_programs.specs.finished_units.Fuel.{IsUnitEnd}
 use Rattle.sp_law_programs.specs.finished_units.Meaning.{meaning, RunsUnit}
 

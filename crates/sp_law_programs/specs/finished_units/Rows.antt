@@ -25,10 +25,10 @@ use Rattle.sp_typed_units.specs.declared.readings.ReadOp.{ReadOp}
 use Rattle.sp_typed_units.specs.declared.readings.ReadOp.TheVariants as read_is
 use Rattle.sp_typed_units.specs.Specs.{read}
 use Rattle.sp_typed_units.specs.Parts.{Part, field}
-use Rattle.sp_running.specs.States.{Reading, End, Gives, Fine, Failed, Backs, Need, Unfinished, Result, Ends}
-use Rattle.sp_running.specs.Reads.{Ask, Read, reads}
-use Rattle.sp_bodies.specs.Globals.{globals_of}
-use Rattle.sp_bodies.specs.Units.{unit_means}
+use Rattle.sp_meaning_states.specs.States.{Reading, End, Gives, Fine, Failed, Backs, Need, Unfinished, Result, Ends, first, end_of, state_of}
+use Rattle.sp_meaning_states.specs.Reads.{Ask, Read, reads}
+use Rattle.sp_meaning.specs.Globals.{globals_of}
+use Rattle.sp_code_meaning.specs.Units.{unit_means}
 use Rattle.sp_code.specs.Machine.{Body, Plain, Config, step}
 use Rattle.sp_code.specs.Runs.{Comes}
 use Rattle.sp_code.specs.Shapes.{UnitKinds, BodyKinds, Shapes, OfHook, body_shape}
@@ -37,7 +37,7 @@ use Rattle.sp_code_programs.specs.units.Bodies.{hook_entry}
 use Rattle.sp_code_programs.specs.units.Units.{slot_kinds}
 use Rattle.sp_law_code.specs.units.Fits.{UnitFits}
 use Rattle.sp_law_programs.specs.finished_bodies.Finished.{HookFits, FunctionsFit}
-use Rattle.sp_law_programs.specs.unit_told.Told.{first, started, meant, end_of, state_of}
+use Rattle.sp_law_programs.specs.unit_told.Told.{started, meant}
 use Rattle.sp_law_programs.specs.unit_told.Rows.{here, byte, one_field, hook, list, name, names, program, starts, byte_kinds, shapes, fits, kinds, none, none_is_steady}
 use Rattle.sp_law_programs.specs.finished_units.Built.{HookIsBuilt, PartIsBuilt, UnitIsBuilt, HooksFit}
 use Rattle.sp_law_programs.specs.finished_units.Fuel.{IsUnitEnd, UnitsAreFinished}

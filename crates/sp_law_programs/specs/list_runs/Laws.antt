@@ -8,22 +8,22 @@ use Rattle.sp_value.specs.Val.{Val}
 use Rattle.sp_methods.specs.Kinds.{Have}
 use Rattle.sp_typed_units.specs.declared.declarations.Typed.{Typed}
 use Rattle.sp_typed_units.specs.declared.declarations.Unit.{Unit as TypedUnit}
-use Rattle.sp_running.specs.States.{Reading, Result}
-use Rattle.sp_running.specs.Reads.{Ask, Read, Verdict, reads}
+use Rattle.sp_meaning_states.specs.States.{Reading, Result, end_of, events_of}
+use Rattle.sp_meaning_states.specs.Reads.{Ask, Read, Verdict, reads}
 use Rattle.sp_code.specs.declared.program.Program.{Program}
 use Rattle.sp_code.specs.Machine.{Plain, Config, step}
 use Rattle.sp_code.specs.Programs.{plain_of, shapes_of, IsSoundProgram}
 use Rattle.sp_code.specs.Runs.{Comes}
 use Rattle.sp_code.specs.Shapes.{Shapes, Shaped}
 use Rattle.sp_code_programs.specs.units.Units.{starter_kinds}
-use Rattle.sp_code_programs.specs.programs.Named.{hook_names_of}
+use Rattle.sp_meaning.specs.Names.{hook_names_of}
 use Rattle.sp_code_programs.specs.programs.Whole.{starter_at, IsProgramOf, IsCompiled}
 use Rattle.sp_law_meaning.specs.Standing.{ListStands}
 use Rattle.sp_law_machine.specs.continues.Laws.{IsSteady}
 use Rattle.sp_law_machine.specs.ends.Ending.{IsStop}
 use Rattle.sp_law_programs.specs.finished_bodies.Finished.{FunctionsFit}
 use Rattle.sp_law_programs.specs.finished_bodies.Laws.{IsFinished}
-use Rattle.sp_law_programs.specs.unit_told.Told.{started, end_of, events_of, IsNeed, Tells}
+use Rattle.sp_law_programs.specs.unit_told.Told.{started, IsNeed, Tells}
 use Rattle.sp_law_programs.specs.finished_units.Built.{UnitIsBuilt, HooksFit}
 use Rattle.sp_law_programs.specs.finished_units.Fuel.{IsUnitEnd}
 use Rattle.sp_law_programs.specs.finished_units.Meaning.{meaning, RunsUnit}

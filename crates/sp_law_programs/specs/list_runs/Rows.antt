@@ -13,10 +13,10 @@ use Rattle.sp_typed_units.specs.declared.declarations.Function.{Function}
 use Rattle.sp_typed_units.specs.declared.declarations.Hook.{Hook}
 use Rattle.sp_typed_units.specs.declared.declarations.Typed.{Typed}
 use Rattle.sp_typed_units.specs.declared.declarations.Unit.{Unit as TypedUnit}
-use Rattle.sp_running.specs.States.{Gives, Need, Result}
-use Rattle.sp_running.specs.Reads.{reads}
-use Rattle.sp_running.specs.Scopes as called_is
-use Rattle.sp_bodies.specs.Globals.{globals_of}
+use Rattle.sp_meaning_states.specs.States.{Gives, Need, Result, end_of}
+use Rattle.sp_meaning_states.specs.Reads.{reads}
+use Rattle.sp_meaning_states.specs.Scopes as called_is
+use Rattle.sp_meaning.specs.Globals.{globals_of}
 use Rattle.sp_code.specs.declared.program.Program.{Program}
 use Rattle.sp_code.specs.Shapes.{OfFunction, Enters}
 use Rattle.sp_code_programs.specs.units.Units.{starter_kinds}
@@ -24,7 +24,6 @@ use Rattle.sp_code_programs.specs.programs.Rows.{here, same, seven}
 use Rattle.sp_code_programs.specs.programs.Whole.{IsCompiled}
 use Rattle.sp_code_programs.specs.programs.WholeRows.{with_hook, with_parameter, told_byte, whole_list, whole_program, whole_shapes, it_is_the_program}
 use Rattle.sp_law_programs.specs.finished_bodies.Built.{StmtIsBuilt}
-use Rattle.sp_law_programs.specs.unit_told.Told.{end_of}
 use Rattle.sp_law_programs.specs.unit_told.Rows.{none}
 use Rattle.sp_law_programs.specs.finished_units.Built.{HookIsBuilt, UnitIsBuilt}
 use Rattle.sp_law_programs.specs.finished_units.Meaning.{meaning, RunsUnit}

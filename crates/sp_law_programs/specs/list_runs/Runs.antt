@@ -7,9 +7,9 @@ use Rattle.sp_typed_units.specs.declared.declarations.Function.{Function}
 use Rattle.sp_typed_units.specs.declared.declarations.Hook.{Hook}
 use Rattle.sp_typed_units.specs.declared.declarations.Typed.{Typed}
 use Rattle.sp_typed_units.specs.declared.declarations.Unit.{Unit as TypedUnit}
-use Rattle.sp_running.specs.States.{Reading, Result}
-use Rattle.sp_running.specs.Reads.{Ask, Read}
-use Rattle.sp_bodies.specs.Globals.{globals_of}
+use Rattle.sp_meaning_states.specs.States.{Reading, Result}
+use Rattle.sp_meaning_states.specs.Reads.{Ask, Read}
+use Rattle.sp_meaning.specs.Globals.{globals_of}
 use Rattle.sp_code.specs.declared.program.Program.{Program}
 use Rattle.sp_code_programs.specs.units.Units.{starter_kinds}
 use Rattle.sp_code_programs.specs.programs.Whole.{IsCompiled}

@@ -5,8 +5,9 @@ use Rattle.sp_typed.specs.Stmts.{Stmt}
 use Rattle.sp_typed_units.specs.declared.declarations.Function.{Function}
 use Rattle.sp_typed_units.specs.declared.declarations.Hook.{Hook}
 use Rattle.sp_typed_units.specs.declared.declarations.Typed.{Typed}
-use Rattle.sp_bodies.specs.Globals.{Globals, Layout, globals_of}
-use Rattle.sp_bodies.specs.Calls.{function_layout, hook_layout}
+use Rattle.sp_meaning.specs.Globals.{Globals, globals_of}
+use Rattle.sp_code_meaning.specs.Layouts.{Layout}
+use Rattle.sp_code_meaning.specs.Calls.{function_layout, hook_layout}
 use Rattle.sp_code.specs.Machine.{Plain}
 use Rattle.sp_code.specs.Shapes.{Shape, Shapes}
 use Rattle.sp_code_programs.specs.exprs.Code.{kind_at}

@@ -12,9 +12,9 @@ use Rattle.sp_typed.specs.declared.words.ManyOp.TheVariants as many_is
 use Rattle.sp_typed.specs.Exprs.{Expr, Exprs, leaf, many, exprs}
 use Rattle.sp_typed_units.specs.declared.declarations.Function.{Function}
 use Rattle.sp_typed_units.specs.declared.declarations.Hook.{Hook}
-use Rattle.sp_running.specs.Scopes.{Called}
-use Rattle.sp_bodies.specs.Calls.{has_current}
-use Rattle.sp_bodies.specs.Globals.{Globals, globals_of}
+use Rattle.sp_meaning_states.specs.Scopes.{Called}
+use Rattle.sp_meaning.specs.Hooks.{has_current}
+use Rattle.sp_meaning.specs.Globals.{Globals, globals_of}
 use Rattle.sp_code.specs.Shapes.{OfFunction, OfHook, IsSound, Keeps, Enters}
 use Rattle.sp_code.specs.Turns.{Turns}
 use Rattle.sp_code_programs.specs.exprs.Code.{kind_at}

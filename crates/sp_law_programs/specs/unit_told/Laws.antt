@@ -4,15 +4,15 @@ use Rattle.sp_base.specs.Input.{Close, held_open, ended}
 use Rattle.sp_events.specs.declared.event.What.{What}
 use Rattle.sp_value.specs.Val.{Val}
 use Rattle.sp_typed_units.specs.declared.declarations.Typed.{Typed}
-use Rattle.sp_running.specs.States.{Error, Reading, State, Gives, Failed, Returned, Need}
-use Rattle.sp_running.specs.Reads.{Ask, Read, Verdict, reads}
+use Rattle.sp_meaning_states.specs.States.{Error, Reading, State, Gives, Failed, Returned, Need, end_of, events_of}
+use Rattle.sp_meaning_states.specs.Reads.{Ask, Read, Verdict, reads}
 use Rattle.sp_code.specs.Machine.{Frame, Plain, Config, Next, Waits, Over, step, low_of}
 use Rattle.sp_code.specs.Runs.{Comes}
 use Rattle.sp_law_machine.specs.continues.Laws.{IsSteady, IsWait}
 use Rattle.sp_law_machine.specs.continues.Windows.{From}
 use Rattle.sp_law_machine.specs.ends.Ending.{IsStop}
 use Rattle.sp_law_programs.specs.finished_bodies.Laws.{IsFinished}
-use Rattle.sp_law_programs.specs.unit_told.Told.{started, Starts, meant, end_of, events_of, MayEndUnit, IsNeed, told_end, Tells}
+use Rattle.sp_law_programs.specs.unit_told.Told.{started, Starts, meant, MayEndUnit, IsNeed, told_end, Tells}
 
 -- A run that comes to a stop passes each configuration to which a run from the same one comes.
 abbrev pub RunsPass : Type 0

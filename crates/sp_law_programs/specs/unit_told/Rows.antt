@@ -23,10 +23,10 @@ use Rattle.sp_typed_units.specs.declared.declarations.Unit.{Unit as TypedUnit}
 use Rattle.sp_typed_units.specs.declared.readings.ReadOp.TheVariants as read_is
 use Rattle.sp_typed_units.specs.Specs.{read}
 use Rattle.sp_typed_units.specs.Parts.{field}
-use Rattle.sp_running.specs.States.{Reading, Gives, Fine, Failed, Need, Unfinished, Result, Ends, error_at}
-use Rattle.sp_running.specs.Reads.{Ask, Read, Verdict, NoToken, Match, reads}
-use Rattle.sp_running.specs.Types.{kind_of_type}
-use Rattle.sp_bodies.specs.Globals.{globals_of}
+use Rattle.sp_meaning_states.specs.States.{Reading, Gives, Fine, Failed, Need, Unfinished, Result, Ends, error_at, first, state_of}
+use Rattle.sp_meaning_states.specs.Reads.{Ask, Read, Verdict, NoToken, Match, reads}
+use Rattle.sp_meaning_states.specs.Types.{kind_of_type}
+use Rattle.sp_meaning.specs.Globals.{globals_of}
 use Rattle.sp_code.specs.declared.instr.Instr.TheVariants as does
 use Rattle.sp_code.specs.Machine.{Plain, Config, Next, Goes, Over, step}
 use Rattle.sp_code.specs.Shapes.{UnitKinds, Shape, Shapes, OfUnit, OfEnding, OfFailing, OfFunction, OfHook, push, with_operands, body_shape}
@@ -38,7 +38,7 @@ use Rattle.sp_law_code.specs.units.Fits.{UnitFits}
 use Rattle.sp_law_code.specs.units.Keeps.{AreKindsOf}
 use Rattle.sp_law_machine.specs.continues.Laws.{IsSteady}
 use Rattle.sp_law_code.specs.bodies.Parts.{StmtIsCounted, BodiesAreCounted}
-use Rattle.sp_law_programs.specs.unit_told.Told.{first, started, Starts, meant, state_of, MayEndUnit, told_end, Tells}
+use Rattle.sp_law_programs.specs.unit_told.Told.{started, Starts, meant, MayEndUnit, told_end, Tells}
 
 abbrev pub here : Span
 here = record { from = 0; to = 0 }

@@ -1,33 +1,17 @@
 -- Where a run of a unit begins, what the unit means from there, and what a machine has told where it stops.
-use Rattle.std.specs.Prelude.{◌≡◌, ℕ, false, List, [], length, Some, None, slice_get}
+use Rattle.std.specs.Prelude.{◌≡◌, ℕ, List, [], length, Some, slice_get}
 use Rattle.sp_events.specs.declared.event.What.{What}
 use Rattle.sp_value.specs.Val.{Val, unit}
 use Rattle.sp_typed_units.specs.declared.declarations.Typed.{Typed}
 use Rattle.sp_typed_units.specs.declared.declarations.Unit.{Unit as TypedUnit}
-use Rattle.sp_running.specs.States.{Main, Reading, State, End, Gives, Failed, Returned, Backs, Rejected, Need, Unfinished, Result, Ends}
-use Rattle.sp_running.specs.Reads.{Ask, Read}
-use Rattle.sp_bodies.specs.Units.{unit_means}
+use Rattle.sp_meaning_states.specs.States.{Reading, State, End, Gives, Failed, Returned, Backs, Rejected, Need, Unfinished, Result}
+use Rattle.sp_meaning_states.specs.Reads.{Ask, Read}
+use Rattle.sp_code_meaning.specs.Units.{unit_means}
 use Rattle.sp_code.specs.Machine.{Frame, Plain, Config, At, Ending, Next, Waits, Over, step, low_of}
 use Rattle.sp_code_programs.specs.units.Bodies.{HasBodies}
 use Rattle.sp_code_programs.specs.units.Units.{HasUnits, HasStarter}
 use Rattle.sp_law_code.specs.bodies.Parts.{BodiesAreCounted}
 use Rattle.sp_law_code.specs.units.Parts.{UnitsAreCounted}
-
--- the state in which a run begins: no unit is entered, and the input is the fiber's own bytes, of which none was read
-abbrev pub first : State
-first =
-    record {
-      instances = [];
-      self = 0;
-      locals = [];
-      now = record { source = Main; place = 0; high = 0; count = 0; views = [] };
-      outer = [];
-      level = 0;
-      stamps = 0;
-      depth = 0;
-      tries = false;
-      move = None;
-    }
 
 -- a machine before a starter, with the arguments of its unit as operands, the last on top
 abbrev pub started : ℕ → List Val → Config
@@ -48,16 +32,6 @@ pub record Starts (p : Plain) (hook_names : List (List ℕ)) (list : Typed) (at 
 -- what the unit means with these arguments from the first state on; at most n calls and rounds are inside one another
 abbrev pub meant : Plain → List (List ℕ) → Typed → (Reading → Ask → Read) → ℕ → ℕ → List Val → Result
 meant p hook_names list reads n u ws = unit_means p.names hook_names list p.limits reads n u ws first
-
--- how a part ends, what it tells, and the state behind it
-abbrev pub end_of : Result → End
-end_of (Ends how es st) = how
-
-abbrev pub events_of : Result → List What
-events_of (Ends how es st) = es
-
-abbrev pub state_of : Result → State
-state_of (Ends how es st) = st
 
 -- the ends that a unit has, whose instance has this number: it gives that instance, fails, steps back, is rejected, or waits
 abbrev pub MayEndUnit : ℕ → End → Type 0

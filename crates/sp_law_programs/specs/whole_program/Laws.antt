@@ -8,11 +8,11 @@ use Rattle.sp_typed_units.specs.declared.declarations.Member.{Member}
 use Rattle.sp_typed_units.specs.declared.declarations.Parameter.{Parameter}
 use Rattle.sp_typed_units.specs.declared.declarations.Typed.{Typed}
 use Rattle.sp_typed_units.specs.declared.declarations.Unit.{Unit as TypedUnit}
-use Rattle.sp_running.specs.States.{Reading}
-use Rattle.sp_running.specs.Reads.{Ask, Read}
-use Rattle.sp_running.specs.Scopes as called_is
-use Rattle.sp_running.specs.Types.{kind_of_type}
-use Rattle.sp_bodies.specs.Globals.{globals_of}
+use Rattle.sp_meaning_states.specs.States.{Reading}
+use Rattle.sp_meaning_states.specs.Reads.{Ask, Read}
+use Rattle.sp_meaning_states.specs.Scopes as called_is
+use Rattle.sp_meaning_states.specs.Types.{kind_of_type}
+use Rattle.sp_meaning.specs.Globals.{globals_of}
 use Rattle.sp_code.specs.Machine.{Plain}
 use Rattle.sp_code.specs.declared.program.Program.{Program}
 use Rattle.sp_code.specs.Programs.{IsSoundProgram}
@@ -24,7 +24,7 @@ use Rattle.sp_code_programs.specs.units.Bodies.{HasBodies}
 use Rattle.sp_code_programs.specs.units.Units.{starter_kinds, HasUnits, HasStarter}
 use Rattle.sp_code_programs.specs.programs.Routines.{parameter_kinds}
 use Rattle.sp_code_programs.specs.programs.Programs.{entries_from, kinds_of_locals}
-use Rattle.sp_code_programs.specs.programs.Named.{hook_names_of, value_names_of}
+use Rattle.sp_meaning.specs.Names.{hook_names_of, value_names_of}
 use Rattle.sp_code_programs.specs.programs.Currents.{current_kind, currents_of}
 use Rattle.sp_code_programs.specs.programs.Units.{unit_entries, kinds_of_units}
 use Rattle.sp_code_programs.specs.programs.Whole.{all_routines, units_start, starter_at, whole_code, IsProgramOf, IsCompiled}

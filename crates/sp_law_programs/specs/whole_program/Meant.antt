@@ -3,11 +3,10 @@ use Rattle.std.specs.Prelude.{ℕ, List}
 use Rattle.sp_base.specs.declared.places.Limits.{Limits}
 use Rattle.sp_value.specs.Val.{Val}
 use Rattle.sp_typed_units.specs.declared.declarations.Typed.{Typed}
-use Rattle.sp_running.specs.States.{Reading, Result}
-use Rattle.sp_running.specs.Reads.{Ask, Read}
-use Rattle.sp_bodies.specs.Units.{unit_means}
-use Rattle.sp_code_programs.specs.programs.Named.{hook_names_of, value_names_of}
-use Rattle.sp_law_programs.specs.unit_told.Told.{first}
+use Rattle.sp_meaning_states.specs.States.{Reading, Result, first}
+use Rattle.sp_meaning_states.specs.Reads.{Ask, Read}
+use Rattle.sp_code_meaning.specs.Units.{unit_means}
+use Rattle.sp_meaning.specs.Names.{hook_names_of, value_names_of}
 
 -- What the unit u means within limits with these arguments, the last first, from the first state on; at most n calls and rounds are inside
 -- one another.

@@ -9,10 +9,9 @@ use Rattle.sp_typed_units.specs.declared.declarations.Function.{Function}
 use Rattle.sp_typed_units.specs.declared.declarations.Hook.{Hook}
 use Rattle.sp_typed_units.specs.declared.declarations.MemberKind.TheVariants as member_is
 use Rattle.sp_typed_units.specs.declared.declarations.Unit.{Unit as TypedUnit}
-use Rattle.sp_running.specs.Scopes.{Called}
-use Rattle.sp_bodies.specs.Calls.{has_current}
-use Rattle.sp_bodies.specs.Globals.{globals_of}
-use Rattle.sp_bodies.specs.Units.{is_of_unit}
+use Rattle.sp_meaning_states.specs.Scopes.{Called}
+use Rattle.sp_meaning.specs.Hooks.{has_current, is_of_unit}
+use Rattle.sp_meaning.specs.Globals.{globals_of}
 use Rattle.sp_code.specs.Shapes.{OfFunction, Enters, Shaped, IsSound}
 use Rattle.sp_code.specs.Turns.{Turns}
 use Rattle.sp_code_programs.specs.exprs.Code.{kind_at}

@@ -6,9 +6,9 @@ use Rattle.sp_methods.specs.Kinds.{Kind}
 use Rattle.sp_typed.specs.Stmts.{Stmt}
 use Rattle.sp_typed_units.specs.declared.declarations.Hook.{Hook}
 use Rattle.sp_typed_units.specs.declared.declarations.Typed.{Typed}
-use Rattle.sp_running.specs.Scopes as called_is
-use Rattle.sp_bodies.specs.Globals.{Globals, globals_of}
-use Rattle.sp_bodies.specs.Calls.{is_foreach, told_count}
+use Rattle.sp_meaning_states.specs.Scopes as called_is
+use Rattle.sp_meaning.specs.Globals.{Globals, globals_of}
+use Rattle.sp_meaning.specs.Hooks.{is_foreach, told_count}
 use Rattle.sp_code.specs.declared.program.BodyCode.{BodyCode}
 use Rattle.sp_code.specs.declared.program.BodyOf.{BodyOf}
 use Rattle.sp_code.specs.Machine.{Body}
@@ -17,12 +17,12 @@ use Rattle.sp_code.specs.Programs.{called_as, name_of, told_of, bodies_of, kind_
 use Rattle.sp_emit.specs.Kinds.{Grows}
 use Rattle.sp_emit.specs.Numbered.{RoundBelow}
 use Rattle.sp_emit.specs.Emitted.{Emitted, TurnsTo}
-use Rattle.sp_emit_expr.specs.declared.around.Around.{Around}
-use Rattle.sp_emit_expr.specs.Around.{layout_in}
-use Rattle.sp_emit_stmt.specs.declared.bodies.Frame.{Frame}
+use Rattle.sp_lower_expr.specs.declared.around.Around.{Around}
+use Rattle.sp_lower_expr.specs.Around.{layout_in}
+use Rattle.sp_lower_stmt.specs.declared.bodies.Frame.{Frame}
 use Rattle.sp_code_programs.specs.programs.Routines.{Routine, entry_at, hook_routine}
 use Rattle.sp_code_programs.specs.programs.Programs.{entries_from, kinds_of_locals, routines_code}
-use Rattle.sp_code_programs.specs.programs.Named.{hook_name}
+use Rattle.sp_meaning.specs.Names.{hook_name}
 use Rattle.sp_code_programs.specs.programs.Currents.{current_kind}
 use Rattle.sp_code_programs.specs.programs.Whole.{all_routines}
 use Rattle.sp_lower.specs.declared.bodies.Bodies.{Bodies}

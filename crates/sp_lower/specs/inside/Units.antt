@@ -3,7 +3,7 @@ use Rattle.std.specs.Prelude.{◌≡◌, ℕ, List, ◌++◌, length}
 use Rattle.sp_methods.specs.Kinds.{Kind}
 use Rattle.sp_typed_units.specs.declared.declarations.Typed.{Typed}
 use Rattle.sp_typed_units.specs.declared.declarations.Unit.{Unit as TypedUnit}
-use Rattle.sp_bodies.specs.Globals.{globals_of}
+use Rattle.sp_meaning.specs.Globals.{globals_of}
 use Rattle.sp_code.specs.declared.program.UnitCode.{UnitCode}
 use Rattle.sp_code.specs.declared.program.UnitKinds.{UnitKinds}
 use Rattle.sp_code.specs.Machine as machine
@@ -13,7 +13,7 @@ use Rattle.sp_code_programs.specs.units.Units.{slot_kinds, unit_entry}
 use Rattle.sp_emit.specs.Kinds.{Grows}
 use Rattle.sp_emit.specs.Emitted.{Emitted, TurnsTo}
 use Rattle.sp_code_programs.specs.programs.Routines.{parameter_kinds}
-use Rattle.sp_code_programs.specs.programs.Named.{member_names, names_of_members}
+use Rattle.sp_meaning.specs.Names.{member_names, names_of_members}
 use Rattle.sp_code_programs.specs.programs.Units.{ending_at, failing_at, whole_unit_code, units_code, unit_entries, starters_code, member_kinds, kinds_of_units}
 use Rattle.sp_lower_tables.specs.Numbers.{AreNumbersOf}
 use Rattle.sp_lower.specs.declared.units.Addresses.{Addresses}

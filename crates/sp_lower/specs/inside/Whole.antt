@@ -1,7 +1,7 @@
 -- All code of a list, and the program that is made of it.
 use Rattle.std.specs.Prelude.{◌≡◌, List}
 use Rattle.sp_typed_units.specs.declared.declarations.Typed.{Typed}
-use Rattle.sp_bodies.specs.Globals.{globals_of}
+use Rattle.sp_meaning.specs.Globals.{globals_of}
 use Rattle.sp_code.specs.declared.program.Labels.{Labels}
 use Rattle.sp_code.specs.declared.program.Ranges.{Ranges}
 use Rattle.sp_code.specs.declared.program.Program.{Program}
@@ -9,7 +9,7 @@ use Rattle.sp_code.specs.Programs.{bodies_of, units_of, member_names, label_name
 use Rattle.sp_emit.specs.Emitted.{Emitted}
 use Rattle.sp_emit.specs.Emission.{IsEmission}
 use Rattle.sp_code_programs.specs.programs.Programs.{entries_from, kinds_of_locals}
-use Rattle.sp_code_programs.specs.programs.Named.{names_of_members, names_of_labels, names_of_ranges}
+use Rattle.sp_meaning.specs.Names.{names_of_members, names_of_labels, names_of_ranges}
 use Rattle.sp_code_programs.specs.programs.Units.{unit_entries, kinds_of_units}
 use Rattle.sp_code_programs.specs.programs.Whole.{all_routines, units_start, whole_code, IsCompiled}
 use Rattle.sp_lower.specs.declared.programs.Code.{Code}

@@ -3,7 +3,7 @@ use Rattle.std.specs.Prelude.{◌≡◌, ◌<◌, ◌==◌, ℕ, List, length, O
 use Rattle.std.specs.Borrow.{Bor}
 use Rattle.sp_typed_units.specs.declared.declarations.Typed.{Typed}
 use Rattle.sp_typed_units.specs.declared.items.Field.{Field}
-use Rattle.sp_running.specs.Scopes.{is_among}
+use Rattle.sp_meaning_states.specs.Scopes.{is_among}
 use Rattle.sp_code_programs.specs.programs.Currents.{earlier, hooked_field}
 
 -- the field that is noted for a body

@@ -1,7 +1,7 @@
 use Rattle.std.proofs.Common.{None, subst, sym, ap, ◌∙◌}
 use Rattle.sp_rules.specs.Least.{IsLeast, checked}
-use Rattle.sp_list_rules.specs.Told.{values_of}
-use Rattle.sp_list_rules.specs.Wholes.{list_tests}
+use Rattle.sp_rule_lists.specs.Told.{values_of}
+use Rattle.sp_rule_lists.specs.Wholes.{list_tests}
 use Rattle.sp_check_expr.specs.Broken.{BreaksBody}
 use Rattle.sp_check_expr.proofs.bodies.least_of.Goals as goal
 

@@ -1,7 +1,7 @@
 use Rattle.std.proofs.lemmas.Result.{IfOk-weaker}
 use Rattle.sp_rules.specs.Least.{IsLeast}
-use Rattle.sp_checked_list.specs.NameRules.{IsTyped}
-use Rattle.sp_checked_list.specs.Rules.{Breaks, IsAsked}
+use Rattle.sp_type_answers.specs.NameRules.{IsTyped}
+use Rattle.sp_type_answers.specs.Rules.{Breaks, IsAsked}
 use Rattle.sp_check_unit.proofs.Asked.{typed_of_asked, least_of_asked}
 use Rattle.sp_check_unit.proofs.checking.type_and_ask.Goals as goal
 

@@ -1,6 +1,6 @@
 use Rattle.std.proofs.Common.{◌≡◌, drop}
 use Rattle.sp_rules.specs.Least.{checked}
-use Rattle.sp_checked_list.specs.Rules.{limits_from}
+use Rattle.sp_type_answers.specs.Rules.{limits_from}
 use Rattle.sp_check_unit.proofs.limits.note_all_limits.Given as goal
 
 abbrev pub invariant-loop-m : goal.invariant-loop-m

@@ -1,7 +1,7 @@
 use Rattle.std.proofs.Common.{sym}
 use Rattle.sp_front.specs.Asked.{AsksAll, AsksNoMore}
-use Rattle.sp_driver_words.specs.Wants.{wanted_words}
-use Rattle.sp_driver_words.specs.Words.{words_of}
+use Rattle.sp_driver_args.specs.Wants.{wanted_words}
+use Rattle.sp_driver_args.specs.Words.{words_of}
 use Rattle.sp_driver.proofs.Askings.{usage_asks, wanted_asks, refused_by_status}
 use Rattle.sp_driver.proofs.Says.{says_run_of}
 use Rattle.sp_driver.proofs.driver.drive.Goals as goal

@@ -1,7 +1,7 @@
 use Rattle.std.proofs.Common.{◌≡◌, None, sym, subst}
 use Rattle.sp_load.specs.Loads.{trees_of}
 use Rattle.sp_unbuilt.specs.Unbuilt.{first_unbuilt}
-use Rattle.sp_list_laws.specs.fit_list.Passes.{ListPasses}
+use Rattle.sp_law_lists.specs.fit_list.Passes.{ListPasses}
 use Rattle.sp_driver.proofs.ReadModules.{are_formed, are_apart}
 use Rattle.sp_driver.proofs.loaded_lists.loaded_lists_pass.Goals as goal
 

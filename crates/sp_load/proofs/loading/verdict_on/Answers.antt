@@ -1,5 +1,5 @@
 use Rattle.std.proofs.Common.{◌≡◌, sym, subst}
-use Rattle.sp_checked_list.specs.NameRules.{IsTyped}
+use Rattle.sp_type_answers.specs.NameRules.{IsTyped}
 use Rattle.sp_load.proofs.loading.verdict_on.Goals as goal
 
 pub returns-in-Ok : goal.returns-in-Ok

@@ -2,9 +2,9 @@ use Rattle.std.proofs.Common.{List, ℕ, [], ap, length, ◌∙◌}
 use Rattle.sp_value.specs.Val.{Val}
 use Rattle.sp_types.specs.Types.{Ty}
 use Rattle.sp_typed_units.specs.declared.declarations.Parameter.{Parameter}
-use Rattle.sp_running.specs.Scopes as called_is
-use Rattle.sp_bodies.specs.Globals.{globals_of}
-use Rattle.sp_bodies.specs.Calls.{zero_slots}
+use Rattle.sp_meaning_states.specs.Scopes as called_is
+use Rattle.sp_meaning.specs.Globals.{globals_of}
+use Rattle.sp_meaning.specs.Calls.{zero_slots}
 use Rattle.sp_code.specs.Machine.{Body}
 use Rattle.sp_lower.proofs.functions.function_entry.Goals as goal
 

@@ -1,7 +1,7 @@
 use Rattle.std.proofs.Common.{refl, ap, ◌++◌}
 use Rattle.std.specs.Prelude.{None}
 use Rattle.sp_methods.specs.Kinds.{Kind}
-use Rattle.sp_bodies.specs.Globals.{globals_of}
+use Rattle.sp_meaning.specs.Globals.{globals_of}
 use Rattle.sp_code.specs.Shapes.{OfFunction, body_shape}
 use Rattle.sp_code_programs.specs.programs.Routines.{parameter_kinds, slot_kinds}
 use Rattle.sp_lower.proofs.Framed.{framed}

@@ -1,7 +1,7 @@
 use Rattle.std.proofs.Common.{List, ◌++◌, ap, ◌∙◌}
 use Rattle.sp_types.specs.Types.{Ty}
 use Rattle.sp_typed_units.specs.declared.declarations.Parameter.{Parameter}
-use Rattle.sp_bodies.specs.Globals.{globals_of}
+use Rattle.sp_meaning.specs.Globals.{globals_of}
 use Rattle.sp_code_programs.specs.programs.Routines.{parameter_kinds, slot_kinds}
 use Rattle.sp_lower_tables.proofs.Numbered.{gives_all, gives_more, numbers_as}
 use Rattle.sp_lower.proofs.functions.function_locals.Goals as goal

@@ -1,6 +1,6 @@
 use Rattle.std.proofs.Common.{List, ℕ, ap, length, ◌∙◌, None}
 use Rattle.sp_typed_units.specs.declared.declarations.Parameter.{Parameter}
-use Rattle.sp_bodies.specs.Globals.{Layout}
+use Rattle.sp_code_meaning.specs.Layouts.{Layout}
 use Rattle.sp_lower.proofs.functions.function_places.Goals as goal
 
 abbrev layout_with : ℕ → Layout

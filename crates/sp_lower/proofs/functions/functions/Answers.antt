@@ -1,7 +1,7 @@
 use Rattle.std.proofs.Common.{◌+◌, List, drop, subst, ap, arith}
 use Rattle.std.specs.List.{AllByRecursion}
 use Rattle.sp_typed_units.specs.declared.declarations.Function.{Function}
-use Rattle.sp_bodies.specs.Globals.{globals_of}
+use Rattle.sp_meaning.specs.Globals.{globals_of}
 use Rattle.sp_code_programs.specs.programs.Routines.{function_routine, function_routines}
 use Rattle.sp_lower_tables.proofs.Numbered.{next_item, none_left}
 use Rattle.sp_lower.specs.Literals.{FunctionFits}

@@ -1,6 +1,6 @@
 use Rattle.std.proofs.Common.{drop}
 use Rattle.std.specs.List.{AllByRecursion}
-use Rattle.sp_bodies.specs.Globals.{globals_of}
+use Rattle.sp_meaning.specs.Globals.{globals_of}
 use Rattle.sp_code_programs.specs.programs.Routines.{function_routines}
 use Rattle.sp_lower.specs.Literals.{FunctionFits}
 use Rattle.sp_lower.proofs.Laid.{Leads}

@@ -1,7 +1,7 @@
 use Rattle.std.proofs.Common.{List, ap, ◌∙◌}
 use Rattle.sp_typed_units.specs.declared.declarations.Unit.{Unit as TypedUnit}
-use Rattle.sp_running.specs.Scopes as called_is
-use Rattle.sp_code_programs.specs.programs.Named.{hook_name}
+use Rattle.sp_meaning_states.specs.Scopes as called_is
+use Rattle.sp_meaning.specs.Names.{hook_name}
 use Rattle.sp_lower.proofs.hooks.body_of.Goals as goal
 
 pub returns : goal.returns

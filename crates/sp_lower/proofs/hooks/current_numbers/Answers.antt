@@ -1,8 +1,8 @@
 use Rattle.std.proofs.Common.{Option, subst}
 use Rattle.sp_typed_units.specs.declared.items.Field.{Field}
 use Rattle.sp_methods.specs.Kinds.{Unsigned}
-use Rattle.sp_running.specs.Types.{kind_of_type}
-use Rattle.sp_bodies.specs.Globals.{globals_of}
+use Rattle.sp_meaning_states.specs.Types.{kind_of_type}
+use Rattle.sp_meaning.specs.Globals.{globals_of}
 use Rattle.sp_code_programs.specs.programs.Currents.{current_type}
 use Rattle.sp_lower_tables.specs.Numbers.{GivesNumber}
 use Rattle.sp_lower_tables.proofs.Numbered.{gives_two}

@@ -1,8 +1,8 @@
 use Rattle.std.proofs.Common.{◌≡◌, false, List, [], ◌∷◌, if◌then◌else◌, sym, ap, ◌∙◌}
 use Rattle.sp_methods.specs.Kinds.{Unsigned}
 use Rattle.sp_typed_units.specs.declared.declarations.Parameter.{Parameter}
-use Rattle.sp_bodies.specs.Globals.{globals_of}
-use Rattle.sp_bodies.specs.Calls.{has_current}
+use Rattle.sp_meaning.specs.Globals.{globals_of}
+use Rattle.sp_meaning.specs.Hooks.{has_current}
 use Rattle.sp_code_programs.specs.programs.Routines.{parameter_kinds}
 use Rattle.sp_code_programs.specs.programs.Currents.{current_kind}
 use Rattle.sp_lower_tables.proofs.Numbered.{gives_all, numbers_as}

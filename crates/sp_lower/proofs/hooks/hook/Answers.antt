@@ -1,7 +1,7 @@
 use Rattle.std.proofs.Common.{refl}
 use Rattle.std.proofs.lemmas.Result.{on_ok_weaker}
-use Rattle.sp_bodies.specs.Globals.{globals_of}
-use Rattle.sp_code_programs.specs.programs.Named.{hook_name}
+use Rattle.sp_meaning.specs.Globals.{globals_of}
+use Rattle.sp_meaning.specs.Names.{hook_name}
 use Rattle.sp_code_programs.specs.programs.Routines.{hook_routine}
 use Rattle.sp_code_programs.specs.programs.Currents.{current_kind}
 use Rattle.sp_lower.proofs.Framed.{routine_is}

@@ -1,13 +1,14 @@
 use Rattle.std.proofs.Common.{ℕ, List, ap, ◌∙◌}
 use Rattle.sp_value.specs.Val.{Val}
 use Rattle.sp_types.specs.Types.{Ty}
-use Rattle.sp_running.specs.Scopes.{Called}
-use Rattle.sp_bodies.specs.Globals.{globals_of}
-use Rattle.sp_bodies.specs.Calls.{zero_slots, is_foreach}
+use Rattle.sp_meaning_states.specs.Scopes.{Called}
+use Rattle.sp_meaning.specs.Globals.{globals_of}
+use Rattle.sp_meaning.specs.Calls.{zero_slots}
+use Rattle.sp_meaning.specs.Hooks.{is_foreach}
 use Rattle.sp_code.specs.Machine.{Body}
 use Rattle.sp_code.specs.Programs.{name_of, told_of}
 use Rattle.sp_code_programs.specs.units.Bodies.{handed}
-use Rattle.sp_code_programs.specs.programs.Named.{hook_name}
+use Rattle.sp_meaning.specs.Names.{hook_name}
 use Rattle.sp_lower.proofs.hooks.hook_entry.Goals as goal
 
 abbrev entry_with : Called → ℕ → List Val → List ℕ → ℕ → Body

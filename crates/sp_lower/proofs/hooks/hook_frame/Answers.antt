@@ -1,5 +1,5 @@
 use Rattle.std.proofs.Common.{ℕ, Bool, Option, ◌++◌, refl, ap, ◌∙◌}
-use Rattle.sp_bodies.specs.Globals.{globals_of}
+use Rattle.sp_meaning.specs.Globals.{globals_of}
 use Rattle.sp_code.specs.Shapes.{OfHook, body_shape}
 use Rattle.sp_code_programs.specs.programs.Routines.{hook_unit, handed_kinds, slot_kinds}
 use Rattle.sp_code_programs.specs.programs.Currents.{current_kind}

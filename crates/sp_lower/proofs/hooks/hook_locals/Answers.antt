@@ -1,6 +1,6 @@
 use Rattle.std.proofs.Common.{List, ◌++◌, ap}
 use Rattle.sp_types.specs.Types.{Ty}
-use Rattle.sp_bodies.specs.Globals.{globals_of}
+use Rattle.sp_meaning.specs.Globals.{globals_of}
 use Rattle.sp_code_programs.specs.programs.Routines.{handed_kinds, slot_kinds}
 use Rattle.sp_code_programs.specs.programs.Currents.{current_kind}
 use Rattle.sp_lower_tables.proofs.Numbered.{gives_more, numbers_as}

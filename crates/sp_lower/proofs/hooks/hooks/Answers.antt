@@ -1,9 +1,9 @@
 use Rattle.std.proofs.Common.{◌≡◌, ◌<◌, ◌+◌, ℕ, suc, List, ◌∷◌, drop, length, subst, ap, ◌∙◌, arith}
 use Rattle.std.specs.List.{AllByRecursion}
 use Rattle.sp_typed_units.specs.declared.declarations.Hook.{Hook}
-use Rattle.sp_bodies.specs.Globals.{globals_of}
+use Rattle.sp_meaning.specs.Globals.{globals_of}
 use Rattle.sp_code_programs.specs.programs.Routines.{hook_routine}
-use Rattle.sp_code_programs.specs.programs.Named.{hook_name}
+use Rattle.sp_meaning.specs.Names.{hook_name}
 use Rattle.sp_code_programs.specs.programs.Currents.{current_kind}
 use Rattle.sp_lower_tables.proofs.Numbered.{next_item, none_left}
 use Rattle.sp_lower.specs.Literals.{HookFits}

@@ -1,6 +1,6 @@
 use Rattle.std.proofs.Common.{drop}
 use Rattle.std.specs.List.{AllByRecursion}
-use Rattle.sp_bodies.specs.Globals.{globals_of}
+use Rattle.sp_meaning.specs.Globals.{globals_of}
 use Rattle.sp_lower.specs.Literals.{HookFits}
 use Rattle.sp_lower.specs.inside.Laid.{named_routines}
 use Rattle.sp_lower.proofs.Laid.{Leads}

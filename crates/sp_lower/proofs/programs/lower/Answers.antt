@@ -1,7 +1,7 @@
 use Rattle.std.proofs.Common.{List, ap, ◌∙◌}
 use Rattle.sp_typed_units.specs.declared.declarations.Bitfield.{Bitfield}
 use Rattle.sp_typed_units.specs.declared.declarations.Enum.{Enum}
-use Rattle.sp_code_programs.specs.programs.Named.{names_of_labels, names_of_ranges}
+use Rattle.sp_meaning.specs.Names.{names_of_labels, names_of_ranges}
 use Rattle.sp_lower.proofs.programs.lower.Goals as goal
 
 pub returns : goal.returns

@@ -3,7 +3,7 @@ use Rattle.sp_value.specs.Val.{Val}
 use Rattle.sp_typed_units.specs.declared.declarations.Member.{Member}
 use Rattle.sp_typed_units.specs.declared.declarations.Parameter.{Parameter}
 use Rattle.sp_code.specs.Machine.{UnitCode}
-use Rattle.sp_code_programs.specs.programs.Named.{member_names}
+use Rattle.sp_meaning.specs.Names.{member_names}
 use Rattle.sp_lower.proofs.Counted.{names_long}
 use Rattle.sp_lower.proofs.units.entry_of.Goals as goal
 

@@ -1,4 +1,4 @@
-use Rattle.sp_bodies.specs.Globals.{globals_of}
+use Rattle.sp_meaning.specs.Globals.{globals_of}
 use Rattle.sp_lower.proofs.Counted.{gives_kinds}
 use Rattle.sp_lower.proofs.units.kinds_of_unit.Goals as goal
 

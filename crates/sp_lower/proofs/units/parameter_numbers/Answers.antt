@@ -1,6 +1,6 @@
 use Rattle.std.proofs.Common.{List, ap}
 use Rattle.sp_typed_units.specs.declared.declarations.Parameter.{Parameter}
-use Rattle.sp_bodies.specs.Globals.{globals_of}
+use Rattle.sp_meaning.specs.Globals.{globals_of}
 use Rattle.sp_code_programs.specs.programs.Routines.{parameter_kinds}
 use Rattle.sp_lower_tables.proofs.Numbered.{gives_all, numbers_as}
 use Rattle.sp_lower.proofs.units.parameter_numbers.Goals as goal

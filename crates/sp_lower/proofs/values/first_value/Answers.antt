@@ -1,7 +1,7 @@
 use Rattle.std.proofs.Common.{◌≡◌, List, IfOk, subst}
 use Rattle.sp_typed_units.specs.declared.declarations.Bitfield.{Bitfield}
-use Rattle.sp_running.specs.Types.{zero_value}
-use Rattle.sp_bodies.specs.Globals.{range_counts}
+use Rattle.sp_meaning_states.specs.Types.{zero_value}
+use Rattle.sp_meaning.specs.Globals.{range_counts}
 use Rattle.sp_lower.proofs.values.first_value.Goals as goal
 
 pub returns : goal.returns

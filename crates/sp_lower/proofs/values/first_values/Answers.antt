@@ -1,7 +1,7 @@
 use Rattle.std.proofs.Common.{◌≡◌, List, IfOk, subst}
 use Rattle.sp_typed_units.specs.declared.declarations.Bitfield.{Bitfield}
-use Rattle.sp_bodies.specs.Globals.{range_counts}
-use Rattle.sp_bodies.specs.Calls.{zero_slots}
+use Rattle.sp_meaning.specs.Globals.{range_counts}
+use Rattle.sp_meaning.specs.Calls.{zero_slots}
 use Rattle.sp_lower.proofs.values.first_values.Goals as goal
 
 pub returns : goal.returns

@@ -3,8 +3,8 @@ use Rattle.std.specs.Borrow.{Bor}
 use Rattle.sp_types.specs.declared.words.Word.TheVariants as word_is
 use Rattle.sp_types.specs.Types.{Ty, word}
 use Rattle.sp_typed_units.specs.declared.items.Field.{Field}
-use Rattle.sp_running.specs.Types.{kind_of_type}
-use Rattle.sp_bodies.specs.Globals.{globals_of}
+use Rattle.sp_meaning_states.specs.Types.{kind_of_type}
+use Rattle.sp_meaning.specs.Globals.{globals_of}
 use Rattle.sp_code_programs.specs.programs.Currents.{current_type}
 use Rattle.sp_lower_tables.specs.Numbers.{GivesNumber}
 use Rattle.sp_lower_tables.proofs.Read.{no_field}

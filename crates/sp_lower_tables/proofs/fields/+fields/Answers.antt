@@ -1,7 +1,7 @@
 use Rattle.std.proofs.Common.{List, drop, refl, ap, subst, arith}
 use Rattle.sp_typed_units.specs.Parts.{Part, parts, arms}
 use Rattle.sp_typed_units.specs.inside.PartCodes.{parts_size}
-use Rattle.sp_unit_calls.proofs.Falls.{part_falls, arm_falls}
+use Rattle.sp_type_unit_calls.proofs.Falls.{part_falls, arm_falls}
 use Rattle.sp_code_programs.specs.programs.Currents.{field_in, field_in_parts, field_in_arms}
 use Rattle.sp_lower_tables.specs.inside.Fields.{Notes}
 use Rattle.sp_lower_tables.proofs.Numbered.{next_item, none_left}

@@ -1,6 +1,6 @@
 use Rattle.std.proofs.Common.{drop, refl, arith}
-use Rattle.sp_running.specs.Types.{kind_of_type}
-use Rattle.sp_bodies.specs.Globals.{globals_of}
+use Rattle.sp_meaning_states.specs.Types.{kind_of_type}
+use Rattle.sp_meaning.specs.Globals.{globals_of}
 use Rattle.sp_code_programs.specs.programs.Routines.{parameter_kinds}
 use Rattle.sp_lower_tables.proofs.Numbered.{next_item, none_left, leads_on, leads_to}
 use Rattle.sp_lower_tables.proofs.kinds.add_parameters.Goals as goal

@@ -1,5 +1,5 @@
 use Rattle.std.proofs.Common.{drop}
-use Rattle.sp_bodies.specs.Globals.{globals_of}
+use Rattle.sp_meaning.specs.Globals.{globals_of}
 use Rattle.sp_code_programs.specs.programs.Routines.{slot_kinds}
 use Rattle.sp_lower_tables.proofs.Numbered.{Leads}
 use Rattle.sp_lower_tables.proofs.kinds.add_types.Given as goal

@@ -1,7 +1,7 @@
 use Rattle.std.proofs.Common.{List, IfOk, subst}
 use Rattle.sp_typed_units.specs.declared.declarations.Bitfield.{Bitfield}
-use Rattle.sp_running.specs.Types.{kind_of_type}
-use Rattle.sp_bodies.specs.Globals.{range_counts}
+use Rattle.sp_meaning_states.specs.Types.{kind_of_type}
+use Rattle.sp_meaning.specs.Globals.{range_counts}
 use Rattle.sp_emit.specs.Kinds.{IsNumberOf}
 use Rattle.sp_lower_tables.proofs.Numbered.{gives}
 use Rattle.sp_lower_tables.proofs.kinds.type_number.Goals as goal

@@ -1,5 +1,5 @@
 use Rattle.std.proofs.Common.{◌≡◌, ◌++◌, drop}
-use Rattle.sp_code_programs.specs.programs.Named.{label_names}
+use Rattle.sp_meaning.specs.Names.{label_names}
 use Rattle.sp_lower_tables.proofs.labels.label_names.Given as goal
 
 abbrev pub invariant-loop-label : goal.invariant-loop-label

@@ -1,7 +1,7 @@
 use Rattle.std.proofs.Common.{ℕ, List, [], ◌∷◌, ◌++◌, refl, ap, ◌∙◌}
 use Rattle.sp_code.specs.Programs as told
 use Rattle.sp_typed_units.specs.declared.declarations.Label.{Label}
-use Rattle.sp_code_programs.specs.programs.Named.{own_name, label_names, names_of_labels}
+use Rattle.sp_meaning.specs.Names.{own_name, label_names, names_of_labels}
 use Rattle.sp_lower_tables.proofs.Numbered.{next_item}
 use Rattle.sp_lower_tables.proofs.Told.{labels_more, tells_next}
 use Rattle.sp_lower_tables.proofs.labels.labels_of.Goals as goal

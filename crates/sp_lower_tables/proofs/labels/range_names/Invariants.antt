@@ -1,5 +1,5 @@
 use Rattle.std.proofs.Common.{◌≡◌, ◌++◌, drop}
-use Rattle.sp_code_programs.specs.programs.Named.{range_names}
+use Rattle.sp_meaning.specs.Names.{range_names}
 use Rattle.sp_lower_tables.proofs.labels.range_names.Given as goal
 
 abbrev pub invariant-loop-range : goal.invariant-loop-range

@@ -1,7 +1,7 @@
 use Rattle.std.proofs.Common.{ℕ, List, [], ◌∷◌, ◌++◌, refl, ap, ◌∙◌}
 use Rattle.sp_code.specs.Programs as told
 use Rattle.sp_typed_units.specs.declared.declarations.BitRange.{BitRange}
-use Rattle.sp_code_programs.specs.programs.Named.{range_names, names_of_ranges}
+use Rattle.sp_meaning.specs.Names.{range_names, names_of_ranges}
 use Rattle.sp_lower_tables.proofs.Numbered.{next_item}
 use Rattle.sp_lower_tables.proofs.Told.{ranges_more, tells_next}
 use Rattle.sp_lower_tables.proofs.labels.ranges_of.Goals as goal

@@ -1,5 +1,5 @@
 use Rattle.std.proofs.Common.{◌≡◌, ◌++◌, drop}
-use Rattle.sp_code_programs.specs.programs.Named.{member_names}
+use Rattle.sp_meaning.specs.Names.{member_names}
 use Rattle.sp_lower_tables.proofs.names.member_names.Given as goal
 
 abbrev pub invariant-loop-member : goal.invariant-loop-member

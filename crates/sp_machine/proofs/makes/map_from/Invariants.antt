@@ -1,6 +1,6 @@
 use Rattle.std.proofs.Common.{◌≡◌, length}
 use Rattle.sp_value.specs.Changes.{IsMap}
-use Rattle.sp_running.specs.Values.{with_entries}
+use Rattle.sp_meaning_states.specs.Values.{with_entries}
 use Rattle.sp_machine.proofs.makes.map_from.Given as goal
 
 abbrev pub invariant-loop-rest : goal.invariant-loop-rest

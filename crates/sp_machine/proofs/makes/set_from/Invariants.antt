@@ -1,6 +1,6 @@
 use Rattle.std.proofs.Common.{◌≡◌, length}
 use Rattle.sp_value.specs.Changes.{IsSet}
-use Rattle.sp_running.specs.Values.{with_members}
+use Rattle.sp_meaning_states.specs.Values.{with_members}
 use Rattle.sp_machine.proofs.makes.set_from.Given as goal
 
 abbrev pub invariant-loop-set : goal.invariant-loop-set

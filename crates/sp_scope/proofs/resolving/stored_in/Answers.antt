@@ -2,11 +2,11 @@ use Rattle.std.proofs.Common.{ℕ, ◌≡◌, IfOk, ap, subst, ◌∙◌, List, 
 use Rattle.sp_ast.specs.Trees.{Tree}
 use Rattle.sp_types.specs.Types.{Ty}
 use Rattle.sp_solver.specs.Told.{told}
-use Rattle.sp_typing.specs.Contexts.{Around}
-use Rattle.sp_stored_types.specs.Tries.{AreStored}
-use Rattle.sp_list_context.specs.Contexts.{homes, all_parameters, seeing, seeing_parameters}
-use Rattle.sp_list_context.specs.Holds.{here_told, seeing_told}
-use Rattle.sp_checked_list.specs.Settled.{first_contexts, worth}
+use Rattle.sp_type_context.specs.Contexts.{Around}
+use Rattle.sp_type_members.specs.Tries.{AreStored}
+use Rattle.sp_type_list_context.specs.Contexts.{homes, all_parameters, seeing, seeing_parameters}
+use Rattle.sp_type_list_context.specs.Holds.{here_told, seeing_told}
+use Rattle.sp_type_answers.specs.Settled.{first_contexts, worth}
 use Rattle.sp_scope.proofs.resolving.stored_in.Goals as goal
 
 pub returns : goal.returns

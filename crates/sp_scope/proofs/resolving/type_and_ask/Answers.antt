@@ -1,7 +1,7 @@
 use Rattle.std.proofs.Common.{Option}
 use Rattle.std.proofs.lemmas.Result.{IfOk-weaker}
 use Rattle.sp_rules.specs.Least.{IsLeast}
-use Rattle.sp_checked_list.specs.NameRules.{IsTyped, IsAnswered, BreaksName}
+use Rattle.sp_type_answers.specs.NameRules.{IsTyped, IsAnswered, BreaksName}
 use Rattle.sp_scope.proofs.Least.{typed_of_answered, least_of_answered}
 use Rattle.sp_scope.proofs.resolving.type_and_ask.Goals as goal
 

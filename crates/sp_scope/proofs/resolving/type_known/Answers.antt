@@ -2,8 +2,8 @@ use Rattle.std.proofs.Common.{ap, ◌∙◌, List, Option, None}
 use Rattle.sp_types.specs.Types.{Ty}
 use Rattle.sp_solver.specs.Told.{told}
 use Rattle.sp_rules.specs.Least.{checked}
-use Rattle.sp_checked_list.specs.Lists.{typed_list}
-use Rattle.sp_checked_list.specs.NameRules.{tests_of}
+use Rattle.sp_type_answers.specs.Lists.{typed_list}
+use Rattle.sp_type_answers.specs.NameRules.{tests_of}
 use Rattle.sp_scope.proofs.Answered.{answered}
 use Rattle.sp_scope.proofs.resolving.type_known.Goals as goal
 

@@ -1,6 +1,6 @@
 use Rattle.std.proofs.Common.{IfOk, subst, List}
 use Rattle.sp_ast.specs.Trees.{Tree}
-use Rattle.sp_checked_list.specs.NameRules.{IsAnswered}
+use Rattle.sp_type_answers.specs.NameRules.{IsAnswered}
 use Rattle.sp_scope.proofs.resolving.type_list.Goals as goal
 
 pub returns : goal.returns

@@ -1,7 +1,7 @@
 use Rattle.std.proofs.Common.{IfOk, ap, subst, ◌∙◌, List, Option}
 use Rattle.sp_ast.specs.Trees.{Tree}
 use Rattle.sp_types.specs.Types.{Ty}
-use Rattle.sp_checked_list.specs.NameRules.{IsAnswered}
+use Rattle.sp_type_answers.specs.NameRules.{IsAnswered}
 use Rattle.sp_scope.proofs.resolving.type_resolved.Goals as goal
 
 pub returns : goal.returns

@@ -1,7 +1,7 @@
 use Rattle.std.proofs.Common.{ap, sym, ◌∙◌, List}
 use Rattle.sp_solver.specs.Told.{told}
-use Rattle.sp_hook_rows.specs.declared.sites.Site.{Site}
-use Rattle.sp_hook_rows.specs.HookRows.{rows_of}
+use Rattle.sp_type_hook_rows.specs.declared.sites.Site.{Site}
+use Rattle.sp_type_hook_rows.specs.HookRows.{rows_of}
 use Rattle.sp_scope.proofs.Rows.{least_rows}
 use Rattle.sp_scope.proofs.resolving.typed_in.Goals as goal
 

@@ -1,6 +1,6 @@
 use Rattle.std.proofs.Common.{ap, ◌∙◌}
 use Rattle.sp_code.specs.Programs.{names_of}
-use Rattle.sp_running.specs.Telling.{value_tree}
+use Rattle.sp_meaning_states.specs.Telling.{value_tree}
 use Rattle.sp_session.proofs.Endings.{value_in, ends_done}
 use Rattle.sp_session.proofs.ending.ending_of.Goals as goal
 

@@ -3,8 +3,8 @@ use Rattle.std.specs.List.{AllByRecursion}
 use Rattle.std.proofs.Math.Seq.{take-length}
 use Rattle.sp_methods.specs.Kinds.{kinds_of}
 use Rattle.sp_types.proofs.Lists.{part_falls}
-use Rattle.sp_running.specs.Types.{kind_of_type}
-use Rattle.sp_bodies.specs.Globals.{range_counts}
+use Rattle.sp_meaning_states.specs.Types.{kind_of_type}
+use Rattle.sp_meaning.specs.Globals.{range_counts}
 use Rattle.sp_code.specs.Programs.{kinds_at}
 use Rattle.sp_emit.proofs.Growing.{grows_then}
 use Rattle.sp_emit.proofs.Parts.{kinds_of_each, below_next, kinds_next}

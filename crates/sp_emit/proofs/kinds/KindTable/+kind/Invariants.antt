@@ -2,8 +2,8 @@ use Rattle.std.proofs.Common.{◌≡◌, ◌<◌, ◌+◌, ◌*◌, length, map,
 use Rattle.std.specs.List.{AllByRecursion}
 use Rattle.sp_types.specs.Types.{tys}
 use Rattle.sp_types.specs.inside.Codes.{ty_size, tys_size}
-use Rattle.sp_running.specs.Types.{kind_of_type}
-use Rattle.sp_bodies.specs.Globals.{range_counts}
+use Rattle.sp_meaning_states.specs.Types.{kind_of_type}
+use Rattle.sp_meaning.specs.Globals.{range_counts}
 use Rattle.sp_code.specs.Programs.{kinds_at}
 use Rattle.sp_emit.specs.Kinds.{Grows}
 use Rattle.sp_emit.proofs.kinds.KindTable.+kind.Given as goal

@@ -4,7 +4,7 @@ use Rattle.std.proofs.lemmas.Result.{on_ok_weaker}
 use Rattle.sp_base.specs.declared.kinds.PKind.TheVariants.{Index}
 use Rattle.sp_value.specs.Val.{Val}
 use Rattle.sp_value.specs.Changes.{with_member}
-use Rattle.sp_running.specs.States.{Failed, error_at}
+use Rattle.sp_meaning_states.specs.States.{Failed, error_at}
 use Rattle.sp_code.specs.Can.{top, second, below_top}
 use Rattle.sp_code.specs.Machine.{Ending}
 use Rattle.sp_machine.specs.Plain.{state_of, plain}

@@ -6,7 +6,7 @@ use Rattle.sp_words.specs.declared.methods.Method.TheVariants.{PushBack}
 use Rattle.sp_value.specs.Val.{Val}
 use Rattle.sp_value.specs.Changes.{with_last}
 use Rattle.sp_methods.specs.Methods.{method}
-use Rattle.sp_running.specs.States.{Failed, error_at}
+use Rattle.sp_meaning_states.specs.States.{Failed, error_at}
 use Rattle.sp_code.specs.Machine.{Ending, put_all}
 use Rattle.sp_machine.specs.Plain.{state_of, plain}
 use Rattle.sp_machine.specs.Inside.{IsOpened, IsShut, IsPutInside}

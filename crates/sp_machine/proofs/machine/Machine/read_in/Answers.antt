@@ -1,8 +1,8 @@
 use Rattle.std.proofs.Common.{◌≡◌, ◌+◌, ◌-◌, ◌≤◌, length, take, drop, refl, sym, subst, ap, ◌∙◌, arith, length-take-le, length-drop}
 use Rattle.std.proofs.lemmas.List.{take-take}
 use Rattle.sp_value.specs.Integers.{integer_of}
-use Rattle.sp_running.specs.States.{go}
-use Rattle.sp_running.specs.Types.{width_bytes}
+use Rattle.sp_meaning_states.specs.States.{go}
+use Rattle.sp_meaning_states.specs.Types.{width_bytes}
 use Rattle.sp_code.specs.Machine.{At}
 use Rattle.sp_machine.specs.Plain.{state_of}
 use Rattle.sp_machine.specs.InPlace.{behind, with_slot}

@@ -3,7 +3,7 @@ use Rattle.std.proofs.Common.{◌≡◌, ◌∷◌, ap, ◌∙◌, subst}
 use Rattle.std.proofs.lemmas.Result.{on_ok_weaker}
 use Rattle.sp_base.specs.declared.kinds.PKind.TheVariants.{Index}
 use Rattle.sp_value.specs.Val.{Val}
-use Rattle.sp_running.specs.States.{Failed, error_at}
+use Rattle.sp_meaning_states.specs.States.{Failed, error_at}
 use Rattle.sp_code.specs.Machine.{Ending}
 use Rattle.sp_machine.specs.Plain.{state_of, plain}
 use Rattle.sp_machine.specs.Inside.{IsOpened, IsShut}

@@ -1,2 +1,0 @@
-//! What bodies mean: expressions, statements, functions and hooks, over the typed list.
-#![tactic(auto)]

@@ -1,8 +1,0 @@
-use Rattle.sp_body_rules.proofs.Broken.{least_in, least_in_body}
-use Rattle.sp_body_rules.proofs.laws.least_of_broken.Goals as goal
-
-pub returns-clause-exprs : goal.returns-clause-exprs
-returns-clause-exprs c = least_in
-
-pub returns-clause-bodies : goal.returns-clause-bodies
-returns-clause-bodies c = least_in_body

@@ -1,7 +1,0 @@
-use Rattle.std.proofs.Common.{◌≡◌, ◌+◌, subst, arith, IfOk}
-use Rattle.sp_emit_size.proofs.forms.while_size.Goals as goal
-
-pub returns : goal.returns
-returns c =
-    let whole : c.in_ok-sum.field-0 + 3 ≡ c.args.test + (1 + (1 + (c.args.body + 1))) = omega arith in
-    subst (λ k. IfOk c.sum-2.result (λ n. n ≡ k)) whole c.sum-2.ensures

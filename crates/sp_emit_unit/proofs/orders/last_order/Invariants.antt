@@ -1,6 +1,0 @@
-use Rattle.std.proofs.Common.{◌≡◌, drop}
-use Rattle.sp_bodies.specs.Units.{last_order}
-use Rattle.sp_emit_unit.proofs.orders.last_order.Given as goal
-
-abbrev pub invariant-loop-property : goal.invariant-loop-property
-invariant-loop-property l = last_order l.last (drop l.property-index l.properties) ≡ last_order l.fn.order l.properties

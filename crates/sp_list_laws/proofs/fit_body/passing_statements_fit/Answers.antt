@@ -1,5 +1,0 @@
-use Rattle.sp_list_laws.proofs.fit_body_lemmas.Sound.{stmt_sound}
-use Rattle.sp_list_laws.proofs.fit_body.passing_statements_fit.Goals as goal
-
-pub returns : goal.returns
-returns c = λ body in_loop s passes. stmt_sound body in_loop s passes

@@ -1,6 +1,0 @@
-use Rattle.sp_bodies.specs.Globals.{globals_of}
-use Rattle.sp_list_laws.proofs.fit_expr_lemmas.OfValues.{constants_fit}
-use Rattle.sp_list_laws.proofs.fit_expr.passing_constants_fit.Goals as goal
-
-pub returns : goal.returns
-returns c = λ list pass n x v at is units. constants_fit (globals_of list).ranges units list.constants n x v pass at is

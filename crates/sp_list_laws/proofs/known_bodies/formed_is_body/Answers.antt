@@ -1,5 +1,0 @@
-use Rattle.sp_list_laws.proofs.known_bodies_lemmas.Formed.{formed_body}
-use Rattle.sp_list_laws.proofs.known_bodies.formed_is_body.Goals as goal
-
-pub returns : goal.returns
-returns c = formed_body

@@ -1,5 +1,0 @@
-use Rattle.sp_list_laws.proofs.known_bodies_lemmas.Slots.{kept_plain}
-use Rattle.sp_list_laws.proofs.known_bodies.kept_is_plain.Goals as goal
-
-pub returns : goal.returns
-returns c = kept_plain

@@ -1,5 +1,0 @@
-use Rattle.sp_list_laws.proofs.known_types_lemmas.Broken.{clear_where}
-use Rattle.sp_list_laws.proofs.known_types.unbroken_is_clear.Goals as goal
-
-pub returns : goal.returns
-returns c = clear_where

@@ -1,5 +1,0 @@
-use Rattle.sp_list_laws.proofs.known_values_lemmas.Operators.{told}
-use Rattle.sp_list_laws.proofs.known_values.operators_are_told.Goals as goal
-
-pub returns : goal.returns
-returns c = told

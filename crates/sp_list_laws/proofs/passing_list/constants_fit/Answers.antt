@@ -1,5 +1,0 @@
-use Rattle.sp_list_laws.proofs.passing_list_lemmas.ConstantValues.{constants_so}
-use Rattle.sp_list_laws.proofs.passing_list.constants_fit.Goals as goal
-
-pub returns : goal.returns
-returns c = λ list a formed unbroken. constants_so list a formed unbroken

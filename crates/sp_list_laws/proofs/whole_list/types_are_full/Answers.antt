@@ -1,5 +1,0 @@
-use Rattle.sp_list_laws.proofs.whole_list_lemmas.Declared.{declared_full}
-use Rattle.sp_list_laws.proofs.whole_list.types_are_full.Goals as goal
-
-pub returns : goal.returns
-returns c = declared_full

@@ -1,6 +1,0 @@
-use Rattle.std.proofs.Common.{◌≡◌, ◌++◌, drop, map}
-use Rattle.sp_list_rows.specs.Bitfields.{typed_bitfield}
-use Rattle.sp_list_rows.proofs.bitfield_rows.bitfields.Given as goal
-
-abbrev pub invariant-loop-i : goal.invariant-loop-i
-invariant-loop-i l = l.list.items ++ map typed_bitfield (drop l.i l.rows) ≡ map typed_bitfield l.rows

@@ -1,8 +1,0 @@
-use Rattle.std.proofs.Common.{◌≡◌, drop}
-use Rattle.sp_rules.specs.Least.{checked}
-use Rattle.sp_list_rules.specs.Lists.{all_tests}
-use Rattle.sp_list_rules.specs.Bodies.{conversion_tests}
-use Rattle.sp_list_rules.proofs.declared.note_conversions.Given as goal
-
-abbrev pub invariant-loop-endless : goal.invariant-loop-endless
-invariant-loop-endless l = checked l.least (all_tests conversion_tests (drop l.endless-index l.all)) ≡ checked l.fn.least (all_tests conversion_tests l.all)

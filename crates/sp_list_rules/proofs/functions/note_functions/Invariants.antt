@@ -1,8 +1,0 @@
-use Rattle.std.proofs.Common.{◌≡◌, drop}
-use Rattle.sp_rules.specs.Least.{checked}
-use Rattle.sp_list_rules.specs.Lists.{all_tests}
-use Rattle.sp_list_rules.specs.Bodies.{function_tests}
-use Rattle.sp_list_rules.proofs.functions.note_functions.Given as goal
-
-abbrev pub invariant-loop-function : goal.invariant-loop-function
-invariant-loop-function g l = checked l.least (all_tests (function_tests l.typed (g.C.Constants.known l.constants)) (drop l.function-index l.all)) ≡ checked l.fn.least (all_tests (function_tests l.typed (g.C.Constants.known l.constants)) l.all)

@@ -1,4 +1,0 @@
-use Rattle.sp_list_rules.proofs.inside.note_own_body.Goals as goal
-
-pub returns : goal.returns
-returns g c = rw c.in_ok-slots.ensures at c.note_body_in.ensures

@@ -1,8 +1,0 @@
-use Rattle.std.proofs.Common.{◌≡◌, drop}
-use Rattle.sp_rules.specs.Least.{checked}
-use Rattle.sp_list_rules.specs.Lists.{all_tests}
-use Rattle.sp_list_rules.specs.Names.{enum_names}
-use Rattle.sp_list_rules.proofs.names.note_enums.Given as goal
-
-abbrev pub invariant-loop-one : goal.invariant-loop-one
-invariant-loop-one l = checked l.least (all_tests enum_names (drop l.one-index l.all)) ≡ checked l.fn.least (all_tests enum_names l.all)

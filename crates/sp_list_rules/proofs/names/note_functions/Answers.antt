@@ -1,9 +1,0 @@
-use Rattle.std.proofs.Common.{refl}
-use Rattle.sp_list_rules.specs.Lists.{all_tests}
-use Rattle.sp_list_rules.specs.Names.{function_names}
-use Rattle.sp_list_rules.proofs.Checked.{row_step}
-use Rattle.sp_list_rules.proofs.names.note_functions.Goals as goal
-
-pub loop-function-preserved : goal.loop-function-preserved
-loop-function-preserved c =
-    row_step (all_tests function_names) (function_names) (λ x xs. refl) c.args.all.now c.loop-function.function-index c.function-item.result c.loop-function.least c.note_stmt_names.new.least _ c.loop-function-test.true c.function-item.is c.note_stmt_names.ensures c.loop-function.invariant

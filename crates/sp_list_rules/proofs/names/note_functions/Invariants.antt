@@ -1,8 +1,0 @@
-use Rattle.std.proofs.Common.{◌≡◌, drop}
-use Rattle.sp_rules.specs.Least.{checked}
-use Rattle.sp_list_rules.specs.Lists.{all_tests}
-use Rattle.sp_list_rules.specs.Names.{function_names}
-use Rattle.sp_list_rules.proofs.names.note_functions.Given as goal
-
-abbrev pub invariant-loop-function : goal.invariant-loop-function
-invariant-loop-function l = checked l.least (all_tests function_names (drop l.function-index l.all)) ≡ checked l.fn.least (all_tests function_names l.all)

@@ -1,8 +1,0 @@
-use Rattle.std.proofs.Common.{◌≡◌, drop}
-use Rattle.sp_rules.specs.Least.{checked}
-use Rattle.sp_list_rules.specs.Lists.{all_tests}
-use Rattle.sp_list_rules.specs.Names.{hook_names}
-use Rattle.sp_list_rules.proofs.names.note_hooks.Given as goal
-
-abbrev pub invariant-loop-hook : goal.invariant-loop-hook
-invariant-loop-hook l = checked l.least (all_tests hook_names (drop l.hook-index l.all)) ≡ checked l.fn.least (all_tests hook_names l.all)

@@ -1,8 +1,0 @@
-use Rattle.std.proofs.Common.{◌≡◌, drop}
-use Rattle.sp_rules.specs.Least.{checked}
-use Rattle.sp_list_rules.specs.Lists.{all_tests}
-use Rattle.sp_list_rules.specs.Names.{label_names}
-use Rattle.sp_list_rules.proofs.names.note_labels.Given as goal
-
-abbrev pub invariant-loop-label : goal.invariant-loop-label
-invariant-loop-label l = checked l.least (all_tests (label_names l.owner) (drop l.label-index l.all)) ≡ checked l.fn.least (all_tests (label_names l.owner) l.all)

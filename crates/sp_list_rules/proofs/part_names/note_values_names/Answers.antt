@@ -1,9 +1,0 @@
-use Rattle.std.proofs.Common.{refl}
-use Rattle.sp_list_rules.specs.Lists.{all_tests}
-use Rattle.sp_list_rules.specs.Names.{expr_names}
-use Rattle.sp_list_rules.proofs.Checked.{row_step}
-use Rattle.sp_list_rules.proofs.part_names.note_values_names.Goals as goal
-
-pub loop-e-preserved : goal.loop-e-preserved
-loop-e-preserved c =
-    row_step (all_tests (expr_names c.args.owner)) (expr_names c.args.owner) (λ x xs. refl) c.args.values.now c.loop-e.e-index c.e-item.result c.loop-e.least c.note_expr_names.new.least _ c.loop-e-test.true c.e-item.is c.note_expr_names.ensures c.loop-e.invariant

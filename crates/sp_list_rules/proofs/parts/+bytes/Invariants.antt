@@ -1,5 +1,0 @@
-use Rattle.sp_typed_units.specs.inside.SpecCodes.{spec_size}
-use Rattle.sp_list_rules.proofs.parts.+bytes.Given as goal
-
-abbrev pub decreases-reads_bytes : goal.decreases-reads_bytes
-decreases-reads_bytes l = spec_size l.spec.now

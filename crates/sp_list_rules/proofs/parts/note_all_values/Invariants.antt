@@ -1,8 +1,0 @@
-use Rattle.std.proofs.Common.{◌≡◌, drop}
-use Rattle.sp_rules.specs.Least.{checked}
-use Rattle.sp_body_rules.specs.Values.{value_tests}
-use Rattle.sp_list_rules.specs.Lists.{all_tests}
-use Rattle.sp_list_rules.proofs.parts.note_all_values.Given as goal
-
-abbrev pub invariant-loop-e : goal.invariant-loop-e
-invariant-loop-e l = checked l.least (all_tests (value_tests l.owner) (drop l.e-index l.values)) ≡ checked l.fn.least (all_tests (value_tests l.owner) l.values)

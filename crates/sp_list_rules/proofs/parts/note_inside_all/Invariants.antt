@@ -1,8 +1,0 @@
-use Rattle.std.proofs.Common.{◌≡◌, drop}
-use Rattle.sp_rules.specs.Least.{checked}
-use Rattle.sp_list_rules.specs.Bodies.{inside_tests}
-use Rattle.sp_list_rules.specs.Lists.{all_tests}
-use Rattle.sp_list_rules.proofs.parts.note_inside_all.Given as goal
-
-abbrev pub invariant-loop-e : goal.invariant-loop-e
-invariant-loop-e g l = checked l.least (all_tests (inside_tests (g.F.Facts.known l.facts) l.owner) (drop l.e-index l.values)) ≡ checked l.fn.least (all_tests (inside_tests (g.F.Facts.known l.facts) l.owner) l.values)

@@ -1,8 +1,0 @@
-use Rattle.std.proofs.Common.{◌≡◌, drop}
-use Rattle.sp_rules.specs.Least.{checked}
-use Rattle.sp_list_rules.specs.Lists.{all_tests}
-use Rattle.sp_list_rules.specs.Wholes.{unit_tests}
-use Rattle.sp_list_rules.proofs.units.note_units.Given as goal
-
-abbrev pub invariant-loop-unit : goal.invariant-loop-unit
-invariant-loop-unit g l = checked l.least (all_tests (unit_tests (g.F.Facts.known l.facts)) (drop l.unit-index l.all)) ≡ checked l.fn.least (all_tests (unit_tests (g.F.Facts.known l.facts)) l.all)

@@ -1,9 +1,0 @@
-use Rattle.sp_body_rules.specs.Known.{nothing_known}
-use Rattle.sp_rule_laws.proofs.Tested.{nodes_are, names_are}
-use Rattle.sp_rule_laws.proofs.places.tests_begin_at_tokens.Goals as goal
-
-pub returns-clause-nodes : goal.returns-clause-nodes
-returns-clause-nodes c = nodes_are
-
-pub returns-clause-names : goal.returns-clause-names
-returns-clause-names c = λ tokens m e i. names_are tokens nothing_known m e i

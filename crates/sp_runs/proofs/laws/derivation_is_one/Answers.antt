@@ -1,5 +1,0 @@
-use Rattle.sp_runs.proofs.Unique.{one_derivation}
-use Rattle.sp_runs.proofs.laws.derivation_is_one.Goals as goal
-
-pub returns : goal.returns
-returns c = λ start tokens m first second p q. one_derivation start tokens m first second p q

@@ -1,5 +1,0 @@
-use Rattle.sp_runs.proofs.Unique.{one_longest}
-use Rattle.sp_runs.proofs.laws.longest_run_is_one.Goals as goal
-
-pub returns : goal.returns
-returns c = λ start tokens m n x y. one_longest start tokens m n x y

@@ -1,5 +1,0 @@
-use Rattle.sp_search.proofs.Placing.{one_place_is}
-use Rattle.sp_search.proofs.laws.one_place.Goals as goal
-
-pub returns : goal.returns
-returns c = one_place_is

@@ -1,5 +1,0 @@
-use Rattle.sp_search.proofs.Placing.{steady_at}
-use Rattle.sp_search.proofs.laws.steady_place.Goals as goal
-
-pub returns : goal.returns
-returns c = steady_at

@@ -1,0 +1,10 @@
+use Rattle.std.proofs.Common.{◌≡◌, ◌≤◌, ◌++◌, length, drop}
+use Rattle.sp_value.specs.Pieces.{all_in}
+use Rattle.sp_show.specs.Plans.{plans, tells, halves}
+use Rattle.sp_show.proofs.walk.push_entries.Given as goal
+
+abbrev pub invariant-loop-i : goal.invariant-loop-i
+invariant-loop-i l = (l.i ≤ length l.pieces) × (plans l.tasks.items ≡ tells (halves (all_in (drop l.i l.pieces))) ++ plans l.fn.tasks.items)
+
+abbrev pub decreases-loop-i : goal.decreases-loop-i
+decreases-loop-i l = l.i

@@ -1,7 +1,0 @@
-use Rattle.sp_stored_types.proofs.answers.question_try.Goals as goal
-
-pub returns : goal.returns
-returns g c =
-    let tables = rw c.new.ensures.tables at c.inside_try.ensures in
-    let known = rw c.new.ensures.known at tables in
-    rw c.new.ensures.context at known

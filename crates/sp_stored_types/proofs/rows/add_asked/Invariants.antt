@@ -1,6 +1,0 @@
-use Rattle.std.proofs.Common.{◌≡◌, ◌++◌}
-use Rattle.sp_around.specs.Sources.{asked}
-use Rattle.sp_stored_types.proofs.rows.add_asked.Given as goal
-
-abbrev pub invariant-loop-source : goal.invariant-loop-source
-invariant-loop-source l = l.all.items ≡ l.fn.all.items ++ asked l.unit l.yielded

@@ -1,7 +1,0 @@
-use Rattle.std.proofs.Common.{◌≡◌, ◌++◌}
-use Rattle.sp_typing.specs.Typing.{each_to}
-use Rattle.sp_typing_exprs.proofs.rows.add_each.Given as goal
-
-abbrev pub invariant-loop-e : goal.invariant-loop-e
-invariant-loop-e g l =
-    l.parts.items ≡ l.fn.parts.items ++ each_to ((g.C.Context.around l.context).target l.op l.receiver) 0 l.yielded

@@ -1,7 +1,0 @@
-use Rattle.std.proofs.Common.{◌≡◌, drop}
-use Rattle.sp_typing.specs.Typing.{leading}
-use Rattle.sp_typing_exprs.proofs.Leading.{leading_from}
-use Rattle.sp_typing_exprs.proofs.rows.leading.Given as goal
-
-abbrev pub invariant-loop-e : goal.invariant-loop-e
-invariant-loop-e l = leading_from l.signed (drop l.e-index l.list) ≡ leading l.list

@@ -1,6 +1,0 @@
-use Rattle.std.proofs.Common.{◌≡◌, map}
-use Rattle.sp_operands.specs.Literals.{taken}
-use Rattle.sp_typing_units.proofs.parts.all_taken.Given as goal
-
-abbrev pub invariant-loop-e : goal.invariant-loop-e
-invariant-loop-e l = l.all.items ≡ map (taken l.to) l.yielded

@@ -1,6 +1,0 @@
-use Rattle.std.proofs.Common.{◌≡◌, drop}
-use Rattle.sp_unit_rules.specs.Attributes.{is_bounded}
-use Rattle.sp_unit_rules.proofs.attributes.is_bounded.Given as goal
-
-abbrev pub invariant-loop-attribute : goal.invariant-loop-attribute
-invariant-loop-attribute l = is_bounded (drop l.attribute-index l.all) ≡ is_bounded l.all

@@ -1,7 +1,0 @@
-use Rattle.std.proofs.Common.{◌≡◌, []}
-use Rattle.std.specs.Prelude.{replicate}
-use Rattle.sp_unit_tables.specs.inside.Rows.{turns_in}
-use Rattle.sp_unit_tables.proofs.rows.no_bodies.Given as goal
-
-abbrev pub invariant-loop : goal.invariant-loop
-invariant-loop l = turns_in l.rows.items ≡ replicate l.counter []
