@@ -17,6 +17,8 @@ use Rattle.sp_code_meaning.specs.Layouts.{Layout}
 use Rattle.sp_meaning.specs.Globals.{globals_of}
 use Rattle.sp_meaning.specs.Operations.{known}
 use Rattle.sp_code_meaning.specs.Stmts.{stmt_means}
+use Rattle.sp_meaning.specs.Hooks.{has_current, is_foreach, told_count}
+use Rattle.sp_meaning.specs.Calls.{zero_slots}
 
 -- a function keeps its parameters before its slots
 abbrev pub function_layout : Function → Layout

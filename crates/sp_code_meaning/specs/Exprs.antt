@@ -17,6 +17,7 @@ use Rattle.sp_meaning_states.specs.Values.{item_at, with_at, set_of, map_of}
 use Rattle.sp_meaning_states.specs.Types.{number_value, zero_value}
 use Rattle.sp_meaning.specs.Globals.{Globals, label_value}
 use Rattle.sp_code_meaning.specs.Layouts.{Layout, parameter_in}
+use Rattle.sp_meaning.specs.Operations.{Changes, called_method, converted, given, is_item, is_self, keep_owner, known, local_named, member_named, negative_literal, offset_from, one_means, owner_means, slot_of_receiver, taken, two_means, unless_literal}
 
 -- how many expressions these are
 abbrev pub how_many : Exprs → ℕ

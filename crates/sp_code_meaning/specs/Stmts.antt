@@ -22,6 +22,7 @@ use Rattle.sp_meaning.specs.Globals.{Globals}
 use Rattle.sp_code_meaning.specs.Layouts.{Layout}
 use Rattle.sp_code_meaning.specs.Exprs.{slot_local, expr_means, all_got, place_means}
 use Rattle.sp_code_meaning.specs.Places.{put_means, key_means}
+use Rattle.sp_meaning.specs.Operations.{fails_with, update_means}
 
 -- a `print` of values, which come with the last first
 abbrev pub printed : Names → List Val → State → Result

@@ -22,9 +22,10 @@ use Rattle.sp_code_meaning.specs.Layouts.{Layout}
 use Rattle.sp_meaning.specs.Globals.{globals_of}
 use Rattle.sp_meaning.specs.Operations.{known}
 use Rattle.sp_code_meaning.specs.Exprs.{expr_means}
-use Rattle.sp_meaning.specs.Hooks.{hook_bodies}
+use Rattle.sp_meaning.specs.Hooks.{hook_bodies, is_of_unit}
 use Rattle.sp_code_meaning.specs.Calls.{call_means, hooks_mean}
-use Rattle.sp_meaning.specs.Integers.{integer_means}
+use Rattle.sp_meaning.specs.Integers.{integer_means, IntegerForm, integer_field, last_order, module_order}
+use Rattle.sp_meaning.specs.Units.{first_value, is_plain, offset_here, stored}
 
 -- The locals of a unit's own code: the offset of the field at hand, and its `$$`, which is unsigned or has a sign.
 abbrev pub offset_slot : ℕ

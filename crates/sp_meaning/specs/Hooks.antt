@@ -4,7 +4,6 @@ use Rattle.std.specs.Ordering.{int_cmp, is_lt, is_eq}
 use Rattle.sp_typed_units.specs.declared.declarations.Hook.{Hook}
 use Rattle.sp_typed_units.specs.declared.declarations.HookOf.{HookOf}
 use Rattle.sp_typed_units.specs.declared.declarations.HookOf.TheVariants as hook_of
-use Rattle.std.specs.Prelude.{ℕ, ◌==◌, pos, Bool, true, false, ◌&&◌, List, [], ◌∷◌, length, if◌then◌else◌}
 use Rattle.sp_words.specs.declared.words.HookName.{HookName}
 use Rattle.sp_words.specs.declared.words.HookName.TheVariants.{Init, Done, Error, Finally}
 use Rattle.sp_typed_units.specs.declared.declarations.Unit.{Unit}

@@ -12,14 +12,10 @@ use Rattle.sp_typed_units.specs.declared.items.Field.{Field}
 use Rattle.sp_typed_units.specs.declared.readings.ReadOp.{ReadOp}
 use Rattle.sp_typed_units.specs.declared.readings.ReadOp.TheVariants as read_is
 use Rattle.sp_typed_units.specs.Specs.{Spec, read, group_read}
-use Rattle.sp_meaning_states.specs.States.{Reading, State, Result, ends}
-use Rattle.sp_meaning_states.specs.Reads.{Ask, Read}
-use Rattle.std.specs.Prelude.{ℕ, zero, ◌+◌, ◌==◌, Bool, true, false, List, [], ◌∷◌, Some, None, if◌then◌else◌}
+use Rattle.sp_meaning_states.specs.States.{Reading, State, Result, ends, Gives, fails, go}
+use Rattle.sp_meaning_states.specs.Reads.{Ask, Read, Bytes, on_read}
 use Rattle.sp_base.specs.declared.kinds.PKind.TheVariants.{NoMatch}
 use Rattle.sp_value.specs.Integers.{integer_of}
-use Rattle.sp_types.specs.Types.{Ty}
-use Rattle.sp_meaning_states.specs.States.{State, Reading, Gives, Result, ends, fails, go}
-use Rattle.sp_meaning_states.specs.Reads.{Ask, Read, Bytes, on_read}
 
 -- how an integer stands in the input
 pub record IntegerForm : Type 0 where

@@ -20,16 +20,11 @@ use Rattle.sp_typed.specs.declared.words.TwoOp.TheVariants as two_is
 use Rattle.sp_typed.specs.declared.words.ManyOp.{ManyOp}
 use Rattle.sp_typed.specs.declared.words.ManyOp.TheVariants as many_is
 use Rattle.sp_typed.specs.Exprs.{Expr, Exprs, leaf, none, more}
-use Rattle.sp_meaning_states.specs.States.{State, Gives, Unfinished, Result, ends, got, done, chosen, truth_of, fails, answer, local_of, set_local, member_of, value_or_unset, start_of}
+use Rattle.sp_meaning_states.specs.States.{State, Gives, Unfinished, Result, ends, got, done, chosen, truth_of, fails, answer, local_of, set_local, member_of, value_or_unset, start_of, Failed, error_with}
 use Rattle.sp_meaning_states.specs.Values.{item_at, size_value}
 use Rattle.sp_meaning_states.specs.Types.{number_value, plain_type}
-use Rattle.std.specs.Prelude.{ℕ, List, [], ◌∷◌, Option}
 use Rattle.sp_words.specs.declared.operators.AssignOp.{AssignOp}
 use Rattle.sp_words.specs.declared.operators.AssignOp.TheVariants as assign_is
-use Rattle.sp_value.specs.Val.{Val, void}
-use Rattle.sp_operators.specs.Operators.{binary}
-use Rattle.sp_typed.specs.Exprs.{Expr, Exprs, none, more}
-use Rattle.sp_meaning_states.specs.States.{State, Failed, Unfinished, Result, ends, got, done, chosen, truth_of, error_with, answer, local_of, set_local}
 
 -- a value, where there is one
 abbrev pub known : {A : Type 0} → Option A → (A → State → Result) → State → Result

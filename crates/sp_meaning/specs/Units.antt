@@ -1,10 +1,10 @@
 -- What units of integers mean: how one is entered, reads its fields, runs its hooks, and fails. What else may stand in a unit claims
 -- nothing yet.
-use Rattle.std.specs.Prelude.{ℕ, ◌+◌, Bool, true, false, List, [], ◌∷◌, ◌++◌, length, replicate, Option, Some, None, slice_get}
+use Rattle.std.specs.Prelude.{ℕ, ◌+◌, Bool, true, false, List, [], ◌∷◌, ◌++◌, length, replicate, Option, Some, None, slice_get, ◌-◌}
 use Rattle.sp_base.specs.declared.places.Limits.{Limits}
 use Rattle.sp_words.specs.declared.words.HookName.{HookName}
 use Rattle.sp_words.specs.declared.words.HookName.TheVariants.{Init, Done, Error, Finally}
-use Rattle.sp_value.specs.Val.{Val, unit}
+use Rattle.sp_value.specs.Val.{Val, unit, uint, void}
 use Rattle.sp_typed.specs.Exprs.{Expr}
 use Rattle.sp_typed_units.specs.declared.declarations.Member.{Member}
 use Rattle.sp_typed_units.specs.declared.declarations.Typed.{Typed}
@@ -12,10 +12,10 @@ use Rattle.sp_typed_units.specs.declared.declarations.Unit.{Unit}
 use Rattle.sp_typed_units.specs.declared.declarations.Variable.{Variable}
 use Rattle.sp_typed_units.specs.Parts.{Part, Parts, field, no_parts, more_parts, parts}
 use Rattle.sp_meaning_states.specs.States as running
-use Rattle.sp_meaning_states.specs.States.{Reading, Instance, State, End, Fine, Failed, Backs, Rejected, Need, Unfinished, Result, ends, on_end, got, done, chosen, put_member}
+use Rattle.sp_meaning_states.specs.States.{Reading, Instance, State, End, Fine, Failed, Backs, Rejected, Need, Unfinished, Result, ends, on_end, got, done, chosen, put_member, start_of}
 use Rattle.sp_meaning_states.specs.Scopes.{InUnit, InFailing, ends_fiber, inside}
 use Rattle.sp_meaning_states.specs.Reads.{Ask, Read}
-use Rattle.sp_meaning_states.specs.Types.{width_bytes}
+use Rattle.sp_meaning_states.specs.Types.{width_bytes, zero_value}
 use Rattle.sp_meaning_states.specs.Telling.{Names}
 use Rattle.sp_meaning.specs.Globals.{globals_of}
 use Rattle.sp_meaning.specs.Operations.{known}
@@ -24,6 +24,8 @@ use Rattle.sp_meaning.specs.Integers.{integer_means, IntegerForm, integer_field,
 use Rattle.sp_meaning.specs.Around.{with_arguments}
 use Rattle.sp_meaning.specs.Exprs.{expr_means}
 use Rattle.sp_meaning.specs.Calls.{counted, call_means, hooks_mean}
+use Rattle.sp_typed_units.specs.declared.declarations.Sink.{Sink}
+use Rattle.sp_numbers.specs.declared.width.Width.TheVariants.{W64}
 
 -- a unit without sinks that is no filter
 abbrev pub is_plain : Bool → List Sink → Bool

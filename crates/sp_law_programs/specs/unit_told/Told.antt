@@ -4,7 +4,7 @@ use Rattle.sp_events.specs.declared.event.What.{What}
 use Rattle.sp_value.specs.Val.{Val, unit}
 use Rattle.sp_typed_units.specs.declared.declarations.Typed.{Typed}
 use Rattle.sp_typed_units.specs.declared.declarations.Unit.{Unit as TypedUnit}
-use Rattle.sp_meaning_states.specs.States.{Reading, State, End, Gives, Failed, Returned, Backs, Rejected, Need, Unfinished, Result}
+use Rattle.sp_meaning_states.specs.States.{Reading, State, End, Gives, Failed, Returned, Backs, Rejected, Need, Unfinished, Result, first, end_of, events_of, state_of}
 use Rattle.sp_meaning_states.specs.Reads.{Ask, Read}
 use Rattle.sp_code_meaning.specs.Units.{unit_means}
 use Rattle.sp_code.specs.Machine.{Frame, Plain, Config, At, Ending, Next, Waits, Over, step, low_of}
