@@ -31,7 +31,7 @@ impl Model for Emitter {
     ghost use Rattle.std.specs.Coded.{codes};
     ghost use Rattle.sp_value.specs.inside.Codes.{coded_val};
     ghost use Rattle.sp_emit.specs.inside.KindCodes.{coded_kind};
-    ghost use Rattle.sp_emit.specs.Emitted.{Emitted, Adds, TurnsTo, Redirects, IsOther, nothing_emitted, popped, lowered};
+    ghost use Rattle.sp_emit.specs.Emitted.{Emitted};
 
     ghost Value = { Emitted };
 
@@ -56,6 +56,7 @@ impl Emitter {
     ghost use Rattle.sp_emit.specs.Kinds.{IsNumberOf, NamesBelow};
     ghost use Rattle.sp_emit.specs.Numbered.{RoundBelow};
     ghost use Rattle.sp_emit.specs.Emission.{IsEmission};
+    ghost use Rattle.sp_emit.specs.Emitted.{Adds, TurnsTo, Redirects, IsOther, nothing_emitted, popped, lowered};
 
     /// No code. Takes no memory.
     pub fn new(alloc: Global) -> Emitter

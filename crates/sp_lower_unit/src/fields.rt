@@ -2,7 +2,7 @@
 ghost use Rattle.std.specs.Prelude.{◌≡◌, [], ◌∷◌, OnOk};
 ghost use Rattle.sp_methods.specs.Kinds.{Unsigned, UnitOf};
 ghost use Rattle.sp_code_meaning.specs.Units as slots;
-ghost use Rattle.sp_meaning.specs.Integers as slots_integers;
+ghost use Rattle.sp_meaning.specs.Integers as forms;
 ghost use Rattle.sp_code.specs.declared.instr.Instr.TheVariants as does;
 ghost use Rattle.sp_code.specs.Shapes.{Round, push, read_kind};
 ghost use Rattle.sp_code_programs.specs.exprs.Marked.{mark};
@@ -108,7 +108,7 @@ pub(crate) fn field(
     field: &Field,
 ) -> Result<(), NoMemory>
     ensures { (r : Round) → out.old.now ≡ unit_shape unit r → OnOk result (Adds out.old out.new
-        (where_integer list.now (slots_integers.integer_field order field.now) (λ form.
+        (where_integer list.now (forms.integer_field order field.now) (λ form.
         code.field_code list.now unit (unit_shape unit r) form field.now.member field.now.hooks))
         (unit_shape unit r)) }
 {
