@@ -247,7 +247,7 @@ module _ (names : Names) (hook_names : List (List ℕ)) (list : Typed) (limits :
       (body_same n (around_by (has_current x.of) vs) (layout_by (has_current x.of) x) vs (hook_placed x (has_current x.of) vs l) (has_current x.of) (hook_current x (has_current x.of) vs l) void x.body s (calls_same n vs)
       (with_slots names hook_names list limits x.slots st) (begun vs x.slots st) refl))))
 
-  hook_same : (failing : Bool) (n h : ℕ) (us vs : List Val) → ((x : Hook) → slice_get list.hooks h ≡ Some x → handed x ≡ length vs)
+  pub hook_same : (failing : Bool) (n h : ℕ) (us vs : List Val) → ((x : Hook) → slice_get list.hooks h ≡ Some x → handed x ≡ length vs)
       → Alike us (hook_means names hook_names list limits failing n h vs) (laid.hook_means names hook_names list limits failing n h (reverse vs))
   hook_same failing n h us vs l = by_hook (slice_get list.hooks h) refl
     where
