@@ -3,6 +3,7 @@ pub mod Listed
 pub mod Moving
 pub mod Ranges
 pub mod Parts
+pub mod Plans
 pub mod Steps
 pub mod Turns
 pub mod Adding

@@ -1,5 +1,5 @@
 -- The numbers of the kinds of parts, and of what is made of them.
-use Rattle.std.proofs.Common.{◌≡◌, ◌≤◌, ◌<◌, ℕ, zero, suc, List, [], ◌∷◌, ◌++◌, length, get_or, take, map, refl, sym, ap, subst, ◌∙◌, arith, Result as Answer, Ok, Err, IfOk, Option, Some, None, IfSome, IfNone}
+use Rattle.std.proofs.Common.{◌≡◌, ◌≤◌, ◌<◌, ℕ, zero, suc, List, [], ◌∷◌, ◌++◌, length, get_or, map, refl, sym, ap, subst, ◌∙◌, arith, Result as Answer, Ok, Err, IfOk, Option, Some, None, IfSome, IfNone}
 use Rattle.sp_base.specs.declared.bytes.NoMemory.{NoMemory}
 use Rattle.std.specs.List.{AllByRecursion}
 use Rattle.sp_methods.specs.Kinds.{Kind, Void, VectorOf, SetOf, MapOf, kinds_of}
@@ -10,7 +10,7 @@ use Rattle.sp_meaning_states.specs.Types.{first_of, behind_first, kind_of_made, 
 use Rattle.sp_code.specs.Programs.{kind_at, kinds_at}
 use Rattle.sp_emit.specs.Kinds.{Grows, IsNumberOf}
 use Rattle.sp_emit.specs.Numbered.{IsAt}
-use Rattle.sp_emit.proofs.Growing.{kinds_before, grows_long, below_longer}
+use Rattle.sp_emit.proofs.Growing.{grows_long, below_longer}
 
 -- a part by its place
 pub part_number : (ks : List Kind) (ns : List ℕ) (i : ℕ) → i < length ns → AllByRecursion (λ n. n < length ks) ns → IsNumberOf ks (kind_at (kinds_at ks ns) i) (get_or ns i 0)
@@ -50,7 +50,7 @@ pub kinds_of_each : (ranges : List ℕ) (ts : List Ty) → kinds_of_types ranges
 kinds_of_each ranges [] = refl
 kinds_of_each ranges (t ∷ ts) = let others = kinds_of_each ranges ts in cc
 
-kinds_at_more : (ks : List Kind) (ns : List ℕ) (n : ℕ) → kinds_at ks (ns ++ n ∷ []) ≡ kinds_at ks ns ++ kind_at ks n ∷ []
+pub kinds_at_more : (ks : List Kind) (ns : List ℕ) (n : ℕ) → kinds_at ks (ns ++ n ∷ []) ≡ kinds_at ks ns ++ kind_at ks n ∷ []
 kinds_at_more ks [] n = refl
 kinds_at_more ks (m ∷ ns) n = ap (λ l. kind_at ks m ∷ l) (kinds_at_more ks ns n)
 
@@ -58,23 +58,9 @@ pub below_one_more : (m : ℕ) (ns : List ℕ) (n : ℕ) → AllByRecursion (λ 
 below_one_more m [] n all h = (h, tt)
 below_one_more m (k ∷ ns) n all h = (all.0, below_one_more m ns n all.1 h)
 
-map_one_more : (f : Ty → Kind) (ts : List Ty) (i : ℕ) (t : Ty) → i < length ts → t ≡ get_or ts i t → map f (take (suc i) ts) ≡ map f (take i ts) ++ f t ∷ []
-map_one_more f [] i t lt is = absurd (let z : ⊥ = omega (arith, lt) in z)
-map_one_more f (x ∷ ts) zero t lt is = ap (λ y. f y ∷ []) (sym is)
-map_one_more f (x ∷ ts) (suc i) t lt is = ap (λ l. f x ∷ l) (map_one_more f ts i t (omega (arith, lt)) is)
-
 -- the numbers so far, where a table grew by the next
 pub below_next : (ks js : List Kind) (ns : List ℕ) (k : Kind) (n : ℕ) → Grows ks js → AllByRecursion (λ m. m < length ks) ns → IsNumberOf js k n → AllByRecursion (λ m. m < length js) (ns ++ n ∷ [])
 below_next ks js ns k n g all h = below_one_more (length js) ns n (below_longer _ _ ns (grows_long ks js g) all) h.within
-
-pub kinds_next : (ks js : List Kind) (ns : List ℕ) (n : ℕ) (f : Ty → Kind) (ts : List Ty) (i : ℕ) (t : Ty)
-    → Grows ks js → AllByRecursion (λ m. m < length ks) ns → IsNumberOf js (f t) n → i < length ts → t ≡ get_or ts i t → kinds_at ks ns ≡ map f (take i ts)
-    → kinds_at js (ns ++ n ∷ []) ≡ map f (take (suc i) ts)
-kinds_next ks js ns n f ts i t g all h lt is so_far =
-    kinds_at_more js ns n
-    ∙ ap (λ k. kinds_at js ns ++ k ∷ []) h.is
-    ∙ ap (λ l. l ++ f t ∷ []) (kinds_before ks js ns g all ∙ so_far)
-    ∙ sym (map_one_more f ts i t lt is)
 
 -- what is made of parts
 made_as : (maker : Maker) (ks js : List Kind) (k l : Kind) (r : Answer ℕ NoMemory) → ((ranges : List ℕ) → kind_of_made ranges maker (kinds_of ks) ≡ k) → l ≡ k → IfOk r (IsNumberOf js l)
