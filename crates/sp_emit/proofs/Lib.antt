@@ -4,6 +4,7 @@ pub mod Moving
 pub mod Ranges
 pub mod Parts
 pub mod Plans
+pub mod KindPlans
 pub mod Steps
 pub mod Turns
 pub mod Adding

@@ -4,4 +4,5 @@ pub mod Numbered
 pub mod Emitted
 pub mod Emission
 pub mod Rows
+pub mod Plans
 pub mod inside

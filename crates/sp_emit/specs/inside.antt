@@ -2,4 +2,4 @@ pub mod KindCodes
 pub mod Tables
 pub mod Standing
 pub mod Fields
-pub mod Plans
+pub mod KindPlans

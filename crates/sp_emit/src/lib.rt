@@ -8,8 +8,10 @@ mod kinds;
 mod operands;
 mod stacks;
 mod types;
+mod walk;
 
 pub use emission::Emission;
 pub use emitter::Emitter;
 pub use kinds::{KindTable, number};
 pub use types::range_count;
+pub use walk::{Task, behind, push_parts};

@@ -1,27 +1,20 @@
-// The kinds of types: by a list of what is left to do, so that no type is too deep for the machine's stack.
-ghost use Rattle.std.specs.Prelude.{◌≡◌, ◌<◌, ◌++◌, ◌∷◌, ℕ, List, drop, length, take, IfOk, OnOk};
+// The kinds of types, by walks into them.
+ghost use Rattle.std.specs.Prelude.{◌≡◌, ◌<◌, ◌∷◌, ℕ, List, length, IfOk, OnOk};
 ghost use Rattle.std.specs.List.{AllByRecursion};
 ghost use Rattle.sp_methods.specs.Kinds.{Kind, kinds_of};
 ghost use Rattle.sp_meaning_states.specs.Types.{ranges_of, kind_of_word, kind_of_made, kind_of_type};
 ghost use Rattle.sp_meaning.specs.Globals.{range_counts};
 ghost use Rattle.sp_code.specs.Programs.{kind_at, kinds_at, kind_of_row};
 ghost use Rattle.sp_emit.specs.Kinds.{Grows, IsNumberOf, NamesBelow};
-ghost use Rattle.sp_emit.specs.inside.Plans.{number, make, plan, plans, numbers, kinds_after, run, work};
+ghost use Rattle.sp_emit.specs.Plans.{begin, end, plan, plans, work};
+ghost use Rattle.sp_emit.specs.inside.KindPlans.{kinds_after, kinds_behind};
 
 use crate::kinds::{KindTable, number};
+use crate::walk::{Task, behind, push_parts};
 use sp_base::NoMemory;
 use sp_code::KindRow;
 use sp_typed_units::Bitfield;
 use sp_types::{Level, Maker, Type, Word};
-
-/// What is left to do to number the kind of a type.
-#[derive(Clone, Copy)]
-pub(crate) enum Task<'a> {
-    /// number the kind of a type
-    Number(&'a Type),
-    /// number the kind that is made of those of the numbers from a place on
-    Make(Maker, usize),
-}
 
 /// How many named ranges a bitfield has.
 pub fn range_count(bitfields: &[Bitfield], k: u32) -> usize
@@ -53,28 +46,6 @@ fn word_row(bitfields: &[Bitfield], word: Word) -> Result<KindRow, NoMemory>
         Word::Unit(u) => Ok(KindRow::Unit(u)),
         _ => Ok(KindRow::Void),
     }
-}
-
-/// Puts types on a list of what is left to do, the first one on top.
-#[tactic(auto, using(crate::proofs::Plans::one_more, crate::proofs::Plans::from_item))]
-fn push_parts<'a>(tasks: &mut Vec<Task<'a>>, parts: &'a [Type]) -> Result<(), NoMemory>
-    ensures { OnOk result (plans tasks.new.items ≡ numbers parts.now ++ plans tasks.old.items) }
-{
-    let mut i = parts.len();
-    while i > 0 {
-        i -= 1;
-        tasks.push(Task::Number(&parts[i]))?;
-    }
-    Ok(())
-}
-
-/// The numbers from a place on, taken off a list; none where the list ends before it.
-fn behind(done: &mut Vec<u32>, n: usize) -> Result<Vec<u32>, NoMemory>
-    ensures taken { IfOk result (λ ns. ns.items ≡ drop n done.old.items) }
-    ensures left { OnOk result (done.new.items ≡ take n done.old.items) }
-{
-    let n = n.min(done.len());
-    Ok(done.split_off(n)?)
 }
 
 impl KindTable {
@@ -137,12 +108,12 @@ impl KindTable {
     ) -> Result<(), NoMemory>
         requires { AllByRecursion (λ n. n < length self.old) done.old.items }
         ensures below { OnOk result (AllByRecursion (λ n. n < length self.new) done.new.items) }
-        ensures kinds { OnOk result (run (range_counts bitfields.now) (plans tasks.new.items)
+        ensures kinds { OnOk result (kinds_behind (range_counts bitfields.now) (plans tasks.new.items)
             (kinds_at self.new done.new.items)
-            ≡ run (range_counts bitfields.now) (number ty.now ∷ plans tasks.old.items)
+            ≡ kinds_behind (range_counts bitfields.now) (begin ty.now ∷ plans tasks.old.items)
             (kinds_at self.old done.old.items)) }
         ensures falls { OnOk result (work (plans tasks.new.items)
-            < work (number ty.now ∷ plans tasks.old.items)) }
+            < work (begin ty.now ∷ plans tasks.old.items)) }
         ensures grows { Grows self.old self.new }
     {
         match ty.level() {
@@ -152,7 +123,7 @@ impl KindTable {
                 Ok(())
             }
             Level::Made(maker, parts) => {
-                tasks.push(Task::Make(maker, done.len()))?;
+                tasks.push(Task::End(maker, done.len()))?;
                 push_parts(tasks, parts)
             }
         }
@@ -163,7 +134,7 @@ impl KindTable {
         requires { AllByRecursion (λ n. n < length self.old) done.old.items }
         ensures below { OnOk result (AllByRecursion (λ n. n < length self.new) done.new.items) }
         ensures kinds { OnOk result ((ranges : List ℕ) → kinds_at self.new done.new.items
-            ≡ kinds_after ranges (make maker n) (kinds_at self.old done.old.items)) }
+            ≡ kinds_after ranges (end maker n) (kinds_at self.old done.old.items)) }
         ensures grows { Grows self.old self.new }
     {
         let parts = behind(done, n)?;
@@ -182,17 +153,17 @@ impl KindTable {
     ) -> Result<(), NoMemory>
         requires { AllByRecursion (λ n. n < length self.old) done.old.items }
         ensures below { OnOk result (AllByRecursion (λ n. n < length self.new) done.new.items) }
-        ensures kinds { OnOk result (run (range_counts bitfields.now) (plans tasks.new.items)
+        ensures kinds { OnOk result (kinds_behind (range_counts bitfields.now) (plans tasks.new.items)
             (kinds_at self.new done.new.items)
-            ≡ run (range_counts bitfields.now) (plan task.entry ∷ plans tasks.old.items)
+            ≡ kinds_behind (range_counts bitfields.now) (plan task.entry ∷ plans tasks.old.items)
             (kinds_at self.old done.old.items)) }
         ensures falls { OnOk result (work (plans tasks.new.items)
             < work (plan task.entry ∷ plans tasks.old.items)) }
         ensures grows { Grows self.old self.new }
     {
         match task {
-            Task::Number(ty) => self.begin(bitfields, ty, tasks, done),
-            Task::Make(maker, n) => self.end(maker, n, done),
+            Task::Begin(ty) => self.begin(bitfields, ty, tasks, done),
+            Task::End(maker, n) => self.end(maker, n, done),
         }
     }
 
@@ -207,7 +178,7 @@ impl KindTable {
         }
         let mut tasks = Vec::new(self.allocator());
         let mut done = Vec::new(self.allocator());
-        tasks.push(Task::Number(ty))?;
+        tasks.push(Task::Begin(ty))?;
         while let Some(task) = tasks.pop() {
             self.step(bitfields, task, &mut tasks, &mut done)?;
         }

@@ -5,7 +5,7 @@ use Rattle.sp_meaning_states.specs.Types.{kind_of_made}
 use Rattle.sp_code.specs.Programs.{kinds_at}
 use Rattle.sp_emit.specs.Kinds.{IsNumberOf}
 use Rattle.sp_emit.proofs.Parts.{below_next}
-use Rattle.sp_emit.proofs.Plans.{below_taken, made_of_last}
+use Rattle.sp_emit.proofs.KindPlans.{below_taken, made_of_last}
 use Rattle.sp_emit.proofs.kinds.KindTable.end.Goals as goal
 
 pub returns-clause-below : goal.returns-clause-below
