@@ -5,3 +5,4 @@ pub mod Changes
 pub mod Joints
 pub mod Many
 pub mod Rows
+pub mod inside

@@ -1,14 +1,15 @@
 // Values that types and literals say.
-ghost use Rattle.std.specs.Prelude.{◌≡◌, map, replicate, IfOk, true, pos, neg_ℤ, IsTrue, if◌then◌else◌};
+ghost use Rattle.std.specs.Prelude.{◌≡◌, ◌<◌, ◌++◌, ◌∷◌, [], drop, take, replicate, IfOk, OnOk, true, pos, neg_ℤ, IsTrue, if◌then◌else◌};
 ghost use Rattle.sp_numbers.specs.Numbers.{fits_signed};
-ghost use Rattle.sp_value.specs.Val.{int, vals_of};
-ghost use Rattle.sp_types.specs.Types.{tys};
-ghost use Rattle.sp_meaning_states.specs.Types.{number_value, plain_type, ranges_of, word_zero, zero_value, zero_values};
+ghost use Rattle.sp_value.specs.Val.{int, tuple, vals_of};
+ghost use Rattle.sp_meaning_states.specs.Types.{number_value, plain_type, ranges_of, word_zero, zero_value};
 ghost use Rattle.sp_meaning.specs.Globals.{range_counts};
+ghost use Rattle.sp_emit.specs.Plans.{begin, plan, plans, work};
 ghost use Rattle.sp_lower_expr.specs.Literals.{NumberFits};
+ghost use Rattle.sp_lower_expr.specs.inside.ZeroPlans.{zeros_behind};
 
 use sp_base::NoMemory;
-use sp_emit::range_count;
+use sp_emit::{Task, behind, push_parts, range_count};
 use sp_numbers::Width;
 use sp_operators::PlainType;
 use sp_typed_units::Bitfield;
@@ -87,33 +88,84 @@ fn word_zero(alloc: Global, bitfields: &[Bitfield], word: Word) -> Result<Value,
     }
 }
 
-/// The values with which variables of types begin.
-#[cycle(zero)]
-fn zero_values(
+/// Puts a value behind those that are found.
+fn put(done: &mut Vec<Value>, value: Value) -> Result<(), NoMemory>
+    ensures { OnOk result (done.new.items ≡ done.old.items ++ value ∷ []) }
+{
+    done.push(value)?;
+    Ok(())
+}
+
+/// Finds the value with which a variable of a type begins, or puts what is to be done for it on the list of what is left
+/// to do.
+fn begin<'a>(
     alloc: Global,
     bitfields: &[Bitfield],
-    types: &[Type],
-) -> Result<Vec<Value>, NoMemory>
-    ensures { IfOk result (λ vs. vals_of vs.items ≡ zero_values (range_counts bitfields.now)
-        (tys types.now)) }
+    ty: &'a Type,
+    tasks: &mut Vec<Task<'a>>,
+    done: &mut Vec<Value>,
+) -> Result<(), NoMemory>
+    ensures found { OnOk result (zeros_behind (range_counts bitfields.now) (plans tasks.new.items)
+        done.new.items
+        ≡ zeros_behind (range_counts bitfields.now) (begin ty.now ∷ plans tasks.old.items)
+        done.old.items) }
+    ensures falls { OnOk result (work (plans tasks.new.items)
+        < work (begin ty.now ∷ plans tasks.old.items)) }
 {
-    let mut values = Vec::with_capacity(alloc, types.len())?;
-    for ty in types {
-        values.push(zero_value(alloc, bitfields, ty)?)?;
+    match ty.level() {
+        Level::Word(word) => put(done, word_zero(alloc, bitfields, word)?),
+        Level::Made(Maker::Tuple, parts) => {
+            tasks.push(Task::End(Maker::Tuple, done.len()))?;
+            push_parts(tasks, parts)
+        }
+        Level::Made(Maker::Vector, _) => put(done, Value::vector(Vec::new(alloc))?),
+        Level::Made(Maker::Set, _) => put(done, Value::set(Vec::new(alloc))?),
+        Level::Made(Maker::Map, _) => put(done, Value::map(Vec::new(alloc))?),
     }
-    Ok(values)
+}
+
+/// Makes a tuple of the values from a place on, in their place.
+fn end(n: usize, done: &mut Vec<Value>) -> Result<(), NoMemory>
+    ensures { OnOk result (done.new.items ≡ take n done.old.items
+        ++ tuple (vals_of (drop n done.old.items)) ∷ []) }
+{
+    let members = behind(done, n)?;
+    put(done, Value::tuple(members)?)
+}
+
+/// Does what is next.
+fn step<'a>(
+    alloc: Global,
+    bitfields: &[Bitfield],
+    task: Task<'a>,
+    tasks: &mut Vec<Task<'a>>,
+    done: &mut Vec<Value>,
+) -> Result<(), NoMemory>
+    ensures found { OnOk result (zeros_behind (range_counts bitfields.now) (plans tasks.new.items)
+        done.new.items
+        ≡ zeros_behind (range_counts bitfields.now) (plan task.entry ∷ plans tasks.old.items)
+        done.old.items) }
+    ensures falls { OnOk result (work (plans tasks.new.items)
+        < work (plan task.entry ∷ plans tasks.old.items)) }
+{
+    match task {
+        Task::Begin(ty) => begin(alloc, bitfields, ty, tasks, done),
+        Task::End(_, n) => end(n, done),
+    }
 }
 
 /// The value with which a variable of a type begins.
-#[cycle(zero)]
 pub fn zero_value(alloc: Global, bitfields: &[Bitfield], ty: &Type) -> Result<Value, NoMemory>
     ensures { IfOk result (λ v. v ≡ zero_value (range_counts bitfields.now) ty.now) }
 {
-    match ty.level() {
-        Level::Word(word) => word_zero(alloc, bitfields, word),
-        Level::Made(Maker::Tuple, parts) => Value::tuple(zero_values(alloc, bitfields, parts)?),
-        Level::Made(Maker::Vector, _) => Value::vector(Vec::new(alloc)),
-        Level::Made(Maker::Set, _) => Value::set(Vec::new(alloc)),
-        Level::Made(Maker::Map, _) => Value::map(Vec::new(alloc)),
+    if let Level::Word(word) = ty.level() {
+        return word_zero(alloc, bitfields, word);
     }
+    let mut tasks = Vec::new(alloc);
+    let mut done = Vec::new(alloc);
+    tasks.push(Task::Begin(ty))?;
+    while let Some(task) = tasks.pop() {
+        step(alloc, bitfields, task, &mut tasks, &mut done)?;
+    }
+    Ok(done.swap_remove(0))
 }
