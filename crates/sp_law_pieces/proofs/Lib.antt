@@ -1,0 +1,9 @@
+pub mod Low
+pub mod Framed
+pub mod Asked
+pub mod Opened
+pub mod Onward
+pub mod Containers
+pub mod Values
+pub mod Readings
+pub mod Fields
